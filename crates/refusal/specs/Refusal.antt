@@ -1,0 +1,52 @@
+-- Refusals by document 01's numbers ("What the call hands back"): promises speak of these numbers and values, and not of the code's enum.
+-- Assumes nothing.
+use Prim.Native.Nat.{ℕ}
+use mathlib.Core.List.{List, [], _∷_}
+use lib.ListN.{getD}
+use Rattle.refusal.specs.declared.Refusal.{Refusal}
+use Rattle.refusal.specs.declared.Refusal.the-variants.{QrydscTooLong, TooManyColumns, CountTooLarge, InputTooLong, DecFloatColumn, DecimalEmpty, DecimalTooLong, BufferTooShort, TextBufferTooShort}
+use Rattle.refusal.specs.declared.Outcome.{Outcome}
+use Rattle.refusal.specs.declared.Outcome.the-variants.{Accepted, Refused}
+
+-- the number of a refusal
+abbrev pub refusalNumber : Refusal → ℕ
+refusalNumber QrydscTooLong = 1
+refusalNumber TooManyColumns = 2
+refusalNumber CountTooLarge = 3
+refusalNumber InputTooLong = 4
+refusalNumber DecFloatColumn = 5
+refusalNumber DecimalEmpty = 6
+refusalNumber DecimalTooLong = 7
+refusalNumber (BufferTooShort expected actual) = 8
+refusalNumber (TextBufferTooShort needed) = 9
+
+-- the numbers that come with it: `expected` and `actual` with 8, the length needed with 9
+abbrev pub refusalValues : Refusal → List ℕ
+refusalValues (BufferTooShort expected actual) = expected ∷ actual ∷ []
+refusalValues (TextBufferTooShort needed) = needed ∷ []
+refusalValues QrydscTooLong = []
+refusalValues TooManyColumns = []
+refusalValues CountTooLarge = []
+refusalValues InputTooLong = []
+refusalValues DecFloatColumn = []
+refusalValues DecimalEmpty = []
+refusalValues DecimalTooLong = []
+
+-- what a call says of its input: that it accepted, or a refusal by number and values
+pub data Told : Type 0 where
+  accepted : Told
+  refused : ℕ → List ℕ → Told
+
+abbrev pub told : Outcome → Told
+told Accepted = accepted
+told (Refused r) = refused (refusalNumber r) (refusalValues r)
+
+-- the refusal's number, and 0 where there is none
+abbrev pub number : Told → ℕ
+number accepted = 0
+number (refused n vs) = n
+
+-- the refusal's value at a place, from 0; and 0 where it has none
+abbrev pub value : Told → ℕ → ℕ
+value accepted place = 0
+value (refused n vs) place = getD vs place 0

@@ -1,0 +1,3 @@
+pub mod Reading
+pub mod ScalarBytes
+pub mod Utf8Bytes

@@ -1,0 +1,3 @@
+pub mod Unicode
+pub mod Likely
+pub mod Examples

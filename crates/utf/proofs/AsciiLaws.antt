@@ -1,0 +1,92 @@
+-- Runs of ASCII. Assumes nothing.
+use Prim.Native.Nat.{ℕ, zero, suc, _+_, _-_, _≤_, _<_}
+use mathlib.Core.Bool.{Bool, true, false, cond, not}
+use mathlib.Core.List.{List, [], _∷_, _++_}
+use mathlib.Core.Path.{_≡_, refl, sym, ap, subst, _∙_}
+use native.Mathlib.Omega.{arith}
+use native.Mathlib.Numerals.{add-one}
+use borrow.Author.Tests.{ltb-true, ltb-false, lt-ltb, le-ltb, le-leb, lt-leb, not-true, not-false}
+use lib.Dec.{T, ltb, leb}
+use lib.ListN.{length, take, drop, getD, length-drop}
+use lib.Seq.{take-suc, take-add}
+use Rattle.utf.specs.Ascii.{allAscii, AsciiRun}
+
+-- ---- a whole list, read from its first byte on, with the largest byte so far
+
+cond-same : (t : Bool) → cond t false false ≡ false
+cond-same true = refl
+cond-same false = refl
+
+-- nothing so far is 80 or above, and nothing of what is left
+abbrev pub clear : ℕ → List ℕ → Bool
+clear m l = cond (ltb m 0x80) (allAscii l) false
+
+-- a larger byte takes the place of the largest
+pub larger : (m b : ℕ) (bs : List ℕ) → m < b → clear m (b ∷ bs) ≡ clear b bs
+unfolding allAscii
+larger m b bs h = go (ltb b 0x80) refl
+  where
+    go : (t : Bool) → ltb b 0x80 ≡ t → clear m (b ∷ bs) ≡ clear b bs
+    go true e = let k : b < 0x80 = ltb-true b 0x80 e in rw (lt-ltb m 0x80 (omega arith), e)
+    go false e = rw e (cond-same (ltb m 0x80))
+
+-- any other changes nothing
+pub no-larger : (m b : ℕ) (bs : List ℕ) → b ≤ m → clear m (b ∷ bs) ≡ clear m bs
+unfolding allAscii
+no-larger m b bs h = go (ltb m 0x80) refl
+  where
+    go : (t : Bool) → ltb m 0x80 ≡ t → clear m (b ∷ bs) ≡ clear m bs
+    go true e = let k : m < 0x80 = ltb-true m 0x80 e in rw (e, lt-ltb b 0x80 (omega arith))
+    go false e = rw e
+
+pub found : (m : ℕ) (x : Bool) → clear m [] ≡ x → leb 0x80 m ≡ not x
+unfolding allAscii
+found m x e = go (ltb m 0x80) refl
+  where
+    go : (t : Bool) → ltb m 0x80 ≡ t → leb 0x80 m ≡ not x
+    go true q = rw (lt-leb 0x80 m (ltb-true m 0x80 q)) (ap not (rw q at e))
+    go false q = rw (le-leb 0x80 m (ltb-false m 0x80 q)) (ap not (rw q at e))
+
+pub none-high : (h x : Bool) → h ≡ not x → h ≡ false → x ≡ true
+none-high h x e q = not-false x (sym e ∙ q)
+
+pub some-high : (h x : Bool) → h ≡ not x → h ≡ true → x ≡ false
+some-high h x e q = not-true x (sym e ∙ q)
+
+-- ---- runs
+
+ascii-append : (a b : List ℕ) → allAscii a ≡ true → allAscii b ≡ true → allAscii (a ++ b) ≡ true
+unfolding allAscii
+ascii-append [] b e q = q
+ascii-append (x ∷ a) b e q = go (ltb x 0x80) refl (ascii-append a b)
+  where
+    go : (t : Bool) → ltb x 0x80 ≡ t → (allAscii a ≡ true → allAscii b ≡ true → allAscii (a ++ b) ≡ true) → cond (ltb x 0x80) (allAscii (a ++ b)) false ≡ true
+    go true k rec = rw k (rec (rw k at e) q)
+    go false k rec = rw k (rw k at e)
+
+pub run-none : (s : List ℕ) → AsciiRun 0 s
+unfolding allAscii
+run-none s = record { fits = omega arith; ascii = refl }
+
+-- a block more
+pub run-block : (i e : ℕ) (s : List ℕ) → AsciiRun i s → i ≤ e → e ≤ length s → allAscii (take (e - i) (drop i s)) ≡ true → AsciiRun e s
+run-block i e s r h k q =
+    let z : i + (e - i) ≡ e = omega arith in
+    record { fits = k; ascii = rw (← z, take-add i (e - i) s) (ascii-append (take i s) (take (e - i) (drop i s)) (r .ascii) q) }
+
+-- a byte more
+pub run-byte : (i : ℕ) (s : List ℕ) → AsciiRun i s → i < length s → getD s i 0 < 0x80 → AsciiRun (i + 1) s
+unfolding allAscii
+run-byte i s r h k = record {
+  fits = omega arith;
+  ascii = rw (add-one i, take-suc s i 0 h) (ascii-append (take i s) (getD s i 0 ∷ []) (r .ascii) (rw (lt-ltb (getD s i 0) 0x80 k)));
+}
+
+-- the first byte of a run, and the run after it
+pub run-first : (b : ℕ) (bs : List ℕ) (n : ℕ) → AsciiRun (suc n) (b ∷ bs) → (b < 0x80) × AsciiRun n bs
+unfolding allAscii
+run-first b bs n r = go (ltb b 0x80) refl
+  where
+    go : (t : Bool) → ltb b 0x80 ≡ t → (b < 0x80) × AsciiRun n bs
+    go true k = (ltb-true b 0x80 k, record { fits = omega (arith, r .fits); ascii = rw k at (r .ascii) })
+    go false k = absurd (subst T (sym (rw k at (r .ascii))) tt)

@@ -1,0 +1,4 @@
+pub mod Ascii
+pub mod Utf8Code
+pub mod Utf16Code
+pub mod LikelyCode

@@ -1,0 +1,49 @@
+-- What the UTF-8 functions of src/utf8.rt say of a position in a slice, by the definitions of `Unicode`. Assumes nothing.
+use Prim.Native.Nat.{ℕ, zero, suc, _+_, _-_, _≤_, _<_}
+use mathlib.Core.Bool.{Bool, true, false, cond}
+use mathlib.Core.List.{List, [], _∷_, _++_}
+use mathlib.Core.Path.{_≡_}
+use lib.Dec.{leb, ltb, eqb}
+use lib.ListN.{length, take, drop, getD, replicate}
+use Rattle.unicode.specs.Unicode.{Piece, scalar, malformed, Range, range, trail, within, fit, First, firstOf, utf8Pieces, textOf, replaced}
+
+-- the byte at j is there and lies in the range
+unfoldable pub trailAt : List ℕ → ℕ → ℕ → ℕ → Bool
+trailAt s j low high = cond (ltb j (length s)) (within (getD s j 0) (range low high)) false
+
+-- what the sequence at i begins with
+unfoldable pub firstAt : List ℕ → ℕ → First
+firstAt s i = firstOf (getD s i 0) (drop (suc i) s)
+
+abbrev pub isScalar : Piece → Bool
+isScalar (scalar v) = true
+isScalar malformed = false
+
+-- the sequence at i takes n bytes and is well-formed, unless n is 0, which says nothing
+pub record Common (s : List ℕ) (i n : ℕ) : Type 0 where
+  pub length : 0 < n → n ≡ suc (firstAt s i .more)
+  pub whole : 0 < n → true ≡ isScalar (firstAt s i .piece)
+
+-- the ranges of the bytes after a first byte: one of its own, and n as any trail byte
+unfoldable pub ranges : ℕ → ℕ → ℕ → List Range
+ranges low high n = range low high ∷ replicate n trail
+
+-- The first n bytes of l are well-formed: they are read as scalar values, and reading goes on after them
+pub record Good (n : ℕ) (l : List ℕ) : Type 0 where
+  pub ps : List Piece
+  pub split : utf8Pieces l ≡ ps ++ utf8Pieces (drop n l)
+  pub text : textOf ps ≡ take n l
+  pub none : replaced ps ≡ 0
+  pub fits : n ≤ length l
+
+-- What follows the first n bytes of l: a malformed part of `bad` bytes, or, where that is 0, nothing
+pub record Stop (n bad : ℕ) (l : List ℕ) : Type 0 where
+  pub done : bad ≡ 0 → n ≡ length l
+  pub part : 0 < bad → utf8Pieces (drop n l) ≡ malformed ∷ utf8Pieces (drop (n + bad) l)
+  pub fits : n + bad ≤ length l
+
+-- At e, len bytes are well-formed (ok), or are a malformed part
+pub record Advance (s : List ℕ) (e len : ℕ) (ok : Bool) : Type 0 where
+  pub good : ok ≡ true → Good len (drop e s)
+  pub stop : ok ≡ false → Stop e len s
+  pub some : 0 < len

@@ -50,3 +50,7 @@ number (refused n vs) = n
 abbrev pub value : Told → ℕ → ℕ
 value accepted place = 0
 value (refused n vs) place = getD vs place 0
+
+-- the most bytes of a row, and of what is given to a text conversion called alone: refusal 4 above it
+abbrev pub inputLimit : ℕ
+inputLimit = 1048576

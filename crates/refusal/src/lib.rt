@@ -4,6 +4,9 @@ ghost use mathlib.Core.Path.{_≡_};
 ghost use lib.ListN.{getD};
 ghost use Rattle.refusal.specs.Refusal.{refusalNumber, refusalValues, told, number, value};
 
+// The most bytes of a row, and of what is given to a text conversion called alone.
+pub const INPUT_LIMIT: usize = 1048576;
+
 // The refusals, in the order in which they are tested.
 pub enum Refusal {
     // 1: a description of more than 65,536 bytes.

@@ -1,0 +1,161 @@
+// Inner. Text conversions: which one a CCSID asks for, how long its text is, and its writing into a lent buffer. A conversion is picked
+// once, before any loop over bytes. It refuses nothing: callers test lengths.
+mod hex;
+
+use buffer::copy;
+use codepage::ebcdic037_len;
+use codepage::ebcdic037_write;
+use codepage::latin1_len;
+use codepage::latin1_write;
+use hex::marked_hex_write;
+use utf::ascii::has_high;
+use utf::utf8::run_of;
+use utf::utf8::utf8_lossy_len;
+use utf::utf8::utf8_lossy_write;
+use utf::utf16::utf16_lossy_len;
+use utf::utf16::utf16_lossy_write;
+ghost use mathlib.Core.Path.{_≡_};
+ghost use Prim.Native.Nat.{_≤_};
+ghost use lib.ListN.{length};
+ghost use Rattle.refusal.specs.Refusal.{inputLimit};
+ghost use Rattle.buffer.specs.Buffer.{written};
+ghost use Rattle.conversion.specs.Conversion.{characterConversion, graphicConversion, isUtf16, textIn};
+ghost use Rattle.conversion.specs.Measure.{Measures};
+
+// How the bytes of a text are read.
+pub enum Conversion {
+    // They are UTF-8 already: ASCII, or what measuring found to be well-formed.
+    Plain,
+    Utf8,
+    // ISO 8859-1, CCSID 819.
+    Latin1,
+    Ebcdic037,
+    // Big-endian.
+    Utf16,
+    // Shown in hexadecimal, after `LOB locator 0x` or `0x`.
+    Locator,
+    RowId,
+}
+
+// The conversion that a CCSID asks for; for an unnamed one, by a look at the bytes.
+pub fn character_conversion(ccsid: u16, s: &[u8]) -> Conversion
+    ensures { λ r. ⌜ r ≡ characterConversion ccsid (now (s .entry)) ⌝ }
+{
+    if ccsid == 1208 {
+        return Conversion::Utf8;
+    }
+    if ccsid == 819 {
+        return Conversion::Latin1;
+    }
+    if ccsid == 37 {
+        return Conversion::Ebcdic037;
+    }
+    if ccsid == 500 {
+        return Conversion::Ebcdic037;
+    }
+    if !has_high(s) {
+        return Conversion::Plain;
+    }
+    Conversion::Ebcdic037
+}
+
+fn is_utf16(ccsid: u16, count: usize) -> bool
+    ensures { λ r. ⌜ r ≡ isUtf16 ccsid count ⌝ }
+{
+    if ccsid == 1200 {
+        return count % 2 == 0;
+    }
+    if ccsid == 13488 {
+        return count % 2 == 0;
+    }
+    false
+}
+
+// The same for a graphic value.
+pub fn graphic_conversion(ccsid: u16, s: &[u8]) -> Conversion
+    ensures { λ r. ⌜ r ≡ graphicConversion ccsid (now (s .entry)) ⌝ }
+{
+    if is_utf16(ccsid, s.len()) {
+        return Conversion::Utf16;
+    }
+    character_conversion(ccsid, s)
+}
+
+// The length of a text, and a conversion that gives the same text and is cheap to write: Plain where measuring found that out.
+pub struct Measured {
+    pub len: usize,
+    pub conversion: Conversion,
+}
+
+fn utf8_measure(s: &[u8]) -> Measured
+    requires { ⌜ length (now s) ≤ inputLimit ⌝ }
+    ensures { λ r. ⌜ Measures Conversion.Utf8 (now (s .entry)) (r .len) (r .conversion) ⌝ }
+{
+    let r = run_of(s);
+    if r.bad == 0 {
+        return Measured {
+            len: r.end,
+            conversion: Conversion::Plain,
+        };
+    }
+    Measured {
+        len: utf8_lossy_len(s),
+        conversion: Conversion::Utf8,
+    }
+}
+
+pub fn text_measure(conversion: Conversion, s: &[u8]) -> Measured
+    requires { ⌜ length (now s) ≤ inputLimit ⌝ }
+    ensures { λ r. ⌜ Measures conversion (now (s .entry)) (r .len) (r .conversion) ⌝ }
+{
+    match conversion {
+        Conversion::Plain => Measured {
+            len: s.len(),
+            conversion: Conversion::Plain,
+        },
+        Conversion::Utf8 => utf8_measure(s),
+        Conversion::Latin1 => Measured {
+            len: latin1_len(s),
+            conversion: Conversion::Latin1,
+        },
+        Conversion::Ebcdic037 => Measured {
+            len: ebcdic037_len(s),
+            conversion: Conversion::Ebcdic037,
+        },
+        Conversion::Utf16 => Measured {
+            len: utf16_lossy_len(s),
+            conversion: Conversion::Utf16,
+        },
+        Conversion::Locator => {
+            let locator = 14 + 2 * s.len();
+            Measured {
+                len: locator,
+                conversion: Conversion::Locator,
+            }
+        }
+        Conversion::RowId => {
+            let rowid = 2 + 2 * s.len();
+            Measured {
+                len: rowid,
+                conversion: Conversion::RowId,
+            }
+        }
+    }
+}
+
+// Writes the text of s into out, from its first byte, and returns its length.
+pub fn text_write(conversion: Conversion, s: &[u8], out: &mut [u8]) -> usize
+    requires { ⌜ length (textIn conversion (now s)) ≤ length (now out) ⌝ }
+    ensures count { λ r. ⌜ r ≡ length (textIn conversion (now (s .entry))) ⌝ }
+    ensures bytes { λ _. ⌜ now (out .exit) ≡ written (textIn conversion (now (s .entry))) (now (out .entry)) ⌝ }
+{
+    match conversion {
+        Conversion::Plain => copy(s, out),
+        Conversion::Utf8 => utf8_lossy_write(s, out),
+        Conversion::Latin1 => latin1_write(s, out),
+        Conversion::Ebcdic037 => ebcdic037_write(s, out),
+        Conversion::Utf16 => utf16_lossy_write(s, out),
+        Conversion::Locator => marked_hex_write(b"LOB locator 0x", s, out),
+        Conversion::RowId => marked_hex_write(b"0x", s, out),
+    }
+}

@@ -1,0 +1,22 @@
+-- What a conversion answers when it is called alone, where the bytes are too many and where they are not. Assumes nothing.
+use Prim.Native.Nat.{ℕ, _≤_, _<_}
+use mathlib.Core.List.{List, []}
+use mathlib.Core.Path.{_≡_, refl, _∙_}
+use borrow.Author.Tests.{lt-ltb, le-ltb}
+use lib.ListN.{length}
+use Rattle.refusal.specs.Refusal.{inputLimit}
+use Rattle.buffer.specs.Buffer.{TextTold, refusal, textAnswer, textBuffer}
+use Rattle.conversion.specs.Conversion.{textIn}
+use Rattle.conversion.specs.declared.Conversion.{Conversion}
+use Rattle.text.specs.Text.{conversionAnswer, conversionBuffer}
+
+module _ (s d : List ℕ) {a : TextTold} where
+  pub too-long : (t : List ℕ) → inputLimit < length s → a ≡ refusal 4 [] → (a ≡ conversionAnswer s t d) × (d ≡ conversionBuffer s t d)
+  unfolding conversionAnswer conversionBuffer
+  too-long t h q = rw (q, lt-ltb inputLimit (length s) h) (refl, refl)
+
+  -- the conversion q was picked as p
+  pub picked : {p q : Conversion} → p ≡ q → length s ≤ inputLimit → (ys : List ℕ) → (a ≡ textAnswer (textIn p s) d) × (ys ≡ textBuffer (textIn p s) d)
+      → (a ≡ conversionAnswer s (textIn q s) d) × (ys ≡ conversionBuffer s (textIn q s) d)
+  unfolding conversionAnswer conversionBuffer
+  picked e h ys r = rw (le-ltb inputLimit (length s) h, ← e) r

@@ -1,0 +1,97 @@
+// Face. The text conversions that can be called alone: characters and graphics by CCSID, locators and row ids in hexadecimal, and the test
+// for likely text. Each writes UTF-8 at the beginning of a lent buffer. It does not read rows or packed decimals.
+use buffer::TextAnswer;
+use buffer::refused;
+use conversion::Conversion;
+use conversion::character_conversion;
+use conversion::graphic_conversion;
+use conversion::text_measure;
+use conversion::text_write;
+use refusal::INPUT_LIMIT;
+use refusal::Outcome;
+use refusal::Refusal;
+ghost use mathlib.Core.Path.{_≡_};
+ghost use Prim.Native.Nat.{_≤_};
+ghost use lib.ListN.{length};
+ghost use Rattle.refusal.specs.Refusal.{inputLimit};
+ghost use Rattle.buffer.specs.Buffer.{toldText, textAnswer, textBuffer};
+ghost use Rattle.unicode.specs.Likely.{likelyText};
+ghost use Rattle.conversion.specs.Conversion.{textIn, characterText, graphicText, locatorText, rowIdText};
+ghost use Rattle.text.specs.Text.{conversionAnswer, conversionBuffer};
+
+// The text of s at the beginning of a buffer. A buffer that holds any text of so many bytes is written without measuring.
+fn convert(conversion: Conversion, s: &[u8], text: &mut [u8]) -> TextAnswer
+    requires { ⌜ length (now s) ≤ inputLimit ⌝ }
+    ensures answer { λ r. ⌜ toldText r ≡ textAnswer (textIn conversion (now (s .entry))) (now (text .entry)) ⌝ }
+    ensures buffer { λ _. ⌜ now (text .exit) ≡ textBuffer (textIn conversion (now (s .entry))) (now (text .entry)) ⌝ }
+{
+    if 3 * s.len() + 14 <= text.len() {
+        let n = text_write(conversion, s, text);
+        return TextAnswer {
+            outcome: Outcome::Accepted,
+            written: n,
+        };
+    }
+    let m = text_measure(conversion, s);
+    let needed = m.len;
+    if text.len() < needed {
+        return refused(Refusal::TextBufferTooShort { needed: needed });
+    }
+    let same = m.conversion;
+    text_write(same, s, text);
+    TextAnswer {
+        outcome: Outcome::Accepted,
+        written: needed,
+    }
+}
+
+// The text of a character value, by its CCSID.
+pub fn decode_character_bytes(data: &[u8], ccsid: u16, text: &mut [u8]) -> TextAnswer
+    ensures answer { λ r. ⌜ toldText r ≡ conversionAnswer (now («data» .entry)) (characterText ccsid (now («data» .entry))) (now (text .entry)) ⌝ }
+    ensures buffer { λ _. ⌜ now (text .exit) ≡ conversionBuffer (now («data» .entry)) (characterText ccsid (now («data» .entry))) (now (text .entry)) ⌝ }
+{
+    if data.len() > INPUT_LIMIT {
+        return refused(Refusal::InputTooLong);
+    }
+    convert(character_conversion(ccsid, data), data, text)
+}
+
+// The text of a graphic value, by its CCSID.
+pub fn decode_graphic_bytes(data: &[u8], ccsid: u16, text: &mut [u8]) -> TextAnswer
+    ensures answer { λ r. ⌜ toldText r ≡ conversionAnswer (now («data» .entry)) (graphicText ccsid (now («data» .entry))) (now (text .entry)) ⌝ }
+    ensures buffer { λ _. ⌜ now (text .exit) ≡ conversionBuffer (now («data» .entry)) (graphicText ccsid (now («data» .entry))) (now (text .entry)) ⌝ }
+{
+    if data.len() > INPUT_LIMIT {
+        return refused(Refusal::InputTooLong);
+    }
+    convert(graphic_conversion(ccsid, data), data, text)
+}
+
+// `LOB locator 0x` and the bytes in hexadecimal.
+pub fn format_lob_locator(bytes: &[u8], text: &mut [u8]) -> TextAnswer
+    ensures answer { λ r. ⌜ toldText r ≡ conversionAnswer (now (bytes .entry)) (locatorText (now (bytes .entry))) (now (text .entry)) ⌝ }
+    ensures buffer { λ _. ⌜ now (text .exit) ≡ conversionBuffer (now (bytes .entry)) (locatorText (now (bytes .entry))) (now (text .entry)) ⌝ }
+{
+    if bytes.len() > INPUT_LIMIT {
+        return refused(Refusal::InputTooLong);
+    }
+    convert(Conversion::Locator, bytes, text)
+}
+
+// `0x` and the bytes in hexadecimal.
+pub fn format_rowid(bytes: &[u8], text: &mut [u8]) -> TextAnswer
+    ensures answer { λ r. ⌜ toldText r ≡ conversionAnswer (now (bytes .entry)) (rowIdText (now (bytes .entry))) (now (text .entry)) ⌝ }
+    ensures buffer { λ _. ⌜ now (text .exit) ≡ conversionBuffer (now (bytes .entry)) (rowIdText (now (bytes .entry))) (now (text .entry)) ⌝ }
+{
+    if bytes.len() > INPUT_LIMIT {
+        return refused(Refusal::InputTooLong);
+    }
+    convert(Conversion::RowId, bytes, text)
+}
+
+// Whether bytes, of any number, are likely text.
+pub fn bytes_are_likely_text(bytes: &[u8]) -> bool
+    ensures { λ r. ⌜ r ≡ likelyText (now (bytes .entry)) ⌝ }
+{
+    utf::likely::bytes_are_likely_text(bytes)
+}

@@ -1,0 +1,18 @@
+-- What the functions for C and Rust answer for a text answer: a number and a length. Assumes nothing.
+use Prim.Native.Nat.{ℕ}
+use mathlib.Core.List.{List}
+use lib.ListN.{getD}
+use Rattle.refusal.specs.Refusal.{Told, accepted, refused, number}
+use Rattle.buffer.specs.Buffer.{TextTold}
+
+-- document 01's refusal number, and 0 where the call accepted
+abbrev pub numberTold : TextTold → ℕ
+numberTold a = number (a .outcome)
+
+-- the bytes written; with refusal 9 the length needed; with another refusal 0
+abbrev pub lengthBy : Told → ℕ → ℕ
+lengthBy accepted written = written
+lengthBy (refused n vs) written = getD vs 0 0
+
+abbrev pub lengthTold : TextTold → ℕ
+lengthTold a = lengthBy (a .outcome) (a .written)

@@ -1,0 +1,96 @@
+// Face, for C and Rust: the library's calls as functions on numbers and slices of numbers, in a static library. A slice is a pointer and a
+// length; slices do not overlap. Each function answers a refusal's number, or 0, and a length beside it: the bytes written, or with
+// refusal 9 the length needed. It has no rules of its own: each promise cites what the call within promises.
+use buffer::TextAnswer;
+use refusal::Outcome;
+ghost use mathlib.Core.Path.{_≡_};
+ghost use mathlib.Core.Bool.{cond};
+ghost use Rattle.buffer.specs.Buffer.{toldText};
+ghost use Rattle.unicode.specs.Likely.{likelyText};
+ghost use Rattle.conversion.specs.Conversion.{characterText, graphicText, locatorText, rowIdText};
+ghost use Rattle.text.specs.Text.{conversionAnswer, conversionBuffer};
+ghost use Rattle.exported.specs.Exported.{numberTold, lengthTold};
+
+// Hands out an answer: its number returned, its length in len.
+fn report(a: TextAnswer, len: &mut u64) -> u32
+    ensures number { λ r. ⌜ r ≡ numberTold (toldText a) ⌝ }
+    ensures len { λ _. ⌜ now (len .exit) ≡ lengthTold (toldText a) ⌝ }
+{
+    let outcome = a.outcome;
+    match outcome {
+        Outcome::Accepted => {
+            *len = a.written as u64;
+            0
+        }
+        Outcome::Refused(_) => {
+            *len = outcome.first_value() as u64;
+            outcome.number()
+        }
+    }
+}
+
+// The text of a character value, by its CCSID.
+#[no_mangle]
+pub extern "C" fn vejupa_decode_character_bytes(
+    data: &[u8],
+    ccsid: u16,
+    text: &mut [u8],
+    len: &mut u64,
+) -> u32
+    ensures number { λ r. ⌜ r ≡ numberTold (conversionAnswer (now («data» .entry)) (characterText ccsid (now («data» .entry))) (now (text .entry))) ⌝ }
+    ensures len { λ _. ⌜ now (len .exit) ≡ lengthTold (conversionAnswer (now («data» .entry)) (characterText ccsid (now («data» .entry))) (now (text .entry))) ⌝ }
+    ensures buffer { λ _. ⌜ now (text .exit) ≡ conversionBuffer (now («data» .entry)) (characterText ccsid (now («data» .entry))) (now (text .entry)) ⌝ }
+{
+    let a = text::decode_character_bytes(data, ccsid, text);
+    report(a, len)
+}
+
+// The text of a graphic value, by its CCSID.
+#[no_mangle]
+pub extern "C" fn vejupa_decode_graphic_bytes(
+    data: &[u8],
+    ccsid: u16,
+    text: &mut [u8],
+    len: &mut u64,
+) -> u32
+    ensures number { λ r. ⌜ r ≡ numberTold (conversionAnswer (now («data» .entry)) (graphicText ccsid (now («data» .entry))) (now (text .entry))) ⌝ }
+    ensures len { λ _. ⌜ now (len .exit) ≡ lengthTold (conversionAnswer (now («data» .entry)) (graphicText ccsid (now («data» .entry))) (now (text .entry))) ⌝ }
+    ensures buffer { λ _. ⌜ now (text .exit) ≡ conversionBuffer (now («data» .entry)) (graphicText ccsid (now («data» .entry))) (now (text .entry)) ⌝ }
+{
+    let a = text::decode_graphic_bytes(data, ccsid, text);
+    report(a, len)
+}
+
+// `LOB locator 0x` and the bytes in hexadecimal.
+#[no_mangle]
+pub extern "C" fn vejupa_format_lob_locator(bytes: &[u8], text: &mut [u8], len: &mut u64) -> u32
+    ensures number { λ r. ⌜ r ≡ numberTold (conversionAnswer (now (bytes .entry)) (locatorText (now (bytes .entry))) (now (text .entry))) ⌝ }
+    ensures len { λ _. ⌜ now (len .exit) ≡ lengthTold (conversionAnswer (now (bytes .entry)) (locatorText (now (bytes .entry))) (now (text .entry))) ⌝ }
+    ensures buffer { λ _. ⌜ now (text .exit) ≡ conversionBuffer (now (bytes .entry)) (locatorText (now (bytes .entry))) (now (text .entry)) ⌝ }
+{
+    let a = text::format_lob_locator(bytes, text);
+    report(a, len)
+}
+
+// `0x` and the bytes in hexadecimal.
+#[no_mangle]
+pub extern "C" fn vejupa_format_rowid(bytes: &[u8], text: &mut [u8], len: &mut u64) -> u32
+    ensures number { λ r. ⌜ r ≡ numberTold (conversionAnswer (now (bytes .entry)) (rowIdText (now (bytes .entry))) (now (text .entry))) ⌝ }
+    ensures len { λ _. ⌜ now (len .exit) ≡ lengthTold (conversionAnswer (now (bytes .entry)) (rowIdText (now (bytes .entry))) (now (text .entry))) ⌝ }
+    ensures buffer { λ _. ⌜ now (text .exit) ≡ conversionBuffer (now (bytes .entry)) (rowIdText (now (bytes .entry))) (now (text .entry)) ⌝ }
+{
+    let a = text::format_rowid(bytes, text);
+    report(a, len)
+}
+
+// 1 where bytes are likely text, else 0.
+#[no_mangle]
+pub extern "C" fn vejupa_bytes_are_likely_text(bytes: &[u8]) -> u32
+    ensures { λ r. ⌜ r ≡ cond (likelyText (now (bytes .entry))) 1 0 ⌝ }
+{
+    if text::bytes_are_likely_text(bytes) {
+        1
+    } else {
+        0
+    }
+}

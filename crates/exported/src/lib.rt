@@ -9,6 +9,7 @@ ghost use Rattle.buffer.specs.Buffer.{toldText};
 ghost use Rattle.unicode.specs.Likely.{likelyText};
 ghost use Rattle.conversion.specs.Conversion.{characterText, graphicText, locatorText, rowIdText};
 ghost use Rattle.text.specs.Text.{conversionAnswer, conversionBuffer};
+ghost use Rattle.decimal.specs.Decimal.{decimalAnswer, decimalBuffer};
 ghost use Rattle.exported.specs.Exported.{numberTold, lengthTold};
 
 // Hands out an answer: its number returned, its length in len.
@@ -80,6 +81,23 @@ pub extern "C" fn vejupa_format_rowid(bytes: &[u8], text: &mut [u8], len: &mut u
     ensures buffer { λ _. ⌜ now (text .exit) ≡ conversionBuffer (now (bytes .entry)) (rowIdText (now (bytes .entry))) (now (text .entry)) ⌝ }
 {
     let a = text::format_rowid(bytes, text);
+    report(a, len)
+}
+
+// The text of a packed decimal. The precision has no part in it.
+#[no_mangle]
+pub extern "C" fn vejupa_decode_packed_decimal(
+    data: &[u8],
+    precision: u8,
+    scale: u8,
+    text: &mut [u8],
+    len: &mut u64,
+) -> u32
+    ensures number { λ r. ⌜ r ≡ numberTold (decimalAnswer scale (now («data» .entry)) (now (text .entry))) ⌝ }
+    ensures len { λ _. ⌜ now (len .exit) ≡ lengthTold (decimalAnswer scale (now («data» .entry)) (now (text .entry))) ⌝ }
+    ensures buffer { λ _. ⌜ now (text .exit) ≡ decimalBuffer scale (now («data» .entry)) (now (text .entry)) ⌝ }
+{
+    let a = decimal::decode_packed_decimal(data, precision, scale, text);
     report(a, len)
 }
 

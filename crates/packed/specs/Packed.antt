@@ -1,0 +1,59 @@
+-- The text of a packed decimal (document 01, "Packed decimal"; each comment is a sentence of that section, in its order). Assumes nothing.
+use Prim.Native.Nat.{ℕ, _+_, _-_, _/_, _%_}
+use mathlib.Core.Bool.{cond}
+use mathlib.Core.List.{List, [], _∷_, _++_, map}
+use lib.Dec.{eqb}
+use lib.ListN.{length, take, drop, getD, replicate}
+
+-- "Each byte is two nibbles, high first."
+unfoldable pub nibbles : List ℕ → List ℕ
+nibbles [] = []
+nibbles (b ∷ bs) = b / 16 ∷ b % 16 ∷ nibbles bs
+
+-- "The last nibble is the sign": that nibble
+abbrev pub signNibble : List ℕ → ℕ
+signNibble s = getD (nibbles s) (length (nibbles s) - 1) 0
+
+-- "D is minus, every other is plus": a minus is written, a plus is not
+unfoldable pub sign : List ℕ → List ℕ
+sign s = cond (eqb (signNibble s) 0xD) (0x2D ∷ []) []
+
+-- "Each other nibble": all but the last
+abbrev pub digitNibbles : List ℕ → List ℕ
+digitNibbles s = take (length (nibbles s) - 1) (nibbles s)
+
+-- "v becomes the character 30 + v": A to F become `:` to `?`
+abbrev pub character : ℕ → ℕ
+character v = 0x30 + v
+
+unfoldable pub digits : List ℕ → List ℕ
+digits s = map character (digitNibbles s)
+
+-- "Leading zeros of the whole part go, one digit stays."
+unfoldable pub trimmed : List ℕ → List ℕ
+trimmed [] = 0x30 ∷ []
+trimmed (d ∷ ds) = cond (eqb d 0x30) (trimmed ds) (d ∷ ds)
+
+-- the whole part of the digits ds: all but the last `scale` of them
+abbrev pub whole : ℕ → List ℕ → List ℕ
+whole scale ds = take (length ds - scale) ds
+
+abbrev pub zeros : ℕ → List ℕ
+zeros n = replicate n 0x30
+
+-- "With scale s above 0, a point and s fraction digits follow, zeros put in front where digits are lacking."
+unfoldable pub fraction : ℕ → List ℕ → List ℕ
+fraction scale ds = cond (eqb scale 0) [] (0x2E ∷ (zeros (scale - length ds) ++ drop (length ds - scale) ds))
+
+-- the text of the packed decimal s
+unfoldable pub decimalText : ℕ → List ℕ → List ℕ
+decimalText scale s = sign s ++ (trimmed (whole scale (digits s)) ++ fraction scale (digits s))
+
+-- "a column's byte count is (precision + 2) / 2 rounded down"
+abbrev pub packedLength : ℕ → ℕ
+packedLength precision = (precision + 2) / 2
+
+-- the most bytes that a packed decimal called alone may have ("What the call hands back", refusal 7). A precision fits 8 bits, so no column has
+-- more: packedLength 255 is 128
+abbrev pub mostBytes : ℕ
+mostBytes = 128

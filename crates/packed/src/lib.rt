@@ -1,0 +1,185 @@
+// Inner. The text of a packed decimal: how long it is, and writing it into a lent buffer. It refuses nothing: its callers hand it 1 to 128
+// bytes and room for the text. It checks no digit and no sign (specs/Number.antt says which bytes are a number of z/Architecture).
+ghost use mathlib.Core.Path.{_≡_};
+ghost use Prim.Native.Nat.{_+_, _-_, _*_, _<_, _≤_};
+ghost use lib.Dec.{eqb};
+ghost use lib.ListN.{length, take, getD};
+ghost use lib.Seq.{slice};
+ghost use Rattle.buffer.specs.Buffer.{written};
+ghost use Rattle.packed.specs.Packed.{nibbles, signNibble, sign, character, digits, trimmed, zeros, fraction, decimalText, mostBytes};
+ghost use Rattle.packed.specs.Inner.{Trimmed};
+
+fn wide(x: u8) -> usize
+    ensures { λ r. ⌜ (r ≡ x) × (r < 256) ⌝ }
+{
+    x as usize
+}
+
+// By how much a is above b.
+fn above(a: usize, b: usize) -> usize
+    ensures { λ r. ⌜ r ≡ a - b ⌝ }
+{
+    if b < a { a - b } else { 0 }
+}
+
+// The character of the nibble k.
+fn digit_at(data: &[u8], k: usize) -> u8
+    requires { ⌜ k < 2 * length (now «data») ⌝ }
+    ensures { λ r. ⌜ r ≡ character (getD (nibbles (now («data» .entry))) k 0) ⌝ }
+{
+    let i = k / 2;
+    let b = data[i];
+    if k % 2 == 0 {
+        return 0x30 + b / 16;
+    }
+    0x30 + b % 16
+}
+
+// Where the first w digits begin without their leading zeros.
+fn whole_start(data: &[u8], w: usize) -> usize
+    requires { ⌜ (0 < w) × (w < 2 * length (now «data»)) ⌝ }
+    ensures { λ r. ⌜ Trimmed (digits (now («data» .entry))) w r ⌝ }
+{
+    let mut z = 0;
+    while z + 1 < w {
+        if digit_at(data, z) != 0x30 {
+            return z;
+        }
+        z += 1;
+    }
+    z
+}
+
+// Writes the digits from a up to e.
+fn digits_write(data: &[u8], a: usize, e: usize, out: &mut [u8]) -> usize
+    requires { ⌜ (a ≤ e) × ((e < 2 * length (now «data»)) × (length (slice a e (digits (now «data»))) ≤ length (now out))) ⌝ }
+    ensures count { λ r. ⌜ r ≡ length (slice a e (digits (now («data» .entry)))) ⌝ }
+    ensures bytes { λ _. ⌜ now (out .exit) ≡ written (slice a e (digits (now («data» .entry)))) (now (out .entry)) ⌝ }
+{
+    let mut o = 0;
+    let mut k = a;
+    while k < e {
+        out[o] = digit_at(data, k);
+        o += 1;
+        k += 1;
+    }
+    o
+}
+
+fn zeros_write(n: usize, out: &mut [u8]) -> usize
+    requires { ⌜ length (zeros n) ≤ length (now out) ⌝ }
+    ensures count { λ r. ⌜ r ≡ length (zeros n) ⌝ }
+    ensures bytes { λ _. ⌜ now (out .exit) ≡ written (zeros n) (now (out .entry)) ⌝ }
+{
+    let mut o = 0;
+    while o < n {
+        out[o] = 0x30;
+        o += 1;
+    }
+    o
+}
+
+fn is_minus(data: &[u8]) -> bool
+    requires { ⌜ 0 < length (now «data») ⌝ }
+    ensures { λ r. ⌜ r ≡ eqb (signNibble (now («data» .entry))) 0xD ⌝ }
+{
+    let last = data.len() - 1;
+    data[last] % 16 == 0xD
+}
+
+fn sign_len(data: &[u8]) -> usize
+    requires { ⌜ 0 < length (now «data») ⌝ }
+    ensures { λ r. ⌜ (r ≡ length (sign (now («data» .entry)))) × (r ≤ 1) ⌝ }
+{
+    if is_minus(data) {
+        return 1;
+    }
+    0
+}
+
+fn sign_write(data: &[u8], out: &mut [u8]) -> usize
+    requires { ⌜ (0 < length (now «data»)) × (length (sign (now «data»)) ≤ length (now out)) ⌝ }
+    ensures count { λ r. ⌜ r ≡ length (sign (now («data» .entry))) ⌝ }
+    ensures bytes { λ _. ⌜ now (out .exit) ≡ written (sign (now («data» .entry))) (now (out .entry)) ⌝ }
+{
+    if is_minus(data) {
+        out[0] = 0x2D;
+        return 1;
+    }
+    0
+}
+
+// The whole part, of the first w digits.
+fn whole_len(data: &[u8], w: usize) -> usize
+    requires { ⌜ w < 2 * length (now «data») ⌝ }
+    ensures { λ r. ⌜ (r ≡ length (trimmed (take w (digits (now («data» .entry)))))) × (r ≤ w + 1) ⌝ }
+{
+    if w == 0 {
+        return 1;
+    }
+    w - whole_start(data, w)
+}
+
+fn whole_write(data: &[u8], w: usize, out: &mut [u8]) -> usize
+    requires { ⌜ (w < 2 * length (now «data»)) × (length (trimmed (take w (digits (now «data»)))) ≤ length (now out)) ⌝ }
+    ensures count { λ r. ⌜ r ≡ length (trimmed (take w (digits (now («data» .entry))))) ⌝ }
+    ensures bytes { λ _. ⌜ now (out .exit) ≡ written (trimmed (take w (digits (now («data» .entry))))) (now (out .entry)) ⌝ }
+{
+    if w == 0 {
+        out[0] = 0x30;
+        return 1;
+    }
+    let z = whole_start(data, w);
+    digits_write(data, z, w, out)
+}
+
+// The point and the fraction digits, where there are any.
+fn fraction_len(data: &[u8], scale: usize) -> usize
+    requires { ⌜ scale < 256 ⌝ }
+    ensures { λ r. ⌜ (r ≡ length (fraction scale (digits (now («data» .entry))))) × (r < 257) ⌝ }
+{
+    if scale == 0 {
+        return 0;
+    }
+    1 + scale
+}
+
+fn fraction_write(data: &[u8], scale: usize, out: &mut [u8]) -> usize
+    requires { ⌜ (0 < length (now «data»)) × ((length (now «data») ≤ mostBytes) × (length (fraction scale (digits (now «data»))) ≤ length (now out))) ⌝ }
+    ensures count { λ r. ⌜ r ≡ length (fraction scale (digits (now («data» .entry)))) ⌝ }
+    ensures bytes { λ _. ⌜ now (out .exit) ≡ written (fraction scale (digits (now («data» .entry)))) (now (out .entry)) ⌝ }
+{
+    if scale == 0 {
+        return 0;
+    }
+    let t = 2 * data.len() - 1;
+    out[0] = 0x2E;
+    let mut o = 1;
+    o += zeros_write(above(scale, t), &mut out[o..]);
+    o += digits_write(data, above(t, scale), t, &mut out[o..]);
+    o
+}
+
+// The length of the text of a packed decimal.
+pub fn decimal_len(data: &[u8], scale: u8) -> usize
+    requires { ⌜ (0 < length (now «data»)) × (length (now «data») ≤ mostBytes) ⌝ }
+    ensures { λ r. ⌜ r ≡ length (decimalText scale (now («data» .entry))) ⌝ }
+{
+    let f = wide(scale);
+    let w = above(2 * data.len() - 1, f);
+    sign_len(data) + whole_len(data, w) + fraction_len(data, f)
+}
+
+// Writes it into out, from its first byte, and returns the number of bytes written.
+pub fn decimal_write(data: &[u8], scale: u8, out: &mut [u8]) -> usize
+    requires { ⌜ (0 < length (now «data»)) × ((length (now «data») ≤ mostBytes) × (length (decimalText scale (now «data»)) ≤ length (now out))) ⌝ }
+    ensures count { λ r. ⌜ r ≡ length (decimalText scale (now («data» .entry))) ⌝ }
+    ensures bytes { λ _. ⌜ now (out .exit) ≡ written (decimalText scale (now («data» .entry))) (now (out .entry)) ⌝ }
+{
+    let f = wide(scale);
+    let w = above(2 * data.len() - 1, f);
+    let mut o = sign_write(data, out);
+    o += whole_write(data, w, &mut out[o..]);
+    o += fraction_write(data, f, &mut out[o..]);
+    o
+}

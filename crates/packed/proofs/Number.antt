@@ -1,17 +1,20 @@
--- The text of a packed decimal denotes its number. `text-denotes` is the law; `sign-agrees`, `sign-B` and `sign-digit` say where the ported sign is
--- z/Architecture's and where it is not (definitions: specs/Number.antt). Assumes nothing.
+-- The text of a packed decimal denotes its number (definitions: specs/Number.antt). Assumes nothing.
+--     text-denotes      the law: digits 0 to 9, any sign
+--     text-denotes-z    the signs A, C, D, E and F: the number is that of z/Architecture
+--     text-denotes-B    the sign B: it is plus where z/Architecture has minus, a listed difference
+--     sign-agrees, sign-B, sign-digit     the same of the sign alone; a sign 0 to 9 is plus here and invalid there
 use Prim.Native.Nat.{ℕ, zero, suc, _+_, _*_, _-_, _^_, _<_, _≤_}
-use mathlib.Core.Bool.{Bool, true, false, cond}
-use mathlib.Core.List.{List, [], _∷_, _++_, map, map-append, append-nil}
+use mathlib.Core.Bool.{Bool, true, false}
+use mathlib.Core.List.{List, [], _∷_, _++_, map, append-nil}
 use mathlib.Core.Path.{_≡_, refl, sym, ap, _∙_}
 use native.Mathlib.Omega.{arith}
 use native.Mathlib.Nat.{add-mul, mul-assoc, pow-suc}
-use borrow.Author.Tests.{lt-ltb, le-ltb, eq-eqb, ne-eqb, eqb-true, eqb-false, ltb-true, ltb-false}
+use borrow.Author.Tests.{lt-ltb, le-ltb, ne-eqb, eqb-true, ltb-true, ltb-false}
 use lib.Dec.{ltb, eqb}
-use lib.ListN.{length, take, drop, getD, replicate, length-append, length-take, length-drop, length-map, length-replicate, getD-replicate, take-append-drop}
+use lib.ListN.{length, take, drop, getD, replicate, length-append, length-take, length-drop, length-map, length-replicate, take-append-drop}
 use lib.Seq.{getD-take, getD-drop, take-all}
-use Rattle.packed.specs.Packed.{nibbles, signNibble, sign, digitNibbles, character, digits, trimmed, whole, zeros, fraction, decimalText}
-use Rattle.packed.specs.Number.{Number, Denoted, none, number, isDigit, Digits, readDigits, readEnd, readFraction, readPoint, readWhole, denotes, base10, ValidDigits, Sign, plus, minus, invalid, zSign, portedSign, packedNumber}
+use Rattle.packed.specs.Packed.{signNibble, sign, digitNibbles, character, digits, trimmed, whole, zeros, fraction, decimalText}
+use Rattle.packed.specs.Number.{number, isDigit, readDigits, readPoint, readWhole, denotes, base10, ValidDigits, Sign, plus, minus, invalid, zSign, portedSign, packedNumber}
 
 -- ---- the sign
 
@@ -52,21 +55,18 @@ from-base10 v (d ∷ ds) =
     from-base10 (10 * v + d) ds
     ∙ rw (pow-suc 10 (length ds)) (omega (arith, add-mul (10 * v) d p, mul-assoc 10 v p, mul-assoc v p 10))
 
--- ---- lists of digits 0 to 9
+-- ---- digits 0 to 9, and their characters
 
-abbrev Valid : List ℕ → Type 0
-Valid vs = (k : ℕ) → k < length vs → getD vs k 0 < 10
-
-valid-take : (n : ℕ) (vs : List ℕ) → Valid vs → Valid (take n vs)
+valid-take : (n : ℕ) (vs : List ℕ) → ValidDigits vs → ValidDigits (take n vs)
 valid-take n vs h k q = rw (getD-take n vs k 0 (omega (arith, length-take n vs))) (h k (omega (arith, length-take n vs)))
 
 -- zeros put in front of the digits from n on
-valid-zeros-drop : (z n : ℕ) (vs : List ℕ) → Valid vs → Valid (replicate z 0 ++ drop n vs)
+valid-zeros-drop : (z n : ℕ) (vs : List ℕ) → ValidDigits vs → ValidDigits (replicate z 0 ++ drop n vs)
 valid-zeros-drop zero n vs h k q = rw (getD-drop n vs k 0) (h (n + k) (omega (arith, length-drop n vs)))
 valid-zeros-drop (suc z) n vs h zero q = omega arith
 valid-zeros-drop (suc z) n vs h (suc k) q = valid-zeros-drop z n vs h k (omega arith)
 
-tail : (d : ℕ) (ds : List ℕ) → Valid (d ∷ ds) → Valid ds
+tail : (d : ℕ) (ds : List ℕ) → ValidDigits (d ∷ ds) → ValidDigits ds
 tail d ds h k q = h (suc k) (omega arith)
 
 take-map : (n : ℕ) (vs : List ℕ) → take n (map character vs) ≡ map character (take n vs)
@@ -85,7 +85,7 @@ zeros-drop-map (suc z) n vs = ap (λ (l : List ℕ). 0x30 ∷ l) (zeros-drop-map
 is-digit : (d : ℕ) → d < 10 → isDigit (character d) ≡ true
 is-digit d h = rw (le-ltb (character d) 0x30 (omega arith), lt-ltb (character d) 0x3A (omega arith))
 
-read : (v n : ℕ) (vs r : List ℕ) → Valid vs → readDigits v n (map character vs ++ r) ≡ readDigits (from v vs) (n + length vs) r
+read : (v n : ℕ) (vs r : List ℕ) → ValidDigits vs → readDigits v n (map character vs ++ r) ≡ readDigits (from v vs) (n + length vs) r
 unfolding from readDigits
 read v n [] r h =
     let e : n ≡ n + 0 = omega arith in
@@ -103,10 +103,10 @@ record Shown (vs : List ℕ) : Type 0 where
   first : ℕ
   others : List ℕ
   text : trimmed (map character vs) ≡ map character (first ∷ others)
-  valid : Valid (first ∷ others)
+  valid : ValidDigits (first ∷ others)
   value : from 0 (first ∷ others) ≡ from 0 vs
 
-shown : (vs : List ℕ) → Valid vs → Shown vs
+shown : (vs : List ℕ) → ValidDigits vs → Shown vs
 unfolding trimmed from
 shown [] h = record { first = 0; others = []; text = refl; valid = valid-zeros-drop 1 0 [] h; value = refl }
 shown (d ∷ ds) h = go (shown ds (tail d ds h)) (eqb (character d) 0x30) refl
@@ -121,7 +121,7 @@ shown (d ∷ ds) h = go (shown ds (tail d ds h)) (eqb (character d) 0x30) refl
 abbrev Stops : List ℕ → Type 0
 Stops r = (v n : ℕ) → readDigits v n r ≡ record { value = v; count = n; rest = r }
 
-module _ (vs r : List ℕ) (h : Valid vs) (stops : Stops r) where
+module _ (vs r : List ℕ) (h : ValidDigits vs) (stops : Stops r) where
   abbrev t : List ℕ
   t = trimmed (map character vs) ++ r
 
@@ -140,7 +140,7 @@ module _ (vs r : List ℕ) (h : Valid vs) (stops : Stops r) where
 
 -- ---- the fraction
 
-module _ (scale : ℕ) (vs : List ℕ) (h : Valid vs) where
+module _ (scale : ℕ) (vs : List ℕ) (h : ValidDigits vs) where
   abbrev ds : List ℕ
   ds = map character vs
 
@@ -210,7 +210,7 @@ module _ (scale : ℕ) (vs : List ℕ) (h : Valid vs) where
 
 -- ---- the law
 
-module _ (scale : ℕ) (s : List ℕ) (h : ValidDigits s) where
+module _ (scale : ℕ) (s : List ℕ) (h : ValidDigits (digitNibbles s)) where
   -- Where every digit nibble is 0 to 9, the text denotes the number that the digits, the scale and the ported sign give: it is minus exactly where
   -- the sign nibble is D, its value is that of the digits in base ten, and `scale` of them are fraction digits
   pub text-denotes : denotes (decimalText scale s) ≡ number (packedNumber (portedSign (signNibble s)) scale s)

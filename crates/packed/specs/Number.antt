@@ -45,21 +45,21 @@ readDigits v n [] = record { value = v; count = n; rest = [] }
 readDigits v n (c ∷ cs) =
     cond (isDigit c) (readDigits (10 * v + (c - 0x30)) (n + 1) cs) (record { value = v; count = n; rest = c ∷ cs })
 
--- the text ends here
+-- after the last digit: the text ends
 abbrev pub readEnd : Number → List ℕ → Denoted
 readEnd n [] = number n
 readEnd n (c ∷ cs) = none
 
--- after the fraction digits d, which make the value with the digits before the point
+-- after the point and the digits d, whose value counts the digits before the point too
 abbrev pub readFraction : Sign → Digits → Denoted
 readFraction g d = cond (eqb (d .count) 0) none (readEnd (record { sign = g; value = d .value; places = d .count }) (d .rest))
 
--- after whole digits that make v
+-- after the digits before the point, which make v: the text ends, or a point follows
 abbrev pub readPoint : Sign → ℕ → List ℕ → Denoted
 readPoint g v [] = number (record { sign = g; value = v; places = 0 })
 readPoint g v (c ∷ cs) = cond (eqb c 0x2E) (readFraction g (readDigits v 0 cs)) none
 
--- after the whole digits d
+-- after the digits d before the point
 abbrev pub readWhole : Sign → Digits → Denoted
 readWhole g d = cond (eqb (d .count) 0) none (readPoint g (d .value) (d .rest))
 
@@ -70,14 +70,14 @@ denotes (c ∷ cs) = cond (eqb c 0x2D) (readWhole minus (readDigits 0 0 cs)) (re
 
 -- ---- the number that nibbles are
 
--- digits in base ten, the highest first
+-- the natural number of digits in base ten, the highest first
 unfoldable pub base10 : List ℕ → ℕ
 base10 [] = 0
 base10 (d ∷ ds) = d * 10 ^ length ds + base10 ds
 
--- every digit is 0 to 9
+-- the digits vs are all 0 to 9
 abbrev pub ValidDigits : List ℕ → Type 0
-ValidDigits s = (k : ℕ) → k < length (digitNibbles s) → getD (digitNibbles s) k 0 < 10
+ValidDigits vs = (k : ℕ) → k < length vs → getD vs k 0 < 10
 
 -- what z/Architecture takes a sign nibble for
 abbrev pub zSign : ℕ → Sign

@@ -1,1 +1,3 @@
 pub mod Nibbles
+pub mod Number
+pub mod Examples

@@ -3,20 +3,26 @@
 -- z/Architecture Principles of Operation, "Decimal Instructions": in the packed format each byte holds two decimal digits, save the rightmost,
 -- which holds a digit and, right of it, the sign. Digits are 0 to 9. The sign is plus for A, C, E and F, and minus for B and D. Other digits and signs
 -- are invalid. The format has no point: the scale, which the column gives, says how many of the digits are fraction digits.
-use Prim.Native.Nat.{ℕ, suc, _+_, _-_, _*_, _^_, _<_}
+use Prim.Native.Nat.{ℕ, _+_, _-_, _*_, _^_, _<_}
 use mathlib.Core.Bool.{Bool, true, false, cond}
 use mathlib.Core.List.{List, [], _∷_}
 use lib.Dec.{ltb, eqb}
 use lib.ListN.{length, getD}
 use Rattle.packed.specs.Packed.{signNibble, digitNibbles}
 
--- a number in decimal: whether it is minus; the natural number that all its digits make, without the point; and how many of them are fraction digits
+-- a sign; `invalid` is what z/Architecture takes for none
+pub data Sign : Type 0 where
+  plus : Sign
+  minus : Sign
+  invalid : Sign
+
+-- a number in decimal: its sign; the natural number that all its digits make, without the point; and how many of them are fraction digits
 pub record Number : Type 0 where
-  pub minus : Bool
+  pub sign : Sign
   pub value : ℕ
   pub places : ℕ
 
--- A text denotes a number, or none
+-- a text denotes a number, or none
 pub data Denoted : Type 0 where
   none : Denoted
   number : Number → Denoted
@@ -27,38 +33,51 @@ pub data Denoted : Type 0 where
 abbrev pub isDigit : ℕ → Bool
 isDigit c = cond (ltb c 0x30) false (ltb c 0x3A)
 
--- after the point: the digits so far make v, and f of them are fraction digits
-unfoldable pub readFraction : Bool → ℕ → ℕ → List ℕ → Denoted
-readFraction m v f [] = cond (eqb f 0) none (number (record { minus = m; value = v; places = f }))
-readFraction m v f (c ∷ cs) = cond (isDigit c) (readFraction m (10 * v + (c - 0x30)) (f + 1) cs) none
+-- digits that were read: the natural number that they make, how many they are, and what follows them
+pub record Digits : Type 0 where
+  pub value : ℕ
+  pub count : ℕ
+  pub rest : List ℕ
 
--- before the point: the n digits so far make v
-unfoldable pub readWhole : Bool → ℕ → ℕ → List ℕ → Denoted
-readWhole m v n [] = cond (eqb n 0) none (number (record { minus = m; value = v; places = 0 }))
-readWhole m v n (c ∷ cs) =
-    cond (isDigit c)
-    (readWhole m (10 * v + (c - 0x30)) (n + 1) cs)
-    (cond (eqb n 0) none (cond (eqb c 0x2E) (readFraction m v 0 cs) none))
+-- the digits at the beginning of a text, after n digits that make v
+unfoldable pub readDigits : ℕ → ℕ → List ℕ → Digits
+readDigits v n [] = record { value = v; count = n; rest = [] }
+readDigits v n (c ∷ cs) =
+    cond (isDigit c) (readDigits (10 * v + (c - 0x30)) (n + 1) cs) (record { value = v; count = n; rest = c ∷ cs })
 
-unfoldable pub denotes : List ℕ → Denoted
+-- after the last digit: the text ends
+abbrev pub readEnd : Number → List ℕ → Denoted
+readEnd n [] = number n
+readEnd n (c ∷ cs) = none
+
+-- after the point and the digits d, whose value counts the digits before the point too
+abbrev pub readFraction : Sign → Digits → Denoted
+readFraction g d = cond (eqb (d .count) 0) none (readEnd (record { sign = g; value = d .value; places = d .count }) (d .rest))
+
+-- after the digits before the point, which make v: the text ends, or a point follows
+abbrev pub readPoint : Sign → ℕ → List ℕ → Denoted
+readPoint g v [] = number (record { sign = g; value = v; places = 0 })
+readPoint g v (c ∷ cs) = cond (eqb c 0x2E) (readFraction g (readDigits v 0 cs)) none
+
+-- after the digits d before the point
+abbrev pub readWhole : Sign → Digits → Denoted
+readWhole g d = cond (eqb (d .count) 0) none (readPoint g (d .value) (d .rest))
+
+-- what a text denotes
+abbrev pub denotes : List ℕ → Denoted
 denotes [] = none
-denotes (c ∷ cs) = cond (eqb c 0x2D) (readWhole true 0 0 cs) (readWhole false 0 0 (c ∷ cs))
+denotes (c ∷ cs) = cond (eqb c 0x2D) (readWhole minus (readDigits 0 0 cs)) (readWhole plus (readDigits 0 0 (c ∷ cs)))
 
 -- ---- the number that nibbles are
 
--- digits in base ten, the highest first
+-- the natural number of digits in base ten, the highest first
 unfoldable pub base10 : List ℕ → ℕ
 base10 [] = 0
 base10 (d ∷ ds) = d * 10 ^ length ds + base10 ds
 
--- every digit is 0 to 9
+-- the digits vs are all 0 to 9
 abbrev pub ValidDigits : List ℕ → Type 0
-ValidDigits s = (k : ℕ) → k < length (digitNibbles s) → getD (digitNibbles s) k 0 < 10
-
-pub data Sign : Type 0 where
-  plus : Sign
-  minus : Sign
-  invalid : Sign
+ValidDigits vs = (k : ℕ) → k < length vs → getD vs k 0 < 10
 
 -- what z/Architecture takes a sign nibble for
 abbrev pub zSign : ℕ → Sign
@@ -68,11 +87,6 @@ zSign n = cond (ltb n 0xA) invalid (cond (eqb n 0xB) minus (cond (eqb n 0xD) min
 abbrev pub portedSign : ℕ → Sign
 portedSign n = cond (eqb n 0xD) minus plus
 
-abbrev pub isMinus : Sign → Bool
-isMinus plus = false
-isMinus minus = true
-isMinus invalid = false
-
--- the number of the packed decimal s at a scale, with its sign nibble taken by `signOf`
-abbrev pub packedNumber : (ℕ → Sign) → ℕ → List ℕ → Number
-packedNumber signOf scale s = record { minus = isMinus (signOf (signNibble s)); value = base10 (digitNibbles s); places = scale }
+-- the number of the packed decimal s at a scale, with a sign
+abbrev pub packedNumber : Sign → ℕ → List ℕ → Number
+packedNumber g scale s = record { sign = g; value = base10 (digitNibbles s); places = scale }

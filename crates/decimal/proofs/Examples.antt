@@ -1,0 +1,25 @@
+-- Document 01, "At the edges", F to I, through the call's definitions. Assumes nothing.
+use Prim.Native.Nat.{ℕ}
+use mathlib.Core.List.{List, [], _∷_}
+use mathlib.Core.Path.{_≡_, refl}
+use Rattle.buffer.specs.Buffer.{textAnswer, textBuffer}
+use Rattle.packed.specs.Packed.{nibbles, sign, digits, trimmed, fraction, decimalText}
+use Rattle.decimal.specs.Decimal.{decimalAnswer, decimalBuffer}
+
+-- for every text buffer d the bytes s at a scale give the text t: it is written into d, or d is too short for it
+abbrev pub Gives : ℕ → List ℕ → List ℕ → Type 0
+Gives scale s t = (d : List ℕ) → (decimalAnswer scale s d ≡ textAnswer t d) × (decimalBuffer scale s d ≡ textBuffer t d)
+
+pub record Edges : Type 0 where
+  -- `0.05`
+  pub F : Gives 2 (0x00 ∷ 0x5C ∷ []) (0x30 ∷ 0x2E ∷ 0x30 ∷ 0x35 ∷ [])
+  -- `0.001`
+  pub G : Gives 3 (0x1C ∷ []) (0x30 ∷ 0x2E ∷ 0x30 ∷ 0x30 ∷ 0x31 ∷ [])
+  -- `-0`
+  pub H : Gives 0 (0x0D ∷ []) (0x2D ∷ 0x30 ∷ [])
+  -- `123`
+  pub I : Gives 0 (0x12 ∷ 0x3B ∷ []) (0x31 ∷ 0x32 ∷ 0x33 ∷ [])
+
+pub edges : Edges
+unfolding decimalAnswer decimalBuffer decimalText nibbles sign digits trimmed fraction
+edges = record { F = λ d. (refl, refl); G = λ d. (refl, refl); H = λ d. (refl, refl); I = λ d. (refl, refl) }

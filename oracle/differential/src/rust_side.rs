@@ -15,32 +15,34 @@ fn refused(leaf: Leaf, data: &[u8]) -> Option<u32> {
     }
 }
 
-pub fn answer(leaf: Leaf, data: &[u8]) -> Answer<'static> {
-    if let Some(number) = refused(leaf, data) {
-        return Answer::Refusal(number);
-    }
-    let text = match leaf {
+/// The text that the Rust gives, without limits (every leaf but Likely, and no empty packed decimal).
+pub fn text(leaf: Leaf, data: &[u8]) -> String {
+    match leaf {
         Leaf::Character { ccsid } => doors::decode_character_bytes(data, ccsid),
         Leaf::Graphic { ccsid } => doors::decode_graphic_bytes(data, ccsid),
-        Leaf::Likely => return Answer::Truth(doors::bytes_are_likely_text(data)),
         Leaf::Decimal { precision, scale } => decode_packed_decimal(data, precision, scale)
             .expect("the Rust refuses no packed decimal that has a byte"),
         Leaf::Locator => doors::format_lob_locator(data),
         Leaf::RowId => doors::format_rowid(data),
-    };
-    Answer::Text(text.into_bytes().into())
+        Leaf::Likely => panic!("bytes_are_likely_text gives no text"),
+    }
+}
+
+pub fn likely(data: &[u8]) -> bool {
+    doors::bytes_are_likely_text(data)
+}
+
+pub fn answer(leaf: Leaf, data: &[u8]) -> Answer<'static> {
+    match refused(leaf, data) {
+        Some(number) => Answer::Refusal(number),
+        None if leaf == Leaf::Likely => Answer::Truth(likely(data)),
+        None => Answer::Text(text(leaf, data).into_bytes().into()),
+    }
 }
 
 #[cfg(test)]
 mod tests {
     use super::*;
-
-    fn text(leaf: Leaf, data: &[u8]) -> String {
-        match answer(leaf, data) {
-            Answer::Text(text) => String::from_utf8(text.into_owned()).unwrap(),
-            other => panic!("{other:?}"),
-        }
-    }
 
     #[test]
     fn the_limits_stand_where_they_must() {

@@ -1,0 +1,25 @@
+// Shim. The published fdoca.rs, unchanged, and doors to its private functions. A door passes on what it is given and what
+// comes back, and does nothing else.
+include!("published.rs");
+
+pub mod doors {
+    pub fn decode_character_bytes(data: &[u8], ccsid: u16) -> String {
+        super::decode_character_bytes(data, ccsid)
+    }
+
+    pub fn decode_graphic_bytes(data: &[u8], ccsid: u16) -> String {
+        super::decode_graphic_bytes(data, ccsid)
+    }
+
+    pub fn format_lob_locator(bytes: &[u8]) -> String {
+        super::format_lob_locator(bytes)
+    }
+
+    pub fn format_rowid(bytes: &[u8]) -> String {
+        super::format_rowid(bytes)
+    }
+
+    pub fn bytes_are_likely_text(bytes: &[u8]) -> bool {
+        super::bytes_are_likely_text(bytes)
+    }
+}

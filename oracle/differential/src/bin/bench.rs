@@ -1,0 +1,343 @@
+//! `bench [WORD]`: the time of each conversion by the Rust and by the port, from one run, as a Markdown table. With a word only
+//! the lines that have it in their name.
+use differential::leaf::{Leaf, TEXT_LIMIT};
+use differential::port_side::{ample, Archive, Library};
+use differential::random::Random;
+use differential::rust_side;
+use std::hint::black_box;
+use std::process::ExitCode;
+use std::time::{Duration, Instant};
+
+/// The lengths of short texts.
+const SHORT: [usize; 5] = [4, 8, 16, 32, 64];
+
+/// Short texts are timed in a batch of so many input bytes, so that they stay in the nearest cache.
+const BATCH: usize = 1 << 14;
+
+const HEX_LENGTH: usize = 1 << 16;
+
+/// How long a line is measured, and at least how many rounds.
+const TIME: Duration = Duration::from_millis(400);
+const ROUNDS: usize = 40;
+
+const MIXED: &str = "Der Flor ist höher: 5 €, 高さ 12 mm \u{1F9F6} — ok. ";
+const CJK: &str = "絨毯の高さは十二ミリです";
+
+/// A line of the table: a call, and texts of one length, each timed as one call.
+struct Line {
+    name: &'static str,
+    leaf: Leaf,
+    texts: Vec<Vec<u8>>,
+}
+
+impl Line {
+    fn length(&self) -> usize {
+        self.texts[0].len()
+    }
+}
+
+/// Nanoseconds a call. A call that writes no text has no exact buffer.
+struct Times {
+    rust: f64,
+    ample: f64,
+    exact: Option<f64>,
+}
+
+fn main() -> ExitCode {
+    let word = std::env::args().nth(1).unwrap_or_default();
+    let mut buffer = vec![0; ample(TEXT_LIMIT)];
+    println!("{}\n", heading());
+    println!("| Call | Bytes | Rust ns | Port ns, any text fits | Ratio | Port ns, buffer exact | Ratio |");
+    println!("|---|---:|---:|---:|---:|---:|---:|");
+    let mut slowest: Option<(f64, String)> = None;
+    for line in lines().iter().filter(|line| line.name.contains(&word)) {
+        if let Err(text) = same(line, &mut buffer) {
+            eprintln!("bench: {}: the answers differ for {text:02X?}", line.name);
+            return ExitCode::FAILURE;
+        }
+        let times = measure(line, &mut buffer);
+        println!("{}", row(line, &times));
+        let ratio = times.ample.max(times.exact.unwrap_or(0.0)) / times.rust;
+        if slowest.as_ref().is_none_or(|(most, _)| ratio > *most) {
+            slowest = Some((ratio, format!("{}, {} bytes", line.name, line.length())));
+        }
+    }
+    if let Some((ratio, name)) = slowest {
+        println!("\nLargest ratio: {ratio:.2} ({name}).");
+    }
+    ExitCode::SUCCESS
+}
+
+fn heading() -> String {
+    let machine = std::fs::read_to_string("/proc/cpuinfo").unwrap_or_default();
+    let processor = machine
+        .lines()
+        .find_map(|line| line.strip_prefix("model name")?.split_once(": "))
+        .map_or("unknown", |(_, name)| name);
+    format!(
+        "Processor: {processor}. Release builds, one thread, both from one run: the least of at least {ROUNDS} rounds, the two \
+         by turns in each, with {BATCH} bytes of short texts, or one long text, a reading of the clock. The port's buffer is lent \
+         by the caller and warm: it is used again for each call, once with 3 n + 14 bytes for n bytes of input (any text fits), \
+         once exactly as long as the text. The Rust's time includes the allocation of its text, and its freeing. Ratio: port / Rust."
+    )
+}
+
+fn row(line: &Line, times: &Times) -> String {
+    let column = |time: f64| format!("{} | {:.2}", shown(time), time / times.rust);
+    format!(
+        "| {} | {} | {} | {} | {} |",
+        line.name,
+        line.length(),
+        shown(times.rust),
+        column(times.ample),
+        times.exact.map_or("– | –".to_string(), column)
+    )
+}
+
+/// Nanoseconds: tenths where they count.
+fn shown(time: f64) -> String {
+    if time < 1000.0 {
+        format!("{time:.1}")
+    } else {
+        format!("{time:.0}")
+    }
+}
+
+/// Whether the two agree on every text of a line, in a buffer where any text fits.
+fn same<'a>(line: &'a Line, buffer: &mut [u8]) -> Result<(), &'a [u8]> {
+    for text in &line.texts {
+        let agree = if line.leaf == Leaf::Likely {
+            rust_side::likely(text) == (Archive.likely(text) == 1)
+        } else {
+            let rust = rust_side::text(line.leaf, text);
+            let outcome = Archive.write(line.leaf, text, &mut buffer[..ample(text.len())]);
+            let written = &buffer[..outcome.length as usize];
+            outcome.refusal == 0 && rust.as_bytes() == written
+        };
+        if !agree {
+            return Err(text);
+        }
+    }
+    Ok(())
+}
+
+fn measure(line: &Line, buffer: &mut [u8]) -> Times {
+    let Line { leaf, texts, .. } = line;
+    let calls = texts.len() as f64;
+    if *leaf == Leaf::Likely {
+        let [rust, port] = by_turns(
+            buffer,
+            [
+                &|_| batch(texts, |text| u64::from(rust_side::likely(text))),
+                &|_| batch(texts, |text| u64::from(Archive.likely(text))),
+            ],
+        );
+        return Times {
+            rust: rust / calls,
+            ample: port / calls,
+            exact: None,
+        };
+    }
+    let exact: Vec<usize> = texts
+        .iter()
+        .map(|text| rust_side::text(*leaf, text).len())
+        .collect();
+    let any = vec![ample(line.length()); texts.len()];
+    let [rust, any, exact] = by_turns(
+        buffer,
+        [
+            &|_| batch(texts, |text| read(rust_side::text(*leaf, text).as_bytes())),
+            &|buffer| port_batch(line, &any, buffer),
+            &|buffer| port_batch(line, &exact, buffer),
+        ],
+    );
+    Times {
+        rust: rust / calls,
+        ample: any / calls,
+        exact: Some(exact / calls),
+    }
+}
+
+/// The port's calls for a line, each with the buffer's first bytes, so many of them as `sizes` says.
+fn port_batch(line: &Line, sizes: &[usize], buffer: &mut [u8]) -> u64 {
+    let mut sizes = sizes.iter();
+    batch(&line.texts, |text| {
+        let size = *sizes.next().expect("a size for each text");
+        let outcome = Archive.write(line.leaf, text, &mut buffer[..size]);
+        read(&buffer[..outcome.length as usize])
+    })
+}
+
+/// Looks at a text: its length and its last byte, so that the compiler can leave out neither it nor its writing.
+fn read(text: &[u8]) -> u64 {
+    let text = black_box(text);
+    text.len() as u64 + u64::from(text[text.len() - 1])
+}
+
+/// Calls once for each text; the sum is looked at, the texts are not known to the compiler.
+fn batch(texts: &[Vec<u8>], mut call: impl FnMut(&[u8]) -> u64) -> u64 {
+    texts
+        .iter()
+        .map(|text| call(black_box(text)))
+        .fold(0, u64::wrapping_add)
+}
+
+/// The least time of each, in nanoseconds, taken by turns.
+fn by_turns<const N: usize>(buffer: &mut [u8], works: [&dyn Fn(&mut [u8]) -> u64; N]) -> [f64; N] {
+    let mut least = [Duration::MAX; N];
+    let start = Instant::now();
+    let mut rounds = 0;
+    while rounds < ROUNDS || start.elapsed() < TIME {
+        for (work, least) in works.iter().zip(&mut least) {
+            let start = Instant::now();
+            black_box(work(buffer));
+            *least = start.elapsed().min(*least);
+        }
+        rounds += 1;
+    }
+    least.map(|time| time.as_secs_f64() * 1e9)
+}
+
+/// Makes a text of so many bytes.
+type Maker = fn(&mut Random, usize) -> Vec<u8>;
+
+fn lines() -> Vec<Line> {
+    const UTF8: Leaf = Leaf::Character { ccsid: 1208 };
+    const LATIN1: Leaf = Leaf::Character { ccsid: 819 };
+    const OTHER: Leaf = Leaf::Character { ccsid: 0 };
+    const UTF16: Leaf = Leaf::Graphic { ccsid: 1200 };
+    let classes: [(&str, Leaf, Maker); 16] = [
+        ("UTF-8 ASCII", UTF8, ascii),
+        ("UTF-8 mixed", UTF8, utf8_mixed),
+        ("UTF-8 CJK", UTF8, utf8_cjk),
+        ("UTF-8, 1 % malformed", UTF8, malformed),
+        ("UTF-8, random bytes", UTF8, uniform),
+        ("037", Leaf::Character { ccsid: 37 }, ebcdic),
+        ("819 ASCII", LATIN1, ascii),
+        ("819, random bytes", LATIN1, uniform),
+        ("Other CCSID, ASCII", OTHER, ascii),
+        ("Other CCSID, EBCDIC", OTHER, ebcdic),
+        ("UTF-16 ASCII", UTF16, utf16_ascii),
+        ("UTF-16 mixed", UTF16, utf16_mixed),
+        ("UTF-16 CJK", UTF16, utf16_cjk),
+        ("UTF-16, random bytes", UTF16, uniform),
+        ("Likely text, ASCII", Leaf::Likely, ascii),
+        ("Likely text, mixed", Leaf::Likely, utf8_mixed),
+    ];
+    let mut random = Random::new(1);
+    let mut lines = Vec::new();
+    for (name, leaf, maker) in classes {
+        for length in SHORT.into_iter().chain([TEXT_LIMIT]) {
+            lines.push(line(&mut random, name, leaf, maker, length));
+        }
+    }
+    for (name, leaf) in [("Locator", Leaf::Locator), ("Row id", Leaf::RowId)] {
+        for length in SHORT.into_iter().chain([HEX_LENGTH]) {
+            lines.push(line(&mut random, name, leaf, uniform, length));
+        }
+    }
+    for length in [3, 8, 128] {
+        let leaf = Leaf::decimal(2);
+        lines.push(line(&mut random, "Packed decimal", leaf, packed, length));
+    }
+    lines
+}
+
+fn line(random: &mut Random, name: &'static str, leaf: Leaf, maker: Maker, length: usize) -> Line {
+    let count = (BATCH / length).max(1);
+    let texts = (0..count).map(|_| maker(random, length)).collect();
+    Line { name, leaf, texts }
+}
+
+fn uniform(random: &mut Random, length: usize) -> Vec<u8> {
+    (0..length).map(|_| random.byte()).collect()
+}
+
+fn ascii(random: &mut Random, length: usize) -> Vec<u8> {
+    (0..length).map(|_| b' ' + random.byte() % 95).collect()
+}
+
+/// ASCII in which one byte of a hundred is none.
+fn malformed(random: &mut Random, length: usize) -> Vec<u8> {
+    let mut text = ascii(random, length);
+    for byte in &mut text {
+        if random.one_in(100) {
+            *byte = 0xFF;
+        }
+    }
+    text
+}
+
+/// Letters, spaces and digits of code page 037, with a letter outside of ASCII now and then.
+fn ebcdic(random: &mut Random, length: usize) -> Vec<u8> {
+    let byte = |random: &mut Random| match random.below(30) {
+        0..=4 => 0x40,
+        5..=9 => 0xF0 + random.byte() % 10,
+        10..=28 => 0x81 + random.byte() % 9,
+        _ => 0x43,
+    };
+    (0..length).map(|_| byte(random)).collect()
+}
+
+/// Digits, a zero in front, a plus behind.
+fn packed(random: &mut Random, length: usize) -> Vec<u8> {
+    let mut bytes: Vec<u8> = (0..length)
+        .map(|_| (random.below(10) << 4 | random.below(10)) as u8)
+        .collect();
+    bytes[0] &= 0x0F;
+    bytes[length - 1] = bytes[length - 1] & 0xF0 | 0x0C;
+    bytes
+}
+
+/// Whole characters of a sample, from any of its places on; spaces where the next one no longer fits.
+fn sampled(
+    random: &mut Random,
+    sample: &str,
+    length: usize,
+    encoded: fn(char) -> Vec<u8>,
+) -> Vec<u8> {
+    let start = random.below(sample.chars().count());
+    let mut text = Vec::with_capacity(length);
+    for character in sample.chars().cycle().skip(start) {
+        let bytes = encoded(character);
+        if text.len() + bytes.len() > length {
+            break;
+        }
+        text.extend(bytes);
+    }
+    while text.len() < length {
+        text.extend(encoded(' '));
+    }
+    text
+}
+
+fn utf8(character: char) -> Vec<u8> {
+    character.encode_utf8(&mut [0; 4]).as_bytes().to_vec()
+}
+
+fn utf16(character: char) -> Vec<u8> {
+    let mut units = [0; 2];
+    let units = character.encode_utf16(&mut units);
+    units.iter().flat_map(|unit| unit.to_be_bytes()).collect()
+}
+
+fn utf8_mixed(random: &mut Random, length: usize) -> Vec<u8> {
+    sampled(random, MIXED, length, utf8)
+}
+
+fn utf8_cjk(random: &mut Random, length: usize) -> Vec<u8> {
+    sampled(random, CJK, length, utf8)
+}
+
+fn utf16_ascii(random: &mut Random, length: usize) -> Vec<u8> {
+    let text = ascii(random, length / 2);
+    text.into_iter().flat_map(|byte| [0, byte]).collect()
+}
+
+fn utf16_mixed(random: &mut Random, length: usize) -> Vec<u8> {
+    sampled(random, MIXED, length, utf16)
+}
+
+fn utf16_cjk(random: &mut Random, length: usize) -> Vec<u8> {
+    sampled(random, CJK, length, utf16)
+}

@@ -1,0 +1,200 @@
+//! Requests and answers, line by line. A line is a request, or a request with an answer behind ` A `, which is dropped.
+use crate::leaf::{Answer, Leaf, PRECISION};
+use std::fmt;
+
+/// A call with its bytes.
+#[derive(Debug, Clone, PartialEq, Eq)]
+pub struct Request {
+    pub leaf: Leaf,
+    pub data: Vec<u8>,
+}
+
+/// Reads a line. The error says why the line is no request.
+pub fn parse(line: &str) -> Result<Request, String> {
+    let asked = line.split(" A ").next().unwrap_or(line);
+    let fields: Vec<&str> = asked.split(' ').collect();
+    match fields[..] {
+        ["T", ccsid, data] => Ok(Request {
+            leaf: Leaf::Character {
+                ccsid: number(ccsid)?,
+            },
+            data: bytes(data)?,
+        }),
+        ["G", ccsid, data] => Ok(Request {
+            leaf: Leaf::Graphic {
+                ccsid: number(ccsid)?,
+            },
+            data: bytes(data)?,
+        }),
+        ["L", data] => Ok(Request {
+            leaf: Leaf::Likely,
+            data: bytes(data)?,
+        }),
+        ["P", scale, data] => Ok(Request {
+            leaf: Leaf::decimal(number(scale)?),
+            data: bytes(data)?,
+        }),
+        ["T" | "G" | "L" | "P", ..] => Err(format!("wrong number of fields: {}", cut(asked))),
+        ["Q" | "H" | "F", ..] => Err(format!("{} lines are not answered yet", fields[0])),
+        _ => Err(format!("no kind of request: {}", cut(asked))),
+    }
+}
+
+/// A decimal number as the format writes it: digits only, no leading zero.
+fn number<N: std::str::FromStr + fmt::Display>(field: &str) -> Result<N, String> {
+    match field.parse::<N>() {
+        Ok(value) if value.to_string() == field => Ok(value),
+        _ => Err(format!("no number, or too large: {}", cut(field))),
+    }
+}
+
+/// Upper-case hex, two digits a byte; `-` stands for no bytes.
+fn bytes(field: &str) -> Result<Vec<u8>, String> {
+    if field == "-" {
+        return Ok(Vec::new());
+    }
+    let (pairs, rest) = field.as_bytes().as_chunks::<2>();
+    if pairs.is_empty() || !rest.is_empty() {
+        return Err(format!("not two hex digits a byte: {}", cut(field)));
+    }
+    pairs
+        .iter()
+        .map(|&[high, low]| Some(hex_value(high)? << 4 | hex_value(low)?))
+        .collect::<Option<Vec<u8>>>()
+        .ok_or_else(|| format!("no upper-case hex: {}", cut(field)))
+}
+
+fn hex_value(digit: u8) -> Option<u8> {
+    match digit {
+        b'0'..=b'9' => Some(digit - b'0'),
+        b'A'..=b'F' => Some(digit - b'A' + 10),
+        _ => None,
+    }
+}
+
+/// The beginning of a text, for a message.
+fn cut(text: &str) -> String {
+    let mut shown: String = text.chars().take(60).collect();
+    if shown.len() < text.len() {
+        shown.push_str("..");
+    }
+    shown
+}
+
+/// Bytes as the format writes them.
+struct Hex<'a>(&'a [u8]);
+
+impl fmt::Display for Hex<'_> {
+    fn fmt(&self, f: &mut fmt::Formatter<'_>) -> fmt::Result {
+        if self.0.is_empty() {
+            return f.write_str("-");
+        }
+        const DIGITS: &[u8; 16] = b"0123456789ABCDEF";
+        let digit = |value: u8| DIGITS[usize::from(value)] as char;
+        let mut text = String::with_capacity(2 * self.0.len());
+        for byte in self.0 {
+            text.push(digit(byte >> 4));
+            text.push(digit(byte & 0x0F));
+        }
+        f.write_str(&text)
+    }
+}
+
+impl fmt::Display for Request {
+    fn fmt(&self, f: &mut fmt::Formatter<'_>) -> fmt::Result {
+        let data = Hex(&self.data);
+        match self.leaf {
+            Leaf::Character { ccsid } => write!(f, "T {ccsid} {data}"),
+            Leaf::Graphic { ccsid } => write!(f, "G {ccsid} {data}"),
+            Leaf::Likely => write!(f, "L {data}"),
+            Leaf::Decimal {
+                precision: PRECISION,
+                scale,
+            } => write!(f, "P {scale} {data}"),
+            // The format has no line for these: the call is named, so that no one takes it for a request.
+            Leaf::Decimal { precision, scale } => {
+                write!(f, "decode_packed_decimal({data}, {precision}, {scale})")
+            }
+            Leaf::Locator => write!(f, "format_lob_locator({data})"),
+            Leaf::RowId => write!(f, "format_rowid({data})"),
+        }
+    }
+}
+
+impl fmt::Display for Answer<'_> {
+    fn fmt(&self, f: &mut fmt::Formatter<'_>) -> fmt::Result {
+        match self {
+            Answer::Text(text) => Hex(text).fmt(f),
+            Answer::Truth(likely) => write!(f, "{}", u8::from(*likely)),
+            Answer::Refusal(number) => write!(f, "REFUSE{number}"),
+            Answer::Bad9 => f.write_str("BAD9"),
+            Answer::BadRest => f.write_str("BADREST"),
+        }
+    }
+}
+
+#[cfg(test)]
+mod tests {
+    use super::*;
+
+    #[test]
+    fn requests_come_back_as_they_were() {
+        for line in [
+            "T 1208 C141",
+            "G 13488 0041D800",
+            "G 0 -",
+            "L -",
+            "P 255 1D",
+        ] {
+            assert_eq!(parse(line).unwrap().to_string(), line);
+        }
+    }
+
+    #[test]
+    fn an_answer_behind_the_request_is_dropped() {
+        assert_eq!(parse("T 37 C1 A 41").unwrap().to_string(), "T 37 C1");
+        assert_eq!(parse("P 0 - A REFUSE6").unwrap().to_string(), "P 0 -");
+    }
+
+    #[test]
+    fn other_lines_are_no_requests() {
+        for line in [
+            "",
+            "T",
+            "T 1208",
+            "T 1208 C1 41",
+            "T 1208  C1",
+            "T 1208 c1",
+            "T 1208 C",
+            "T 1208 C14",
+            "T 65536 C1",
+            "T -1 C1",
+            "T +37 C1",
+            "T 037 C1",
+            "P 256 1C",
+            "L 1 00",
+            "L ",
+            "X 00",
+            "# comment",
+            "Q - R -",
+            "H 0 R -",
+            "F Xml",
+        ] {
+            assert!(parse(line).is_err(), "{line}");
+        }
+    }
+
+    #[test]
+    fn answers_are_written_in_the_format() {
+        let written = |answer: Answer| answer.to_string();
+        assert_eq!(
+            written(Answer::Text(vec![0xEF, 0xBF, 0xBD].into())),
+            "EFBFBD"
+        );
+        assert_eq!(written(Answer::Text(Vec::new().into())), "-");
+        assert_eq!(written(Answer::Truth(true)), "1");
+        assert_eq!(written(Answer::Refusal(4)), "REFUSE4");
+        assert_eq!(written(Answer::Bad9), "BAD9");
+        assert_eq!(written(Answer::BadRest), "BADREST");
+    }
+}

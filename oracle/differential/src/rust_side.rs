@@ -1,0 +1,85 @@
+//! The answers of the published Rust. It has no limits of its own: those of the port are applied here, before it is asked.
+use crate::leaf::{Answer, Leaf, DECIMAL_LIMIT, TEXT_LIMIT};
+use db2_proto::fdoca::doors;
+use db2_proto::types::decode_packed_decimal;
+
+/// The refusal that the limits give, if any.
+fn refused(leaf: Leaf, data: &[u8]) -> Option<u32> {
+    match leaf {
+        Leaf::Likely => None,
+        Leaf::Decimal { .. } if data.is_empty() => Some(6),
+        Leaf::Decimal { .. } if data.len() > DECIMAL_LIMIT => Some(7),
+        Leaf::Decimal { .. } => None,
+        _ if data.len() > TEXT_LIMIT => Some(4),
+        _ => None,
+    }
+}
+
+/// The text that the Rust gives, without limits (every leaf but Likely, and no empty packed decimal).
+pub fn text(leaf: Leaf, data: &[u8]) -> String {
+    match leaf {
+        Leaf::Character { ccsid } => doors::decode_character_bytes(data, ccsid),
+        Leaf::Graphic { ccsid } => doors::decode_graphic_bytes(data, ccsid),
+        Leaf::Decimal { precision, scale } => decode_packed_decimal(data, precision, scale)
+            .expect("the Rust refuses no packed decimal that has a byte"),
+        Leaf::Locator => doors::format_lob_locator(data),
+        Leaf::RowId => doors::format_rowid(data),
+        Leaf::Likely => panic!("bytes_are_likely_text gives no text"),
+    }
+}
+
+pub fn likely(data: &[u8]) -> bool {
+    doors::bytes_are_likely_text(data)
+}
+
+pub fn answer(leaf: Leaf, data: &[u8]) -> Answer<'static> {
+    match refused(leaf, data) {
+        Some(number) => Answer::Refusal(number),
+        None if leaf == Leaf::Likely => Answer::Truth(likely(data)),
+        None => Answer::Text(text(leaf, data).into_bytes().into()),
+    }
+}
+
+#[cfg(test)]
+mod tests {
+    use super::*;
+
+    #[test]
+    fn the_limits_stand_where_they_must() {
+        let at = vec![0x41; TEXT_LIMIT];
+        let above = vec![0x41; TEXT_LIMIT + 1];
+        for leaf in [
+            Leaf::Character { ccsid: 1208 },
+            Leaf::Graphic { ccsid: 1200 },
+            Leaf::Locator,
+            Leaf::RowId,
+        ] {
+            assert!(matches!(answer(leaf, &at), Answer::Text(_)));
+            assert_eq!(answer(leaf, &above), Answer::Refusal(4));
+        }
+        assert_eq!(answer(Leaf::Likely, &above), Answer::Truth(true));
+        assert_eq!(answer(Leaf::decimal(0), &[]), Answer::Refusal(6));
+        assert!(matches!(
+            answer(Leaf::decimal(0), &at[..128]),
+            Answer::Text(_)
+        ));
+        assert_eq!(answer(Leaf::decimal(0), &at[..129]), Answer::Refusal(7));
+    }
+
+    /// A few of the published rules' own examples: the doors lead where they say.
+    #[test]
+    fn known_answers() {
+        assert_eq!(
+            text(Leaf::Character { ccsid: 1208 }, &[0xC1, 0x41]),
+            "\u{FFFD}A"
+        );
+        assert_eq!(text(Leaf::Character { ccsid: 37 }, &[0xC1, 0xC2]), "AB");
+        assert_eq!(text(Leaf::Graphic { ccsid: 1200 }, &[0x00, 0x41]), "A");
+        assert_eq!(text(Leaf::Locator, &[0x80]), "LOB locator 0x80");
+        assert_eq!(text(Leaf::RowId, &[0x0A]), "0x0A");
+        assert_eq!(text(Leaf::decimal(2), &[0x00, 0x5C]), "0.05");
+        assert_eq!(text(Leaf::decimal(3), &[0x1C]), "0.001");
+        assert_eq!(text(Leaf::decimal(0), &[0x0D]), "-0");
+        assert_eq!(text(Leaf::decimal(0), &[0x12, 0x3B]), "123");
+    }
+}

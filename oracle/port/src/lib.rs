@@ -1,0 +1,137 @@
+//! The calls of the static library libexported.a. A lent slice goes over the boundary as a pointer and a length; an empty one
+//! still needs a pointer that is not null, and Rust's own, dangling, is one. Every entry that writes a text answers a number
+//! (0 accepted, else the refusal's) and a length (the bytes written; for refusal 9 the bytes needed; else 0).
+
+mod foreign {
+    unsafe extern "C" {
+        pub fn vejupa_decode_character_bytes(
+            data: *const u8,
+            data_length: usize,
+            ccsid: u16,
+            text: *mut u8,
+            text_length: usize,
+            length: *mut u64,
+        ) -> u32;
+        pub fn vejupa_decode_graphic_bytes(
+            data: *const u8,
+            data_length: usize,
+            ccsid: u16,
+            text: *mut u8,
+            text_length: usize,
+            length: *mut u64,
+        ) -> u32;
+        pub fn vejupa_format_lob_locator(
+            data: *const u8,
+            data_length: usize,
+            text: *mut u8,
+            text_length: usize,
+            length: *mut u64,
+        ) -> u32;
+        pub fn vejupa_format_rowid(
+            data: *const u8,
+            data_length: usize,
+            text: *mut u8,
+            text_length: usize,
+            length: *mut u64,
+        ) -> u32;
+        pub fn vejupa_bytes_are_likely_text(data: *const u8, data_length: usize) -> u32;
+        pub fn vejupa_decode_packed_decimal(
+            data: *const u8,
+            data_length: usize,
+            precision: u8,
+            scale: u8,
+            text: *mut u8,
+            text_length: usize,
+            length: *mut u64,
+        ) -> u32;
+    }
+}
+
+/// What a call that writes a text answers.
+#[derive(Debug, Clone, Copy, PartialEq, Eq)]
+pub struct Outcome {
+    /// 0 accepted, else the refusal's number.
+    pub refusal: u32,
+    /// The bytes written; for refusal 9 the bytes needed; else 0.
+    pub length: u64,
+}
+
+/// Lets `call` write its length into a place that holds what no call may leave there, so that a length that is not written
+/// does not look like 0.
+fn outcome(call: impl FnOnce(*mut u64) -> u32) -> Outcome {
+    let mut length = u64::MAX;
+    let refusal = call(&mut length);
+    Outcome { refusal, length }
+}
+
+// SAFETY, for all calls below: both slices are borrowed for the whole call, `text` and `length` for writing and apart from
+// each other and from `data`; the library reads and writes inside of them only, which is proved of it.
+
+pub fn decode_character_bytes(data: &[u8], ccsid: u16, text: &mut [u8]) -> Outcome {
+    outcome(|length| unsafe {
+        foreign::vejupa_decode_character_bytes(
+            data.as_ptr(),
+            data.len(),
+            ccsid,
+            text.as_mut_ptr(),
+            text.len(),
+            length,
+        )
+    })
+}
+
+pub fn decode_graphic_bytes(data: &[u8], ccsid: u16, text: &mut [u8]) -> Outcome {
+    outcome(|length| unsafe {
+        foreign::vejupa_decode_graphic_bytes(
+            data.as_ptr(),
+            data.len(),
+            ccsid,
+            text.as_mut_ptr(),
+            text.len(),
+            length,
+        )
+    })
+}
+
+pub fn format_lob_locator(data: &[u8], text: &mut [u8]) -> Outcome {
+    outcome(|length| unsafe {
+        foreign::vejupa_format_lob_locator(
+            data.as_ptr(),
+            data.len(),
+            text.as_mut_ptr(),
+            text.len(),
+            length,
+        )
+    })
+}
+
+pub fn format_rowid(data: &[u8], text: &mut [u8]) -> Outcome {
+    outcome(|length| unsafe {
+        foreign::vejupa_format_rowid(
+            data.as_ptr(),
+            data.len(),
+            text.as_mut_ptr(),
+            text.len(),
+            length,
+        )
+    })
+}
+
+/// The number as it comes, 0 or 1.
+pub fn bytes_are_likely_text(data: &[u8]) -> u32 {
+    unsafe { foreign::vejupa_bytes_are_likely_text(data.as_ptr(), data.len()) }
+}
+
+pub fn decode_packed_decimal(data: &[u8], precision: u8, scale: u8, text: &mut [u8]) -> Outcome {
+    outcome(|length| unsafe {
+        foreign::vejupa_decode_packed_decimal(
+            data.as_ptr(),
+            data.len(),
+            precision,
+            scale,
+            text.as_mut_ptr(),
+            text.len(),
+            length,
+        )
+    })
+}

@@ -162,11 +162,14 @@ high = range 0xD800 0xDBFF
 abbrev pub low : Range
 low = range 0xDC00 0xDFFF
 
--- a high surrogate u, and then us: with a low surrogate one scalar value, by Table 3-5; else it is unpaired
+-- D75 and Table 3-5: the scalar value of a surrogate pair
+abbrev pub pairValue : ℕ → ℕ → ℕ
+pairValue u v = 0x10000 + (u - 0xD800) * 0x400 + (v - 0xDC00)
+
+-- a high surrogate u, and then us: with a low surrogate it is a pair, else it is unpaired
 unfoldable pub pairOf : ℕ → List ℕ → First
 pairOf u [] = record { piece = malformed; more = zero }
-pairOf u (v ∷ us) =
-    cond (within v low) (record { piece = scalar (0x10000 + (u - 0xD800) * 0x400 + (v - 0xDC00)); more = 1 }) (record { piece = malformed; more = zero })
+pairOf u (v ∷ us) = cond (within v low) (record { piece = scalar (pairValue u v); more = 1 }) (record { piece = malformed; more = zero })
 
 -- What the unit u, and then us, begin with: a surrogate pair is one scalar value, an unpaired surrogate a maximal subpart (D93b) of one unit, and any
 -- other unit is the scalar value of its number

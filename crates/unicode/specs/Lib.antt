@@ -1,3 +1,4 @@
 pub mod Unicode
 pub mod Likely
+pub mod Laws
 pub mod Examples

@@ -1,6 +1,7 @@
--- Text as the Unicode Standard has it, chapter 3, section 3.9 "Unicode Encoding Forms", over lists of code units.
--- A conversion reads code units as a list of pieces: a scalar value, or a malformed part that stands for one U+FFFD.
--- Assumes nothing.
+-- Text as the Unicode Standard defines it, chapter 3, sections 3.9 "Unicode Encoding Forms" and 3.10 "Unicode Encoding Schemes".
+-- Definitions (D76 ..) and tables (3-4 ..) are cited by the numbers of Version 15.0. Code points, code units and bytes are numbers.
+-- Code units are read as a list of pieces: a scalar value, or a malformed part, which U+FFFD replaces. Laws.antt has what holds of it,
+-- Examples.antt the Standard's own examples. Assumes nothing.
 use Prim.Native.Nat.{ℕ, zero, suc, _+_, _*_, _-_, _/_, _%_}
 use mathlib.Core.Bool.{Bool, true, false, cond}
 use mathlib.Core.List.{List, [], _∷_, _++_}
@@ -8,12 +9,31 @@ use mathlib.Core.Option.{Option, none, some}
 use lib.Dec.{leb, ltb, eqb}
 use lib.ListN.{length, take}
 
--- `scalar v` is the scalar value v. `malformed` is a part that encodes none, and is replaced
+-- ---- scalar values
+
+-- the numbers from low to high, both included
+pub record Range : Type 0 where
+  pub low : ℕ
+  pub high : ℕ
+
+abbrev pub range : ℕ → ℕ → Range
+range a b = record { low = a; high = b }
+
+unfoldable pub within : ℕ → Range → Bool
+within b r = cond (leb (r .low) b) (leb b (r .high)) false
+
+-- D76, Unicode scalar value: 0 to D7FF and E000 to 10FFFF, the code points that are no surrogates
+unfoldable pub isScalarValue : ℕ → Bool
+isScalarValue v = cond (within v (range 0x0 0xD7FF)) true (within v (range 0xE000 0x10FFFF))
+
+-- ---- pieces, and their text
+
+-- `scalar v` is the scalar value v. `malformed` is a part that encodes none
 pub data Piece : Type 0 where
   scalar : ℕ → Piece
   malformed : Piece
 
--- Table 3-6, UTF-8 bit distribution: the bytes of a scalar value
+-- D92 and Table 3-6, UTF-8 Bit Distribution: the bytes of a scalar value
 unfoldable pub utf8 : ℕ → List ℕ
 utf8 v =
     cond (ltb v 0x80) (v ∷ [])
@@ -25,7 +45,7 @@ utf8 v =
 abbrev pub replacement : ℕ
 replacement = 0xFFFD
 
--- the UTF-8 bytes of a piece, and of a list of pieces
+-- The UTF-8 text of a piece, and of a list of pieces. One U+FFFD for each malformed part: section 3.9, "U+FFFD Substitution of Maximal Subparts"
 unfoldable pub pieceText : Piece → List ℕ
 pieceText (scalar v) = utf8 v
 pieceText malformed = utf8 replacement
@@ -34,7 +54,7 @@ unfoldable pub textOf : List Piece → List ℕ
 textOf [] = []
 textOf (p ∷ ps) = pieceText p ++ textOf ps
 
--- how many parts of the input were replaced
+-- how many parts are replaced in that text
 abbrev pub one : Piece → ℕ
 one (scalar v) = 0
 one malformed = 1
@@ -45,7 +65,7 @@ replaced (p ∷ ps) = one p + replaced ps
 
 -- ---- reading, piece by piece
 
--- what a sequence of code units begins with, and how many units that takes after the first
+-- the piece that a sequence of code units begins with, and how many units that takes after the first
 pub record First : Type 0 where
   pub piece : Piece
   pub more : ℕ
@@ -56,23 +76,13 @@ readFrom first k [] = []
 readFrom first zero (u ∷ us) = first u us .piece ∷ readFrom first (first u us .more) us
 readFrom first (suc k) (u ∷ us) = readFrom first k us
 
--- ---- UTF-8
+-- ---- UTF-8: D92
 
-pub record Range : Type 0 where
-  pub low : ℕ
-  pub high : ℕ
-
--- a row of Table 3-7: the range of the first byte, that byte with its value bits zero (Table 3-6), and the ranges of the bytes after it
+-- A row of Table 3-7: the range of the first byte, and the ranges of the bytes after it. `base` is the first byte's fixed bits, of Table 3-6
 pub record Row : Type 0 where
   pub first : Range
   pub base : ℕ
   pub trails : List Range
-
-unfoldable pub within : ℕ → Range → Bool
-within b r = cond (leb (r .low) b) (leb b (r .high)) false
-
-abbrev pub range : ℕ → ℕ → Range
-range a b = record { low = a; high = b }
 
 abbrev pub row : Range → ℕ → List Range → Row
 row f b ts = record { first = f; base = b; trails = ts }
@@ -94,7 +104,7 @@ table-3-7 =
     ∷ row (range 0xF4 0xF4) 0xF0 (range 0x80 0x8F ∷ trail ∷ trail ∷ [])
     ∷ []
 
--- the row whose first byte is b, if there is one
+-- the row that the byte b begins, if there is one
 unfoldable pub rowIn : List Row → ℕ → Option Row
 rowIn [] b = none
 rowIn (r ∷ rs) b = cond (within b (r .first)) (some r) (rowIn rs b)
@@ -105,13 +115,13 @@ fit [] bs = zero
 fit (r ∷ rs) [] = zero
 fit (r ∷ rs) (b ∷ bs) = cond (within b r) (suc (fit rs bs)) zero
 
--- the scalar value of a sequence: the first byte's value bits, then six bits of each byte after it
+-- the scalar value of a sequence, by Table 3-6: the first byte's free bits, then the low six bits of each byte after it
 unfoldable pub value : ℕ → List ℕ → ℕ
 value v [] = v
 value v (t ∷ ts) = value (v * 64 + (t - 0x80)) ts
 
--- A well-formed sequence is a scalar value. Else it is the maximal subpart of D93b, "U+FFFD Substitution of Maximal Subparts":
--- the longest beginning of a row of Table 3-7, or one byte where no row begins so
+-- What the byte b, and then bs, begin with, where the row of b is given: the scalar value where the row is filled, else the maximal subpart of
+-- D93b, which is as much of the row as is there, or one byte where b begins no row
 unfoldable pub firstBy : Option Row → ℕ → List ℕ → First
 firstBy none b bs = record { piece = malformed; more = zero }
 firstBy (some r) b bs =
@@ -124,37 +134,51 @@ firstOf b bs = firstBy (rowIn table-3-7 b) b bs
 abbrev pub utf8Pieces : List ℕ → List Piece
 utf8Pieces s = readFrom firstOf 0 s
 
--- the text of a UTF-8 byte sequence
+-- the text of UTF-8 bytes
 unfoldable pub utf8Text : List ℕ → List ℕ
 utf8Text s = textOf (utf8Pieces s)
 
--- ---- UTF-16, big-endian
+-- ---- UTF-16: D91, and big-endian in bytes, D96
 
--- the code units of a byte sequence
+-- D91 and Table 3-5, UTF-16 Bit Distribution: the code units of a scalar value
+unfoldable pub utf16 : ℕ → List ℕ
+utf16 v = cond (ltb v 0x10000) (v ∷ []) ((0xD800 + (v - 0x10000) / 0x400) ∷ (0xDC00 + (v - 0x10000) % 0x400) ∷ [])
+
+-- D96, UTF-16BE: the bytes of code units, the most significant first
+unfoldable pub bigEndian : List ℕ → List ℕ
+bigEndian [] = []
+bigEndian (u ∷ us) = u / 256 ∷ u % 256 ∷ bigEndian us
+
+-- the code units of such bytes; a last byte that is alone makes none (document 01 reads UTF-16 only where the byte count is even)
 unfoldable pub units : List ℕ → List ℕ
 units [] = []
 units (a ∷ []) = []
 units (a ∷ b ∷ bs) = (a * 256 + b) ∷ units bs
 
+-- D72, high-surrogate, and D74, low-surrogate code unit
 abbrev pub high : Range
 high = range 0xD800 0xDBFF
 
 abbrev pub low : Range
 low = range 0xDC00 0xDFFF
 
--- Table 3-5, UTF-16 bit distribution: a surrogate pair is one scalar value, and any other unit that is no surrogate is one;
--- an unpaired surrogate is replaced
+-- D75 and Table 3-5: the scalar value of a surrogate pair
+abbrev pub pairValue : ℕ → ℕ → ℕ
+pairValue u v = 0x10000 + (u - 0xD800) * 0x400 + (v - 0xDC00)
+
+-- a high surrogate u, and then us: with a low surrogate it is a pair, else it is unpaired
 unfoldable pub pairOf : ℕ → List ℕ → First
 pairOf u [] = record { piece = malformed; more = zero }
-pairOf u (v ∷ us) =
-    cond (within v low) (record { piece = scalar (0x10000 + (u - 0xD800) * 0x400 + (v - 0xDC00)); more = 1 }) (record { piece = malformed; more = zero })
+pairOf u (v ∷ us) = cond (within v low) (record { piece = scalar (pairValue u v); more = 1 }) (record { piece = malformed; more = zero })
 
+-- What the unit u, and then us, begin with: a surrogate pair is one scalar value, an unpaired surrogate a maximal subpart (D93b) of one unit, and any
+-- other unit is the scalar value of its number
 unfoldable pub unitOf : ℕ → List ℕ → First
 unitOf u us = cond (within u high) (pairOf u us) (record { piece = cond (within u low) malformed (scalar u); more = zero })
 
 abbrev pub utf16Pieces : List ℕ → List Piece
 utf16Pieces s = readFrom unitOf 0 (units s)
 
--- the text of a big-endian UTF-16 byte sequence
+-- the text, in UTF-8, of big-endian UTF-16 bytes
 unfoldable pub utf16Text : List ℕ → List ℕ
 utf16Text s = textOf (utf16Pieces s)

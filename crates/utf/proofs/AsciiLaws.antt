@@ -6,9 +6,10 @@ use mathlib.Core.Path.{_≡_, refl, sym, ap, subst, _∙_}
 use native.Mathlib.Omega.{arith}
 use native.Mathlib.Numerals.{add-one}
 use borrow.Author.Tests.{ltb-true, ltb-false, lt-ltb, le-ltb, le-leb, lt-leb, not-true, not-false}
+use lib.Bits.{bitOr, or-add-and, and-le-l, and-le-r}
 use lib.Dec.{T, ltb, leb}
 use lib.ListN.{length, take, drop, getD, length-drop}
-use lib.Seq.{take-suc, take-add}
+use lib.Seq.{take-suc, take-add, take-all}
 use Rattle.utf.specs.Ascii.{allAscii, AsciiRun}
 
 -- ---- a whole list, read from its first byte on, with the largest byte so far
@@ -55,6 +56,13 @@ some-high h x e q = not-true x (sym e ∙ q)
 
 -- ---- runs
 
+-- what is lent as `&s[i..]` is what is left
+pub rest : (s : List ℕ) (i : ℕ) → take (length s - i) (drop i s) ≡ drop i s
+rest s i = take-all (length s - i) (drop i s) (omega (arith, length-drop i s))
+
+pub rest-length : (s : List ℕ) (i : ℕ) → length (take (length s - i) (drop i s)) ≡ length s - i
+rest-length s i = ap length (rest s i) ∙ length-drop i s
+
 ascii-append : (a b : List ℕ) → allAscii a ≡ true → allAscii b ≡ true → allAscii (a ++ b) ≡ true
 unfolding allAscii
 ascii-append [] b e q = q
@@ -68,11 +76,12 @@ pub run-none : (s : List ℕ) → AsciiRun 0 s
 unfolding allAscii
 run-none s = record { fits = omega arith; ascii = refl }
 
--- a block more
-pub run-block : (i e : ℕ) (s : List ℕ) → AsciiRun i s → i ≤ e → e ≤ length s → allAscii (take (e - i) (drop i s)) ≡ true → AsciiRun e s
-run-block i e s r h k q =
-    let z : i + (e - i) ≡ e = omega arith in
-    record { fits = k; ascii = rw (← z, take-add i (e - i) s) (ascii-append (take i s) (take (e - i) (drop i s)) (r .ascii) q) }
+-- a run, and another after it
+pub run-more : (n m : ℕ) (s : List ℕ) → AsciiRun n s → AsciiRun m (drop n s) → AsciiRun (n + m) s
+run-more n m s r q = record {
+  fits = omega (arith, r .fits, q .fits, length-drop n s);
+  ascii = rw (take-add n m s) (ascii-append (take n s) (take m (drop n s)) (r .ascii) (q .ascii));
+}
 
 -- a byte more
 pub run-byte : (i : ℕ) (s : List ℕ) → AsciiRun i s → i < length s → getD s i 0 < 0x80 → AsciiRun (i + 1) s
@@ -90,3 +99,24 @@ run-first b bs n r = go (ltb b 0x80) refl
     go : (t : Bool) → ltb b 0x80 ≡ t → (b < 0x80) × AsciiRun n bs
     go true k = (ltb-true b 0x80 k, record { fits = omega (arith, r .fits); ascii = rw k at (r .ascii) })
     go false k = absurd (subst T (sym (rw k at (r .ascii))) tt)
+
+-- ---- eight bytes at once
+
+below-or : (a b : ℕ) → bitOr a b < 0x80 → (a < 0x80) × (b < 0x80)
+below-or a b h = (omega (arith, or-add-and a b, and-le-r a b), omega (arith, or-add-and a b, and-le-l a b))
+
+-- the bitwise or of four bytes
+abbrev pub or4 : List ℕ → ℕ → ℕ → ℕ → ℕ → ℕ
+or4 s i j k l = bitOr (bitOr (bitOr (getD s i 0) (getD s j 0)) (getD s k 0)) (getD s l 0)
+
+four : (i : ℕ) (s : List ℕ) → i + 4 ≤ length s → AsciiRun i s → or4 s i (i + 1) (i + 1 + 1) (i + 1 + 1 + 1) < 0x80 → AsciiRun (i + 1 + 1 + 1 + 1) s
+four i s h r q =
+    let x : (bitOr (bitOr (getD s i 0) (getD s (i + 1) 0)) (getD s (i + 1 + 1) 0) < 0x80) × (getD s (i + 1 + 1 + 1) 0 < 0x80) = below-or _ _ q in
+    let y : (bitOr (getD s i 0) (getD s (i + 1) 0) < 0x80) × (getD s (i + 1 + 1) 0 < 0x80) = below-or _ _ (x .0) in
+    let z : (getD s i 0 < 0x80) × (getD s (i + 1) 0 < 0x80) = below-or _ _ (y .0) in
+    run-byte _ s (run-byte _ s (run-byte _ s (run-byte i s r (omega arith) (z .0)) (omega arith) (z .1)) (omega arith) (y .1)) (omega arith) (x .1)
+
+pub eight : (s : List ℕ) → 8 ≤ length s → bitOr (or4 s 0 1 2 3) (or4 s 4 5 6 7) < 0x80 → AsciiRun 8 s
+eight s h q =
+    let x = below-or (or4 s 0 1 2 3) (or4 s 4 5 6 7) q in
+    four 4 s (omega arith) (four 0 s (omega arith) (run-none s) (x .0)) (x .1)

@@ -5,13 +5,15 @@ use mathlib.Core.List.{List, [], _∷_, _++_}
 use mathlib.Core.Path.{_≡_, refl, sym, ap, _∙_}
 use native.Mathlib.Omega.{arith}
 use native.Mathlib.Numerals.{add-one, add-two}
-use borrow.Author.Tests.{le-leb, lt-leb}
+use borrow.Author.Tests.{leb-true, leb-false}
+use lib.Dec.{leb}
 use lib.ListN.{length, drop, getD, length-drop, drop-of-length-le, length-append}
 use lib.Seq.{drop-cons}
 use Rattle.unicode.specs.Unicode.{Piece, scalar, malformed, utf8, pieceText, textOf, Range, range, within, First, readFrom, units, high, low, pairOf, unitOf, utf16Pieces}
 use Rattle.utf.specs.Utf16Code.{unitAt, Utf16Next}
 use Rattle.unicode.specs.Unicode.{utf16Text}
 use Rattle.unicode.proofs.Reading.{read-cons}
+use Rattle.unicode.proofs.ScalarBytes.{utf8-one, utf8-two, utf8-three, utf8-four}
 use Rattle.utf.proofs.Utf8Laws.{past, short, inside}
 
 -- two bytes are a unit
@@ -105,3 +107,44 @@ module _ (s : List ℕ) (i : ℕ) (h : i + 1 < length s) where
           some = omega arith;
           scalar = omega arith;
         }
+
+-- ---- how many bytes of the text a unit stands for, where a high surrogate before a low one has one, and the low one three, as if it were alone
+
+abbrev UnitLength : List ℕ → ℕ → ℕ → Type 0
+UnitLength s i n = length (utf16Text (drop i s)) ≡ n + length (utf16Text (drop (i + 2) s))
+
+by-value : (s : List ℕ) (i v n : ℕ) → Utf16Next s i v 2 → length (utf8 v) ≡ n → UnitLength s i n
+by-value s i v n t e = ap length (t .here) ∙ length-append (utf8 v) _ ∙ rw e
+
+pub replaced-length : (s : List ℕ) (i : ℕ) → Utf16Next s i 0xFFFD 2 → UnitLength s i 3
+unfolding utf8
+replaced-length s i t = by-value s i 0xFFFD 3 t refl
+
+module _ (s : List ℕ) (i : ℕ) (h : i + 1 < length s) (u : ℕ) (q : u ≡ unitAt s i) where
+  pub one-byte : u < 0x80 → UnitLength s i 1
+  one-byte k = by-value s i u 1 (below-surrogates s i h u q (omega arith)) (ap length (utf8-one u k))
+
+  pub two-bytes : 0x80 ≤ u → u < 0x800 → UnitLength s i 2
+  two-bytes k l = by-value s i u 2 (below-surrogates s i h u q (omega arith)) (ap length (utf8-two u k l))
+
+  pub three-bytes : 0x800 ≤ u → u < 0xD800 → UnitLength s i 3
+  three-bytes k l = by-value s i u 3 (below-surrogates s i h u q l) (ap length (utf8-three u k (omega arith)))
+
+  -- a low surrogate that is read by itself, or a unit above the surrogates
+  pub low-or-above : 0xDC00 ≤ u → u < 0x10000 → UnitLength s i 3
+  low-or-above k l = go (leb u 0xDFFF) refl
+    where
+      go : (t : Bool) → leb u 0xDFFF ≡ t → UnitLength s i 3
+      go true e = replaced-length s i (low-alone s i h u q k (leb-true u 0xDFFF e))
+      go false e =
+          let m : 0xDFFF < u = leb-false u 0xDFFF e in
+          by-value s i u 3 (above-surrogates s i h u q m l) (ap length (utf8-three u (omega arith) l))
+
+pub pair-length : (s : List ℕ) (i : ℕ) (h : i + 1 < length s) (u : ℕ) (q : u ≡ unitAt s i) → 0xD800 ≤ u → u < 0xDC00 → i + 3 < length s
+    → (v : ℕ) → v ≡ unitAt s (i + 2) → 0xDC00 ≤ v → v ≤ 0xDFFF → UnitLength s i 1
+pair-length s i h u q k l m v r x y =
+    let w : ℕ = 0x10000 + (u - 0xD800) * 0x400 + (v - 0xDC00) in
+    let t = pair s i h u q k l m v r x y in
+    let e : i + 2 + 2 ≡ i + 4 = omega arith in
+    let low : length (utf16Text (drop (i + 2) s)) ≡ 3 + length (utf16Text (drop (i + 4) s)) = rw e at (low-or-above s (i + 2) (omega arith) v r x (omega arith)) in
+    omega (arith, ap length (t .here), length-append (utf8 w) (utf16Text (drop (i + 4) s)), ap length (utf8-four w (omega arith)), low)

@@ -12,7 +12,7 @@ use lib.Dec.{leb, ltb, eqb}
 use lib.ListN.{replicate, length, take, drop, getD, drop-of-length-le, length-replicate}
 use lib.Seq.{drop-cons, drop-nil}
 use Rattle.unicode.specs.Unicode.{Piece, scalar, malformed, utf8, pieceText, textOf, Range, Row, range, row, trail, within, table-3-7, rowIn, fit, value, First, firstBy, firstOf, utf8Pieces}
-use Rattle.utf.specs.Utf8Code.{trailAt, firstAt, isScalar, ranges, Common}
+use Rattle.utf.specs.Utf8Code.{trailAt, firstAt, isScalar, ranges, PieceAt, TrailsAt, Coded, Common}
 use Rattle.unicode.specs.Unicode.{utf8Text}
 
 -- ---- which row of the table a byte begins
@@ -77,26 +77,22 @@ isScalar-cond : (t : Bool) (v : ℕ) → isScalar (cond t (scalar v) malformed) 
 isScalar-cond true v = refl
 isScalar-cond false v = refl
 
--- the answer `len`, `ok` for a position
-abbrev pub Answer : List ℕ → ℕ → ℕ → Bool → Type 0
-Answer s i len ok = (len ≡ suc (firstAt s i .more)) × (ok ≡ isScalar (firstAt s i .piece))
-
-by-row : (s : List ℕ) (i : ℕ) (r : Row) → rowIn table-3-7 (getD s i 0) ≡ some r → (n : ℕ) → n ≡ fit (r .trails) (drop (suc i) s) → Answer s i (suc n) (eqb n (length (r .trails)))
+by-row : (s : List ℕ) (i : ℕ) (r : Row) → rowIn table-3-7 (getD s i 0) ≡ some r → (n : ℕ) → n ≡ fit (r .trails) (drop (suc i) s) → PieceAt s i (suc n) (eqb n (length (r .trails)))
 unfolding firstAt firstOf firstBy
 by-row s i r e n q = rw (e, q) (refl, sym (isScalar-cond (eqb (fit (r .trails) (drop (suc i) s)) (length (r .trails))) _))
 
 pub step-row : (s : List ℕ) (i k low high n len : ℕ) (ok : Bool) → Passed table-3-7 k (getD s i 0) → getD table-3-7 k dummy .trails ≡ ranges low high n
-    → len ≡ suc (fit (ranges low high n) (drop (suc i) s)) → ok ≡ eqb (fit (ranges low high n) (drop (suc i) s)) (suc n) → Answer s i len ok
+    → len ≡ suc (fit (ranges low high n) (drop (suc i) s)) → ok ≡ eqb (fit (ranges low high n) (drop (suc i) s)) (suc n) → PieceAt s i len ok
 unfolding ranges
 step-row s i k low high n len ok h e l o =
     let q : suc n ≡ length (getD table-3-7 k dummy .trails) = ap suc (sym (length-replicate n trail)) ∙ ap length (sym e) in
     rw (l, o, q, ← e) (by-row s i (getD table-3-7 k dummy) (row-at table-3-7 k (getD s i 0) h) (fit (getD table-3-7 k dummy .trails) (drop (suc i) s)) refl)
 
-pub step-ascii : (s : List ℕ) (i : ℕ) → getD s i 0 < 128 → Answer s i 1 true
+pub step-ascii : (s : List ℕ) (i : ℕ) → getD s i 0 < 128 → PieceAt s i 1 true
 unfolding fit
 step-ascii s i h = by-row s i (row (range 0x00 0x7F) 0x00 []) (row-at table-3-7 0 (getD s i 0) (omega arith)) 0 refl
 
-pub step-none : (s : List ℕ) (i k : ℕ) → Between table-3-7 k (getD s i 0) → Answer s i 1 false
+pub step-none : (s : List ℕ) (i k : ℕ) → Between table-3-7 k (getD s i 0) → PieceAt s i 1 false
 unfolding firstAt firstOf firstBy
 step-none s i k h = rw (row-none table-3-7 k (getD s i 0) h) (refl, refl)
 
@@ -111,9 +107,8 @@ trail-fits : (s : List ℕ) (j n : ℕ) → trailAt s j 0x80 0xBF ≡ true → f
 trail-fits s j n e = rw (fit-at trail (replicate n trail) s j, e)
 
 module _ (s : List ℕ) (i low high n : ℕ) where
-  -- the answer `len`, `ok` for the sequence that begins at i
-  abbrev pub Sequence : ℕ → Bool → Type 0
-  Sequence len ok = (len ≡ suc (fit (ranges low high n) (drop (suc i) s))) × (ok ≡ eqb (fit (ranges low high n) (drop (suc i) s)) (suc n))
+  abbrev Sequence : ℕ → Bool → Type 0
+  Sequence = TrailsAt s i low high n
 
   broken : (m : ℕ) → fit (ranges low high n) (drop (suc i) s) ≡ m → m < suc n → Sequence (suc m) false
   broken m e h = rw e (refl, sym (ne-eqb m (suc n) (omega arith)))
@@ -152,29 +147,51 @@ module _ (s : List ℕ) (i low high n : ℕ) where
       unfolding fit
       last-4 e3 z = whole 3 (second-fits 1 z ∙ ap (λ (k : ℕ). suc (suc k)) (trail-fits s (i + 3) 0 e3)) (omega arith)
 
+-- ---- findings as numbers
+
+module _ {P : ℕ → Bool → Type 0} where
+  pub well-formed : (n : ℕ) → n < 8 → P n true → Coded P n
+  well-formed n h p = record { whole = λ k. p; broken = λ k. let z : ⊥ = omega arith in absurd z }
+
+  pub ill-formed : (n : ℕ) → P n false → Coded P (n + 8)
+  ill-formed n p = record { whole = λ k. let z : ⊥ = omega arith in absurd z; broken = λ k. let e : n + 8 - 8 ≡ n = omega arith in rw e p }
+
+  pub recoded : {Q : ℕ → Bool → Type 0} {r : ℕ} → ((n : ℕ) (ok : Bool) → P n ok → Q n ok) → Coded P r → Coded Q r
+  recoded f d = record { whole = λ k. f _ _ (d .whole k); broken = λ k. f _ _ (d .broken k) }
+
+-- what a row of the table says, by the bytes after the first
+pub by-trails : (s : List ℕ) (i k low high n : ℕ) {r : ℕ} → Passed table-3-7 k (getD s i 0) → getD table-3-7 k dummy .trails ≡ ranges low high n
+    → Coded (TrailsAt s i low high n) r → Coded (PieceAt s i) r
+by-trails s i k low high n h e d = recoded (λ m ok t. step-row s i k low high n m ok h e (t .0) (t .1)) d
+
 -- ---- the common sequences: two bytes, and three but for E0 and ED
 
 pub said-nothing : (s : List ℕ) (i : ℕ) → Common s i 0
-said-nothing s i = record { length = λ h. omega arith; whole = λ h. let z : ⊥ = omega arith in absurd z }
+said-nothing s i = record { small = omega arith; piece = λ h. let z : ⊥ = omega arith in absurd z }
 
-common : (s : List ℕ) (i n : ℕ) → Answer s i n true → Common s i n
-common s i n a = record { length = λ h. a .0; whole = λ h. a .1 }
+common : (s : List ℕ) (i n : ℕ) → n < 8 → PieceAt s i n true → Common s i n
+common s i n h a = record { small = h; piece = λ k. a }
+
+-- a trail byte that is there
+pub there : (s : List ℕ) (j : ℕ) → j < length s → within (getD s j 0) trail ≡ true → trailAt s j 0x80 0xBF ≡ true
+unfolding trailAt
+there s j h e = rw (lt-ltb j (length s) h) e
 
 module _ (s : List ℕ) (i : ℕ) (e1 : trailAt s (i + 1) 0x80 0xBF ≡ true) where
   pub common-2 : 0xC2 ≤ getD s i 0 → getD s i 0 < 0xE0 → Common s i 2
   unfolding ranges
   common-2 h k =
       let a = last-2 s i 0x80 0xBF 0 e1 refl in
-      common s i 2 (step-row s i 1 0x80 0xBF 0 2 true (omega arith) refl (a .0) (a .1))
+      common s i 2 (omega arith) (step-row s i 1 0x80 0xBF 0 2 true (omega arith) refl (a .0) (a .1))
 
   pub common-3 : trailAt s (i + 2) 0x80 0xBF ≡ true → 0xE1 ≤ getD s i 0 → getD s i 0 < 0xF0 → (getD s i 0 ≡ 0xED → ⊥) → Common s i 3
   unfolding ranges
-  common-3 e2 h k l = common s i 3 (go (ltb (getD s i 0) 0xED) refl)
+  common-3 e2 h k l = common s i 3 (omega arith) (go (ltb (getD s i 0) 0xED) refl)
     where
-      a : Sequence s i 0x80 0xBF 1 3 true
+      a : TrailsAt s i 0x80 0xBF 1 3 true
       a = last-3 s i 0x80 0xBF 1 e1 e2 refl
 
-      go : (t : Bool) → ltb (getD s i 0) 0xED ≡ t → Answer s i 3 true
+      go : (t : Bool) → ltb (getD s i 0) 0xED ≡ t → PieceAt s i 3 true
       go true p =
           let q : getD s i 0 < 0xED = ltb-true (getD s i 0) 0xED p in
           step-row s i 3 0x80 0xBF 1 3 true (omega arith) refl (a .0) (a .1)

@@ -10,14 +10,15 @@ use native.Mathlib.Numerals.{add-one}
 use borrow.Author.Tests.{ltb-true, ltb-false, leb-true}
 use lib.Dec.{T}
 use lib.ListN.{length, take, drop, getD, length-drop, drop-of-length-le, length-append}
-use lib.Seq.{drop-cons, drop-drop, take-add, take-all, length-take-le, drop-length}
+use lib.Seq.{drop-cons, drop-drop, take-add, take-at, length-take-le}
 use Rattle.unicode.specs.Unicode.{Piece, scalar, malformed, utf8, pieceText, textOf, one, replaced, Range, Row, within, fit, First, firstBy, firstOf, rowIn, table-3-7, readFrom, utf8Pieces}
-use Rattle.utf.specs.Utf8Code.{firstAt, isScalar, Good, Stop, Advance}
+use Rattle.utf.specs.Utf8Code.{firstAt, isScalar, PieceAt, Good, Stop}
 use Rattle.unicode.specs.Unicode.{utf8Text}
 use Rattle.utf.specs.Ascii.{AsciiRun}
-use Rattle.utf.proofs.AsciiLaws.{run-first}
+use Rattle.utf.proofs.AsciiLaws.{run-first, rest}
 use Rattle.utf.proofs.Utf8Laws.{step-ascii}
-use Rattle.buffer.proofs.Writing.{next}
+use Rattle.buffer.specs.Buffer.{written}
+use Rattle.buffer.proofs.Writing.{Writing, wrote-first, wrote-rest, fits-rest, next}
 use Rattle.unicode.proofs.Reading.{read-cons, text-append, replaced-append}
 use Rattle.unicode.proofs.Utf8Bytes.{first-text}
 
@@ -97,35 +98,67 @@ stop-end n l g h = record {
 
 -- ---- the text of a run and of what follows it
 
--- a part that goes to the end is what is left
-pub rest : (s : List ℕ) (i : ℕ) → take (length s - i) (drop i s) ≡ drop i s
-rest s i = take-all (length s - i) (drop i s) (omega (arith, length-drop i s))
-
 pub good-text : (n : ℕ) (l : List ℕ) → Good n l → utf8Text l ≡ take n l ++ utf8Text (drop n l)
 unfolding utf8Text
 good-text n l g = rw (g .split) (text-append (g .ps) (utf8Pieces (drop n l)) ∙ rw (g .text))
 
-module _ (s : List ℕ) (i e bad : ℕ) (t : Stop e bad (drop i s)) where
-  pub text-done : bad ≡ 0 → utf8Text (drop e (drop i s)) ≡ []
-  unfolding utf8Text readFrom textOf
-  text-done z = rw (t .done z, drop-length (drop i s))
+-- the text at i, where the next n bytes are a run
+pub run-text : (s : List ℕ) (i n : ℕ) → Good n (drop i s) → utf8Text (drop i s) ≡ take n (drop i s) ++ utf8Text (drop (i + n) s)
+run-text s i n g = good-text n (drop i s) g ∙ rw (drop-drop n i s)
 
-  pub text-part : 0 < bad → utf8Text (drop e (drop i s)) ≡ utf8 0xFFFD ++ utf8Text (drop (i + (e + bad)) s)
-  unfolding utf8Text textOf pieceText
-  text-part h = rw (t .part h, drop-drop (e + bad) i s)
+-- the text of the piece at i, and of what follows it
+module _ (s : List ℕ) (i n : ℕ) (ok : Bool) (h : i < length s) (p : PieceAt s i n ok) where
+  pub piece-text : utf8Text (drop i s) ≡ pieceText (firstAt s i .piece) ++ utf8Text (drop (i + n) s)
+  unfolding utf8Text textOf firstAt
+  piece-text =
+      let m : ℕ = firstOf (getD s i 0) (drop (suc i) s) .more in
+      let q : suc i + m ≡ i + n = omega (arith, p .0) in
+      rw (drop-cons s i 0 h, read-cons firstOf (getD s i 0) (drop (suc i) s), drop-drop m (suc i) s, q)
 
-  module _ (g : Good e (drop i s)) where
-    split-length : length (utf8Text (drop i s)) ≡ e + length (utf8Text (drop e (drop i s)))
-    split-length =
-        ap length (good-text e (drop i s) g) ∙ length-append (take e (drop i s)) (utf8Text (drop e (drop i s)))
-        ∙ ap (λ (n : ℕ). n + length (utf8Text (drop e (drop i s)))) (length-take-le e (drop i s) (g .fits))
+  pub piece-fits : i + n ≤ length s
+  unfolding firstAt
+  piece-fits = omega (arith, p .0, length-drop (suc i) s, more-length (getD s i 0) (drop (suc i) s))
 
-    pub length-done : bad ≡ 0 → length (utf8Text (drop i s)) ≡ e
-    length-done z = omega (arith, split-length, ap length (text-done z))
+-- a scalar value is its own bytes, and a malformed part U+FFFD
+own-bytes : (b : ℕ) (bs : List ℕ) (p : Piece) → firstOf b bs .piece ≡ p → isScalar p ≡ true → pieceText p ≡ take (suc (firstOf b bs .more)) (b ∷ bs)
+unfolding pieceText
+own-bytes b bs (scalar v) e q = first-text b bs v e
+own-bytes b bs malformed e q = absurd (subst T (sym q) tt)
 
-    pub length-part : 0 < bad → length (utf8Text (drop i s)) ≡ e + 3 + length (utf8Text (drop (i + (e + bad)) s))
-    unfolding utf8
-    length-part h = omega (arith, split-length, ap length (text-part h))
+replaced-text : (p : Piece) → isScalar p ≡ false → pieceText p ≡ utf8 0xFFFD
+unfolding pieceText
+replaced-text (scalar v) q = absurd (subst T q tt)
+replaced-text malformed q = refl
+
+module _ (s : List ℕ) (i n : ℕ) where
+  pub whole-text : i < length s → PieceAt s i n true → pieceText (firstAt s i .piece) ≡ take n (drop i s)
+  unfolding firstAt
+  whole-text h p = own-bytes (getD s i 0) (drop (suc i) s) _ refl (sym (p .1)) ∙ rw (p .0, drop-cons s i 0 h)
+
+  pub whole-length : i < length s → PieceAt s i n true → length (pieceText (firstAt s i .piece)) ≡ n
+  whole-length h p = ap length (whole-text h p) ∙ length-take-le n (drop i s) (omega (arith, length-drop i s, piece-fits s i n true h p))
+
+  pub broken-text : PieceAt s i n false → pieceText (firstAt s i .piece) ≡ utf8 0xFFFD
+  broken-text p = replaced-text (firstAt s i .piece) (sym (p .1))
+
+  pub broken-length : PieceAt s i n false → length (pieceText (firstAt s i .piece)) ≡ 3
+  unfolding utf8
+  broken-length p = ap length (broken-text p)
+
+-- lengths
+pub run-length : (s : List ℕ) (i n : ℕ) → Good n (drop i s) → length (utf8Text (drop i s)) ≡ n + length (utf8Text (drop (i + n) s))
+run-length s i n g = ap length (run-text s i n g) ∙ length-append (take n (drop i s)) _ ∙ rw (length-take-le n (drop i s) (g .fits))
+
+module _ (s : List ℕ) (i n : ℕ) (h : i < length s) where
+  pub whole-next : PieceAt s i n true → length (utf8Text (drop i s)) ≡ n + length (utf8Text (drop (i + n) s))
+  whole-next p = ap length (piece-text s i n true h p) ∙ length-append (pieceText (firstAt s i .piece)) _ ∙ rw (whole-length s i n h p)
+
+  pub broken-next : PieceAt s i n false → length (utf8Text (drop i s)) ≡ 3 + length (utf8Text (drop (i + n) s))
+  broken-next p = ap length (piece-text s i n false h p) ∙ length-append (pieceText (firstAt s i .piece)) _ ∙ rw (broken-length s i n p)
+
+pub text-end : (s : List ℕ) (i : ℕ) → length s ≤ i → utf8Text (drop i s) ≡ []
+unfolding utf8Text readFrom textOf
+text-end s i h = rw (drop-of-length-le s h)
 
 -- ---- ASCII
 
@@ -142,20 +175,44 @@ ascii-good (suc n) (b ∷ bs) r =
     let e : 1 + n ≡ suc n = omega arith in
     subst (λ (m : ℕ). Good m (b ∷ bs)) e (good-more 1 n (b ∷ bs) (ascii-one b bs (k .0)) (ascii-good n bs (k .1)))
 
--- ---- what stands at e, as an answer
+-- the run of ASCII from i on, of what is lent as `&s[i..]`
+pub ascii-good-at : (s : List ℕ) (i n : ℕ) → AsciiRun n (take (length s - i) (drop i s)) → Good n (drop i s)
+ascii-good-at s i n r = ascii-good n (drop i s) (rw (rest s i) at r)
 
-pub advance-ascii : (s : List ℕ) (e n : ℕ) → e < length s → getD s e 0 < 0x80 → AsciiRun n (take (length s - (e + 1)) (drop (e + 1) s)) → Advance s e (1 + n) true
-advance-ascii s e n h k r =
-    let r′ : AsciiRun n (drop (e + 1) s) = rw (rest s (e + 1)) at r in
-    record {
-      good = λ q. rw (next s e h) (good-more 1 n (getD s e 0 ∷ drop (e + 1) s) (ascii-one (getD s e 0) (drop (e + 1) s) k) (ascii-good n (drop (e + 1) s) r′));
-      stop = λ q. absurd (subst T q tt);
-      some = omega arith;
-    }
+pub ascii-byte : (s : List ℕ) (i : ℕ) → i < length s → getD s i 0 < 0x80 → utf8Text (drop i s) ≡ getD s i 0 ∷ utf8Text (drop (i + 1) s)
+ascii-byte s i h k = rw (next s i h) (good-text 1 (getD s i 0 ∷ drop (i + 1) s) (ascii-one (getD s i 0) (drop (i + 1) s) k))
 
-pub advance-one : (s : List ℕ) (e n : ℕ) (ok : Bool) → e < length s → n ≡ suc (firstAt s e .more) → ok ≡ isScalar (firstAt s e .piece) → Advance s e n ok
-advance-one s e n ok h l o = record {
-  good = λ q. good-at s e n h l (sym o ∙ q);
-  stop = λ q. stop-at s e n h l (sym o ∙ q);
-  some = omega arith;
-}
+-- ---- a run of ASCII that was copied
+
+-- the first n bytes of the text were written, and they are those of a run of ASCII
+pub ascii-written : (s d out : List ℕ) (n : ℕ) → AsciiRun n s → Writing (utf8Text s) d (utf8Text (drop n s)) out n → out ≡ written (take n s) d
+ascii-written s d out n r w =
+    let k : length (take n s) ≡ n = length-take-le n s (r .fits) in
+    w .buffer ∙ rw (good-text n s (ascii-good n s r), take-at (take n s) (utf8Text (drop n s)) n k, k)
+
+-- the first n bytes, a run of ASCII, were written into the whole buffer
+pub ascii-wrote : (s d out : List ℕ) (n : ℕ) → length (utf8Text s) ≤ length d → AsciiRun n s → out ≡ written (take n s) d → Writing (utf8Text s) d (utf8Text (drop n s)) out n
+ascii-wrote s d out n h r q = wrote-first (utf8Text s) d h (take n s) (utf8Text (drop n s)) (good-text n s (ascii-good n s r)) out q n (sym (length-take-le n s (r .fits)))
+
+-- the next n bytes, a run of ASCII, were written into the unwritten rest
+module _ (s d out : List ℕ) (i o : ℕ) {T : List ℕ} (w : Writing T d (utf8Text (drop i s)) out o) (n : ℕ) (r : AsciiRun n (drop i s)) where
+  abbrev text : utf8Text (drop i s) ≡ take n (drop i s) ++ utf8Text (drop (i + n) s)
+  text = run-text s i n (ascii-good n (drop i s) r)
+
+  pub ascii-room : n ≤ length (take (length out - o) (drop o out))
+  ascii-room = fits-rest w (take n (drop i s)) (utf8Text (drop (i + n) s)) text (sym (length-take-le n (drop i s) (r .fits)))
+
+  pub ascii-wrote-rest : (ys : List ℕ) → ys ≡ written (take n (drop i s)) (take (length out - o) (drop o out))
+      → Writing T d (utf8Text (drop (i + n) s)) (take o out ++ (ys ++ drop (length out - o) (drop o out))) (o + n)
+  ascii-wrote-rest ys q = wrote-rest w (take n (drop i s)) (utf8Text (drop (i + n) s)) text ys q n (sym (length-take-le n (drop i s) (r .fits)))
+
+-- ---- the bytes from i on, one after the other
+
+module _ (s : List ℕ) (i : ℕ) where
+  pub two-bytes : i + 2 ≤ length s → take 2 (drop i s) ≡ getD s i 0 ∷ getD s (i + 1) 0 ∷ []
+  two-bytes h = rw (next s i (omega arith), next s (i + 1) (omega arith))
+
+  pub three-bytes : i + 3 ≤ length s → take 3 (drop i s) ≡ getD s i 0 ∷ getD s (i + 1) 0 ∷ getD s (i + 2) 0 ∷ []
+  three-bytes h =
+      let e : i + 2 ≡ i + 1 + 1 = omega arith in
+      rw (e, next s i (omega arith), next s (i + 1) (omega arith), next s (i + 1 + 1) (omega arith))

@@ -1,4 +1,4 @@
--- What the UTF-16 functions of src/utf16.rt say of a position in a slice. Assumes nothing.
+-- What the UTF-16 functions of src/utf16.rt say of a position in a slice: for inner functions; no public promise rests on it. Assumes nothing.
 use Prim.Native.Nat.{ℕ, _+_, _*_, _≤_, _<_}
 use mathlib.Core.List.{List, _++_}
 use mathlib.Core.Path.{_≡_}

@@ -1,4 +1,4 @@
--- What the UTF-8 functions of src/utf8.rt say of a position in a slice, by the definitions of `Unicode`. Assumes nothing.
+-- What the UTF-8 functions of src/utf8.rt say of a position in a slice: for inner functions; no public promise rests on it. Assumes nothing.
 use Prim.Native.Nat.{ℕ, zero, suc, _+_, _-_, _≤_, _<_}
 use mathlib.Core.Bool.{Bool, true, false, cond}
 use mathlib.Core.List.{List, [], _∷_, _++_}
@@ -19,14 +19,28 @@ abbrev pub isScalar : Piece → Bool
 isScalar (scalar v) = true
 isScalar malformed = false
 
--- the sequence at i takes n bytes and is well-formed, unless n is 0, which says nothing
+-- the piece at i takes n bytes, and is a scalar value (ok) or malformed
+abbrev pub PieceAt : List ℕ → ℕ → ℕ → Bool → Type 0
+PieceAt s i n ok = (n ≡ suc (firstAt s i .more)) × (ok ≡ isScalar (firstAt s i .piece))
+
+-- the piece at i takes n bytes and is a scalar value, unless n is 0, which says nothing
 pub record Common (s : List ℕ) (i n : ℕ) : Type 0 where
-  pub length : 0 < n → n ≡ suc (firstAt s i .more)
-  pub whole : 0 < n → true ≡ isScalar (firstAt s i .piece)
+  pub small : n < 8
+  pub piece : 0 < n → PieceAt s i n true
 
 -- the ranges of the bytes after a first byte: one of its own, and n as any trail byte
 unfoldable pub ranges : ℕ → ℕ → ℕ → List Range
 ranges low high n = range low high ∷ replicate n trail
+
+-- the first byte of a sequence stands at i, and wants a byte from low to high and n others after it: with those that are there it takes k bytes,
+-- and they are all (ok) or too few
+abbrev pub TrailsAt : List ℕ → ℕ → ℕ → ℕ → ℕ → ℕ → Bool → Type 0
+TrailsAt s i low high n k ok = (k ≡ suc (fit (ranges low high n) (drop (suc i) s))) × (ok ≡ eqb (fit (ranges low high n) (drop (suc i) s)) (suc n))
+
+-- A finding P of some bytes that are well-formed or not, as one number: their length, and 8 more where they are not
+pub record Coded (P : ℕ → Bool → Type 0) (r : ℕ) : Type 0 where
+  pub whole : r < 8 → P r true
+  pub broken : 8 ≤ r → P (r - 8) false
 
 -- The first n bytes of l are well-formed: they are read as scalar values, and reading goes on after them
 pub record Good (n : ℕ) (l : List ℕ) : Type 0 where
@@ -41,9 +55,3 @@ pub record Stop (n bad : ℕ) (l : List ℕ) : Type 0 where
   pub done : bad ≡ 0 → n ≡ length l
   pub part : 0 < bad → utf8Pieces (drop n l) ≡ malformed ∷ utf8Pieces (drop (n + bad) l)
   pub fits : n + bad ≤ length l
-
--- At e, len bytes are well-formed (ok), or are a malformed part
-pub record Advance (s : List ℕ) (e len : ℕ) (ok : Bool) : Type 0 where
-  pub good : ok ≡ true → Good len (drop e s)
-  pub stop : ok ≡ false → Stop e len s
-  pub some : 0 < len

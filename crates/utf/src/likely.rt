@@ -37,9 +37,8 @@ fn likely_at(s: &[u8], e: usize) -> usize
         }
         return 0;
     }
-    let t = step_at(s, e);
-    let n = t.len;
-    if !t.ok {
+    let n = step_at(s, e);
+    if n >= 8 {
         return 0;
     }
     if b != 0xC2 {

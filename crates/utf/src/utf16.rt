@@ -1,9 +1,8 @@
 // UTF-16, big-endian, read with one U+FFFD for each unpaired surrogate.
-use super::scalar::scalar_len;
 use super::scalar::write_scalar;
 ghost use mathlib.Core.Path.{_≡_};
 ghost use Prim.Native.Nat.{_+_, _<_, _≤_};
-ghost use lib.ListN.{length};
+ghost use lib.ListN.{length, drop};
 ghost use Rattle.buffer.specs.Buffer.{written};
 ghost use Rattle.utf.specs.Utf16Code.{unitAt, Utf16Next};
 ghost use Rattle.unicode.specs.Unicode.{utf16Text};
@@ -60,15 +59,11 @@ fn pair_at(s: &[u8], i: usize, u: u32) -> Next
     }
 }
 
-// The scalar value at i, or U+FFFD for an unpaired surrogate.
-fn next_at(s: &[u8], i: usize) -> Next
-    requires { ⌜ i + 1 < length (now s) ⌝ }
+// The surrogate u stands at i: the scalar value there, or U+FFFD where it is unpaired; and any unit from E000 on.
+fn above_at(s: &[u8], i: usize, u: u32) -> Next
+    requires { ⌜ (i + 1 < length (now s)) × ((u ≡ unitAt (now s) i) × ((0xD800 ≤ u) × (u < 0x10000))) ⌝ }
     ensures { λ r. ⌜ Utf16Next (now (s .entry)) i (r .value) (r .len) ⌝ }
 {
-    let u = unit_at(s, i);
-    if u < 0xD800 {
-        return Next { value: u, len: 2 };
-    }
     if u < 0xDC00 {
         return pair_at(s, i, u);
     }
@@ -81,6 +76,37 @@ fn next_at(s: &[u8], i: usize) -> Next
     Next { value: u, len: 2 }
 }
 
+// How many bytes of the text the unit at i stands for. A pair has four: one for the high surrogate, and three for the low one, as if it were alone.
+fn unit_len(s: &[u8], i: usize) -> usize
+    requires { ⌜ i + 1 < length (now s) ⌝ }
+    ensures { λ r. ⌜ (r ≤ 3) × (length (utf16Text (drop i (now (s .entry)))) ≡ r + length (utf16Text (drop (i + 2) (now (s .entry))))) ⌝ }
+{
+    let u = unit_at(s, i);
+    if u < 0x80 {
+        return 1;
+    }
+    if u < 0x800 {
+        return 2;
+    }
+    if u < 0xD800 {
+        return 3;
+    }
+    if u >= 0xDC00 {
+        return 3;
+    }
+    if s.len() <= i + 3 {
+        return 3;
+    }
+    let v = unit_at(s, i + 2);
+    if v < 0xDC00 {
+        return 3;
+    }
+    if v > 0xDFFF {
+        return 3;
+    }
+    1
+}
+
 // The length of the text of s.
 pub fn utf16_lossy_len(s: &[u8]) -> usize
     ensures { λ r. ⌜ r ≡ length (utf16Text (now (s .entry))) ⌝ }
@@ -88,14 +114,13 @@ pub fn utf16_lossy_len(s: &[u8]) -> usize
     let mut n = 0;
     let mut i = 0;
     while i + 1 < s.len() {
-        let t = next_at(s, i);
-        n += scalar_len(t.value);
-        i += t.len;
+        n += unit_len(s, i);
+        i += 2;
     }
     n
 }
 
-// Writes the text of s into out, from its first byte, and returns its length.
+// Writes the text of s into out, from its first byte, and returns its length. The units below the surrogates, most of them, go by themselves.
 pub fn utf16_lossy_write(s: &[u8], out: &mut [u8]) -> usize
     requires { ⌜ length (utf16Text (now s)) ≤ length (now out) ⌝ }
     ensures count { λ r. ⌜ r ≡ length (utf16Text (now (s .entry))) ⌝ }
@@ -104,7 +129,13 @@ pub fn utf16_lossy_write(s: &[u8], out: &mut [u8]) -> usize
     let mut o = 0;
     let mut i = 0;
     while i + 1 < s.len() {
-        let t = next_at(s, i);
+        let u = unit_at(s, i);
+        if u < 0xD800 {
+            o += write_scalar(u, &mut out[o..]);
+            i += 2;
+            continue;
+        }
+        let t = above_at(s, i, u);
         o += write_scalar(t.value, &mut out[o..]);
         i += t.len;
     }

@@ -1,20 +1,13 @@
 // UTF-8, read with one U+FFFD for each maximal malformed part.
 use super::ascii::ascii_run;
+use super::ascii::copy_ascii;
 use buffer::copy;
 ghost use mathlib.Core.Path.{_≡_};
-ghost use Prim.Native.Nat.{suc, _+_, _<_, _≤_};
-ghost use lib.Dec.{eqb};
-ghost use lib.ListN.{length, drop};
+ghost use Prim.Native.Nat.{_+_, _<_, _≤_};
+ghost use lib.ListN.{length, take, drop};
 ghost use Rattle.buffer.specs.Buffer.{written};
-ghost use Rattle.unicode.specs.Unicode.{utf8, fit};
-ghost use Rattle.utf.specs.Utf8Code.{trailAt, ranges, firstAt, isScalar, Common, Good, Stop, Advance};
-ghost use Rattle.unicode.specs.Unicode.{utf8Text};
-
-// What a position holds: a sequence of len bytes, well-formed (ok) or a maximal malformed part.
-pub struct Step {
-    pub len: usize,
-    pub ok: bool,
-}
+ghost use Rattle.unicode.specs.Unicode.{utf8, pieceText, within, trail, utf8Text};
+ghost use Rattle.utf.specs.Utf8Code.{trailAt, firstAt, Coded, PieceAt, TrailsAt, Common, Good, Stop};
 
 // The byte at j is there, and lies from low to high.
 pub fn trail_at(s: &[u8], j: usize, low: u8, high: u8) -> bool
@@ -29,63 +22,61 @@ pub fn trail_at(s: &[u8], j: usize, low: u8, high: u8) -> bool
     false
 }
 
+// The functions that follow say what they found as one number: the length of a well-formed sequence, or 8 and the length of a malformed part.
+
 // The sequence of two bytes whose first stands at i.
-fn two_at(s: &[u8], i: usize) -> Step
+fn two_at(s: &[u8], i: usize) -> usize
     requires { ⌜ i < length (now s) ⌝ }
-    ensures length { λ r. ⌜ r .len ≡ suc (fit (ranges 0x80 0xBF 0) (drop (suc i) (now (s .entry)))) ⌝ }
-    ensures whole { λ r. ⌜ r .ok ≡ eqb (fit (ranges 0x80 0xBF 0) (drop (suc i) (now (s .entry)))) 1 ⌝ }
+    ensures { λ r. ⌜ Coded (TrailsAt (now (s .entry)) i 0x80 0xBF 0) r ⌝ }
 {
     if !trail_at(s, i + 1, 0x80, 0xBF) {
-        return Step { len: 1, ok: false };
+        return 9;
     }
-    Step { len: 2, ok: true }
+    2
 }
 
 // The sequence of three bytes whose first stands at i, and wants a byte from low to high after it.
-fn three_at(s: &[u8], i: usize, low: u8, high: u8) -> Step
+fn three_at(s: &[u8], i: usize, low: u8, high: u8) -> usize
     requires { ⌜ i < length (now s) ⌝ }
-    ensures length { λ r. ⌜ r .len ≡ suc (fit (ranges low high 1) (drop (suc i) (now (s .entry)))) ⌝ }
-    ensures whole { λ r. ⌜ r .ok ≡ eqb (fit (ranges low high 1) (drop (suc i) (now (s .entry)))) 2 ⌝ }
+    ensures { λ r. ⌜ Coded (TrailsAt (now (s .entry)) i low high 1) r ⌝ }
 {
     if !trail_at(s, i + 1, low, high) {
-        return Step { len: 1, ok: false };
+        return 9;
     }
     if !trail_at(s, i + 2, 0x80, 0xBF) {
-        return Step { len: 2, ok: false };
+        return 10;
     }
-    Step { len: 3, ok: true }
+    3
 }
 
 // The sequence of four bytes whose first stands at i, and wants a byte from low to high after it.
-fn four_at(s: &[u8], i: usize, low: u8, high: u8) -> Step
+fn four_at(s: &[u8], i: usize, low: u8, high: u8) -> usize
     requires { ⌜ i < length (now s) ⌝ }
-    ensures length { λ r. ⌜ r .len ≡ suc (fit (ranges low high 2) (drop (suc i) (now (s .entry)))) ⌝ }
-    ensures whole { λ r. ⌜ r .ok ≡ eqb (fit (ranges low high 2) (drop (suc i) (now (s .entry)))) 3 ⌝ }
+    ensures { λ r. ⌜ Coded (TrailsAt (now (s .entry)) i low high 2) r ⌝ }
 {
     if !trail_at(s, i + 1, low, high) {
-        return Step { len: 1, ok: false };
+        return 9;
     }
     if !trail_at(s, i + 2, 0x80, 0xBF) {
-        return Step { len: 2, ok: false };
+        return 10;
     }
     if !trail_at(s, i + 3, 0x80, 0xBF) {
-        return Step { len: 3, ok: false };
+        return 11;
     }
-    Step { len: 4, ok: true }
+    4
 }
 
 // What stands at i.
-fn first_at(s: &[u8], i: usize) -> Step
+fn first_at(s: &[u8], i: usize) -> usize
     requires { ⌜ i < length (now s) ⌝ }
-    ensures length { λ r. ⌜ r .len ≡ suc (firstAt (now (s .entry)) i .more) ⌝ }
-    ensures whole { λ r. ⌜ r .ok ≡ isScalar (firstAt (now (s .entry)) i .piece) ⌝ }
+    ensures { λ r. ⌜ Coded (PieceAt (now (s .entry)) i) r ⌝ }
 {
     let b = s[i];
     if b < 0x80 {
-        return Step { len: 1, ok: true };
+        return 1;
     }
     if b < 0xC2 {
-        return Step { len: 1, ok: false };
+        return 9;
     }
     if b < 0xE0 {
         return two_at(s, i);
@@ -111,7 +102,16 @@ fn first_at(s: &[u8], i: usize) -> Step
     if b == 0xF4 {
         return four_at(s, i, 0x80, 0x8F);
     }
-    Step { len: 1, ok: false }
+    9
+}
+
+fn is_trail(b: u8) -> bool
+    ensures { λ r. ⌜ r ≡ within b trail ⌝ }
+{
+    if b < 0x80 {
+        return false;
+    }
+    b <= 0xBF
 }
 
 // The length of a common sequence at i that is well-formed, or 0. It is small enough to be compiled into the loops that call it.
@@ -119,18 +119,23 @@ fn common_at(s: &[u8], i: usize) -> usize
     requires { ⌜ i < length (now s) ⌝ }
     ensures { λ r. ⌜ Common (now (s .entry)) i r ⌝ }
 {
+    if s.len() - i < 3 {
+        return 0;
+    }
     let b = s[i];
-    if b < 0xC2 {
-        return 0;
-    }
-    if b >= 0xF0 {
-        return 0;
-    }
-    if !trail_at(s, i + 1, 0x80, 0xBF) {
+    let second = s[i + 1];
+    let third = s[i + 2];
+    if !is_trail(second) {
         return 0;
     }
     if b < 0xE0 {
+        if b < 0xC2 {
+            return 0;
+        }
         return 2;
+    }
+    if b >= 0xF0 {
+        return 0;
     }
     if b == 0xE0 {
         return 0;
@@ -138,21 +143,20 @@ fn common_at(s: &[u8], i: usize) -> usize
     if b == 0xED {
         return 0;
     }
-    if trail_at(s, i + 2, 0x80, 0xBF) {
+    if is_trail(third) {
         return 3;
     }
     0
 }
 
 // What stands at i, by a quick look where that will do.
-pub fn step_at(s: &[u8], i: usize) -> Step
+pub fn step_at(s: &[u8], i: usize) -> usize
     requires { ⌜ i < length (now s) ⌝ }
-    ensures length { λ r. ⌜ r .len ≡ suc (firstAt (now (s .entry)) i .more) ⌝ }
-    ensures whole { λ r. ⌜ r .ok ≡ isScalar (firstAt (now (s .entry)) i .piece) ⌝ }
+    ensures { λ r. ⌜ Coded (PieceAt (now (s .entry)) i) r ⌝ }
 {
     let n = common_at(s, i);
     if n != 0 {
-        return Step { len: n, ok: true };
+        return n;
     }
     first_at(s, i)
 }
@@ -163,37 +167,22 @@ pub struct Run {
     pub bad: usize,
 }
 
-// What stands at e: a run of ASCII, or one sequence.
-fn advance(s: &[u8], e: usize) -> Step
-    requires { ⌜ e < length (now s) ⌝ }
-    ensures { λ r. ⌜ Advance (now (s .entry)) e (r .len) (r .ok) ⌝ }
-{
-    if s[e] < 0x80 {
-        let i = e + 1;
-        let k = 1 + ascii_run(&s[i..]);
-        return Step { len: k, ok: true };
-    }
-    let n = common_at(s, e);
-    if n != 0 {
-        return Step { len: n, ok: true };
-    }
-    first_at(s, e)
-}
-
 pub fn run_of(s: &[u8]) -> Run
     ensures good { λ r. ⌜ Good (r .end) (now (s .entry)) ⌝ }
     ensures stop { λ r. ⌜ Stop (r .end) (r .bad) (now (s .entry)) ⌝ }
 {
     let mut e = 0;
-    while e < s.len() {
-        let t = advance(s, e);
-        let n = t.len;
-        if !t.ok {
-            return Run { end: e, bad: n };
+    loop {
+        e += ascii_run(&s[e..]);
+        if s.len() <= e {
+            return Run { end: e, bad: 0 };
+        }
+        let n = step_at(s, e);
+        if n >= 8 {
+            return Run { end: e, bad: n - 8 };
         }
         e += n;
     }
-    Run { end: e, bad: 0 }
 }
 
 // The length of the text of s.
@@ -204,26 +193,66 @@ pub fn utf8_lossy_len(s: &[u8]) -> usize
     let mut i = 0;
     let mut n = 0;
     loop {
-        let r = run_of(&s[i..]);
-        n += r.end;
-        if r.bad == 0 {
+        let k = ascii_run(&s[i..]);
+        i += k;
+        n += k;
+        if s.len() <= i {
             return n;
         }
+        let t = step_at(s, i);
+        if t < 8 {
+            i += t;
+            n += t;
+            continue;
+        }
+        i += t - 8;
         n += 3;
-        i += r.end + r.bad;
     }
 }
 
 // Writes U+FFFD.
-fn write_replacement(out: &mut [u8]) -> usize
+fn write_replacement(out: &mut [u8])
     requires { ⌜ 3 ≤ length (now out) ⌝ }
-    ensures count { λ r. ⌜ r ≡ 3 ⌝ }
-    ensures bytes { λ _. ⌜ now (out .exit) ≡ written (utf8 0xFFFD) (now (out .entry)) ⌝ }
+    ensures { λ _. ⌜ now (out .exit) ≡ written (utf8 0xFFFD) (now (out .entry)) ⌝ }
 {
     out[0] = 0xEF;
     out[1] = 0xBF;
     out[2] = 0xBD;
-    3
+}
+
+// Copies the n bytes of s from i on. For two and three, the usual numbers, it has no loop.
+fn copy_few(s: &[u8], i: usize, n: usize, out: &mut [u8])
+    requires { ⌜ (i + n ≤ length (now s)) × (n ≤ length (now out)) ⌝ }
+    ensures { λ _. ⌜ now (out .exit) ≡ written (take n (drop i (now (s .entry)))) (now (out .entry)) ⌝ }
+{
+    if n == 2 {
+        out[0] = s[i];
+        out[1] = s[i + 1];
+        return;
+    }
+    if n == 3 {
+        out[0] = s[i];
+        out[1] = s[i + 1];
+        out[2] = s[i + 2];
+        return;
+    }
+    let e = i + n;
+    copy(&s[i..e], out);
+}
+
+// Writes what stands at i, and returns what that is.
+fn write_piece(s: &[u8], i: usize, out: &mut [u8]) -> usize
+    requires { ⌜ (i < length (now s)) × (length (pieceText (firstAt (now s) i .piece)) ≤ length (now out)) ⌝ }
+    ensures piece { λ r. ⌜ Coded (PieceAt (now (s .entry)) i) r ⌝ }
+    ensures bytes { λ _. ⌜ now (out .exit) ≡ written (pieceText (firstAt (now (s .entry)) i .piece)) (now (out .entry)) ⌝ }
+{
+    let n = step_at(s, i);
+    if n < 8 {
+        copy_few(s, i, n, out);
+        return n;
+    }
+    write_replacement(out);
+    n
 }
 
 // Writes the text of s into out, from its first byte, and returns the text's length.
@@ -235,13 +264,19 @@ pub fn utf8_lossy_write(s: &[u8], out: &mut [u8]) -> usize
     let mut i = 0;
     let mut o = 0;
     loop {
-        let r = run_of(&s[i..]);
-        let e = i + r.end;
-        o += copy(&s[i..e], &mut out[o..]);
-        if r.bad == 0 {
+        let k = copy_ascii(&s[i..], &mut out[o..]);
+        i += k;
+        o += k;
+        if s.len() <= i {
             return o;
         }
-        o += write_replacement(&mut out[o..]);
-        i = e + r.bad;
+        let n = write_piece(s, i, &mut out[o..]);
+        if n < 8 {
+            i += n;
+            o += n;
+            continue;
+        }
+        i += n - 8;
+        o += 3;
     }
 }

@@ -1,10 +1,11 @@
--- `unicode::ascii::ascii_blocks` meets its contract. The loop's invariant: the first i bytes are ASCII. Assumes nothing.
+-- `utf::ascii::ascii_blocks` meets its contract. The loop's invariant: the first i bytes are ASCII. Assumes nothing.
 use Prim.Native.Nat.{_-_}
-use native.Mathlib.Omega.{arith}
-use borrow.Author.Needs.{needs}
+use borrow.Author.Tests.{not-false}
+use denote.Ref.{now}
 use lib.ListN.{length}
 use Rattle.utf.specs.Ascii.{AsciiRun}
-use Rattle.utf.proofs.AsciiLaws.{none-high, run-none, run-block}
+use Rattle.utf.proofs.AsciiLaws.{run-none, run-more, rest, rest-length}
+use native.Mathlib.Omega.{arith}
 use Rattle.utf.proofs.ascii.ascii_blocks.Statement.{statement}
 use Rattle.utf.proofs.ascii.ascii_blocks.Tie as tie
 
@@ -23,31 +24,29 @@ sub-if1 c = c .loop .inv .fits
 returns : tie.Need-returns Inv-loop μ-loop
 returns c = c .before .loop .inv
 
-add-e : tie.Need-add-e Inv-loop μ-loop
-add-e c = omega arith
+sub-ascii-8 : tie.Need-sub-ascii-8 Inv-loop μ-loop
+sub-ascii-8 c = omega arith
 
-sub-has-high : tie.Need-sub-has-high Inv-loop μ-loop
-sub-has-high c = omega arith
+part-ascii-8-start : tie.Need-part-ascii-8-start Inv-loop μ-loop
+part-ascii-8-start c = omega arith
 
-part-has-high-start : tie.Need-part-has-high-start Inv-loop μ-loop
-part-has-high-start c = omega arith
+part-ascii-8-end : tie.Need-part-ascii-8-end Inv-loop μ-loop
+part-ascii-8-end c = omega arith
 
-part-has-high-end : tie.Need-part-has-high-end Inv-loop μ-loop
-part-has-high-end c = omega arith
-
-has-high-requires : tie.Need-has-high-requires Inv-loop μ-loop
-has-high-requires c κs = search needs
+ascii-8-requires : tie.Need-ascii-8-requires Inv-loop μ-loop
+ascii-8-requires c κs = omega (arith, rest-length (now (c .before .before .before .before .args .s)) (c .before .before .loop .i))
 
 returns-2 : tie.Need-returns-2 Inv-loop μ-loop
 returns-2 c = c .before .before .before .before .loop .inv
+
+add-i : tie.Need-add-i Inv-loop μ-loop
+add-i c = omega arith
 
 loop-less : tie.Need-loop-less Inv-loop μ-loop
 loop-less c = omega arith
 
 loop-again : tie.Need-loop-again Inv-loop μ-loop
-loop-again c =
-    let at = c .before .before .before in
-    run-block _ _ _ (at .before .loop .inv) (omega arith) (omega arith) (none-high _ _ (c .before .has-high .ensures) (c .if2 .left))
+loop-again c = run-more _ _ _ (c .before .before .before .before .loop .inv) (rw (rest _ _) at (c .before .ascii-8 .ensures (not-false _ (c .if2 .left))))
 
 pub ascii-blocks-spec : {M : Type 1} → statement M
 ascii-blocks-spec =
@@ -58,11 +57,11 @@ ascii-blocks-spec =
     loop-holds
     sub-if1
     returns
-    add-e
-    sub-has-high
-    part-has-high-start
-    part-has-high-end
-    has-high-requires
+    sub-ascii-8
+    part-ascii-8-start
+    part-ascii-8-end
+    ascii-8-requires
     returns-2
+    add-i
     loop-less
     loop-again)

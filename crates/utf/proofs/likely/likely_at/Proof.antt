@@ -3,7 +3,6 @@ use mathlib.Core.Path.{_≡_, refl, sym, ap, _∙_}
 use native.Mathlib.Omega.{arith}
 use borrow.Author.Needs.{needs}
 use denote.Ref.{now}
-use borrow.Author.Tests.{not-true, not-false}
 use Rattle.unicode.specs.Likely.{likelyPiece}
 use Rattle.utf.proofs.Utf8Laws.{step-ascii}
 use Rattle.utf.proofs.LikelyLaws.{unlikely, likely, ascii-piece, malformed-piece, other-piece, control-piece, no-control-piece}
@@ -26,22 +25,28 @@ step-at-requires : tie.Need-step-at-requires
 step-at-requires c κs = search needs
 
 returns-3 : tie.Need-returns-3
-returns-3 c = unlikely _ _ (c .before .before .before .before .before .before .pre) (malformed-piece _ _ (sym (c .before .before .step-at .ensures .1) ∙ not-true _ (c .if3 .taken)))
+returns-3 c = unlikely _ _ (c .before .before .before .before .before .pre) (malformed-piece _ _ (sym (c .before .step-at .ensures .broken (c .if3 .taken) .1)))
 
 returns-4 : tie.Need-returns-4
-returns-4 c = likely _ _ (c .before .before .before .before .before .before .before .pre) _ (c .before .before .before .step-at .ensures .0) (other-piece _ _ (c .before .before .before .before .if1 .left) (sym (c .before .before .before .step-at .ensures .1) ∙ not-false _ (c .before .if3 .left)) (c .if4 .taken))
+returns-4 c =
+    let p = c .before .before .step-at .ensures .whole (c .before .if3 .left) in
+    likely _ _ (c .before .before .before .before .before .before .pre) _ (p .0) (other-piece _ _ (c .before .before .before .if1 .left) (sym (p .1)) (c .if4 .taken))
 
 add-trail-at : tie.Need-add-trail-at
-add-trail-at c = omega (arith, c .before .before .before .before .before .before .before .pre)
+add-trail-at c = omega (arith, c .before .before .before .before .before .before .pre)
 
 trail-at-requires : tie.Need-trail-at-requires
 trail-at-requires c κs = search needs
 
 returns-5 : tie.Need-returns-5
-returns-5 c = unlikely _ _ (c .before .before .before .before .before .before .before .before .before .pre) (control-piece _ _ (sym (c .before .before .before .before .before .step-at .ensures .1) ∙ not-false _ (c .before .before .before .if3 .left)) (c .before .before .if4 .left) (sym (c .before .trail-at .ensures) ∙ c .if5 .taken))
+returns-5 c =
+    let p = c .before .before .before .before .step-at .ensures .whole (c .before .before .before .if3 .left) in
+    unlikely _ _ (c .before .before .before .before .before .before .before .before .pre) (control-piece _ _ (sym (p .1)) (c .before .before .if4 .left) (sym (c .before .trail-at .ensures) ∙ c .if5 .taken))
 
 returns-6 : tie.Need-returns-6
-returns-6 c = likely _ _ (c .before .before .before .before .before .before .before .before .before .pre) _ (c .before .before .before .before .before .step-at .ensures .0) (no-control-piece _ _ (sym (c .before .before .before .before .before .step-at .ensures .1) ∙ not-false _ (c .before .before .before .if3 .left)) (c .before .before .if4 .left) (sym (c .before .trail-at .ensures) ∙ c .if5 .left))
+returns-6 c =
+    let p = c .before .before .before .before .step-at .ensures .whole (c .before .before .before .if3 .left) in
+    likely _ _ (c .before .before .before .before .before .before .before .before .pre) _ (p .0) (no-control-piece _ _ (sym (p .1)) (c .before .before .if4 .left) (sym (c .before .trail-at .ensures) ∙ c .if5 .left))
 
 pub likely-at-spec : {M : Type 1} → statement M
 likely-at-spec = tie.close (tie.spec shared-slice-read-b shown-requires returns returns-2 step-at-requires returns-3 returns-4 add-trail-at trail-at-requires returns-5 returns-6)

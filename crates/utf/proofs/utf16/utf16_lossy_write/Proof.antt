@@ -1,16 +1,16 @@
--- `unicode::utf16::utf16_lossy_write` meets its contract. The loop's invariant: what is not yet written is the text from i on. Assumes nothing.
+-- `utf::utf16::utf16_lossy_write` meets its contract. The loop's invariant: what is not yet written is the text from i on. Assumes nothing.
 use Prim.Native.Nat.{ℕ, _+_, _-_, _≤_}
-use mathlib.Core.Path.{_≡_, refl}
 use mathlib.Core.List.{List, _++_}
-use native.Mathlib.Omega.{arith}
-use borrow.Author.Needs.{needs}
+use mathlib.Core.Path.{_≡_, refl}
 use denote.Ref.{now}
 use lib.ListN.{length, take, drop}
-use Rattle.unicode.specs.Unicode.{utf8}
+use Rattle.buffer.specs.Buffer.{written}
+use Rattle.unicode.specs.Unicode.{utf8, utf16Text}
 use Rattle.utf.specs.Utf16Code.{Utf16Next}
-use Rattle.unicode.specs.Unicode.{utf16Text}
 use Rattle.buffer.proofs.Writing.{Writing, start, wrote-rest, fits, fits-rest, as-long, all, end}
-use Rattle.utf.proofs.Utf16Laws.{utf16-end}
+use Rattle.utf.proofs.AsciiLaws.{rest-length}
+use Rattle.utf.proofs.Utf16Laws.{below-surrogates, utf16-end}
+use native.Mathlib.Omega.{arith}
 use Rattle.utf.proofs.utf16.utf16_lossy_write.Statement.{statement}
 use Rattle.utf.proofs.utf16.utf16_lossy_write.Tie as tie
 
@@ -20,68 +20,78 @@ Inv-loop s out₀ o₀ i₀ out o i = (i ≤ length s) × Writing (utf16Text s) 
 abbrev μ-loop : tie.MeasureT-loop
 μ-loop s out₀ o₀ i₀ out o i = length s - i
 
+-- the scalar value v, of n bytes, stands at i, and is written at o
+module _ {s d out : List ℕ} {i o v n : ℕ} (w : Writing (utf16Text s) d (utf16Text (drop i s)) out o) (t : Utf16Next s i v n) where
+  room : length (utf8 v) ≤ length (take (length out - o) (drop o out))
+  room = fits-rest w (utf8 v) (utf16Text (drop (i + n) s)) (t .here) refl
+
+  wrote-scalar : (ys : List ℕ) → ys ≡ written (utf8 v) (take (length out - o) (drop o out)) → (m : ℕ) → m ≡ length (utf8 v)
+      → Writing (utf16Text s) d (utf16Text (drop (i + n) s)) (take o out ++ (ys ++ drop (length out - o) (drop o out))) (o + m)
+  wrote-scalar ys q m e = wrote-rest w (utf8 v) (utf16Text (drop (i + n) s)) (t .here) ys q m e
+
 loop-holds : tie.Need-loop-holds Inv-loop μ-loop
 loop-holds c = (omega arith, start _ _ (c .before .before .pre))
 
 add-loop : tie.Need-add-loop Inv-loop μ-loop
 add-loop c = omega arith
 
-next-at-requires : tie.Need-next-at-requires Inv-loop μ-loop
-next-at-requires c κs = omega arith
+unit-at-requires : tie.Need-unit-at-requires Inv-loop μ-loop
+unit-at-requires c κs = omega arith
 
--- where the scalar value at i is known
-module _ (c : tie.After-next-at Inv-loop μ-loop) where
-  abbrev S : List ℕ
-  S = now (c .before .before .before .before .before .args .s)
-
-  abbrev D : List ℕ
-  D = now (c .before .before .before .before .before .args .out)
-
-  abbrev O : ℕ
-  O = c .before .before .loop .o
-
-  abbrev Out : List ℕ
-  Out = c .before .before .loop .out
-
-  abbrev After : List ℕ
-  After = utf16Text (drop (c .before .before .loop .i + c .next-at .result .len) S)
-
-  w : Writing (utf16Text S) D (utf16Text (drop (c .before .before .loop .i) S)) Out O
-  w = c .before .before .loop .inv .1
+-- a unit below the surrogates
+next : (c : tie.Then1 Inv-loop μ-loop) → Utf16Next (now (c .before .before .before .before .before .before .args .s)) (c .before .before .before .loop .i) (c .before .unit-at .result) 2
+next c = below-surrogates _ _ (c .before .before .loop-test .taken) _ (c .before .unit-at .ensures .0) (c .if1 .taken)
 
 sub-write-scalar : tie.Need-sub-write-scalar Inv-loop μ-loop
-sub-write-scalar c = omega (arith, fits (w c))
+sub-write-scalar c = omega (arith, fits (c .before .before .before .loop .inv .1))
 
 part-write-scalar-start : tie.Need-part-write-scalar-start Inv-loop μ-loop
-part-write-scalar-start c = omega (arith, fits (w c))
+part-write-scalar-start c = omega (arith, fits (c .before .before .before .loop .inv .1))
 
 part-write-scalar-end : tie.Need-part-write-scalar-end Inv-loop μ-loop
 part-write-scalar-end c = omega arith
 
 write-scalar-requires : tie.Need-write-scalar-requires Inv-loop μ-loop
-write-scalar-requires c κs = (c .before .next-at .ensures .scalar, fits-rest (w (c .before)) (utf8 (c .before .next-at .result .value)) (After (c .before)) (c .before .next-at .ensures .here) refl)
-
--- where it is written
-module _ (c : tie.After-write-scalar Inv-loop μ-loop) where
-  abbrev at : tie.After-next-at Inv-loop μ-loop
-  at = c .before .before
-
-  w₁ : Writing (utf16Text (S at)) (D at) (After at) (take (O at) (Out at) ++ (c .write-scalar .last .1 .0 ++ drop (length (Out at) - O at) (drop (O at) (Out at)))) (O at + c .write-scalar .result)
-  w₁ = wrote-rest (w at) (utf8 (at .next-at .result .value)) (After at) (at .next-at .ensures .here) (c .write-scalar .last .1 .0) (c .write-scalar .ensures .1) (c .write-scalar .result) (c .write-scalar .ensures .0)
+write-scalar-requires c κs = (next (c .before) .scalar, room (c .before .before .before .before .loop .inv .1) (next (c .before)))
 
 add-o : tie.Need-add-o Inv-loop μ-loop
-add-o c =
-    let d = c .before .before in
-    omega (arith, fits (w₁ d), as-long (w₁ d))
+add-o c = omega (arith, room (c .before .before .before .before .before .before .before .loop .inv .1) (next (c .before .before .before .before)), rest-length (c .before .before .before .before .before .before .before .loop .out) (c .before .before .before .before .before .before .before .loop .o), as-long (c .before .before .before .before .before .before .before .loop .inv .1), c .before .before .write-scalar .ensures .0)
 
 add-i : tie.Need-add-i Inv-loop μ-loop
-add-i c = omega (arith, at (c .before .before .before) .next-at .ensures .fits)
+add-i c = omega (arith, next (c .before .before .before .before) .fits)
 
 loop-less : tie.Need-loop-less Inv-loop μ-loop
-loop-less c = omega (arith, at (c .before .before .before) .next-at .ensures .fits, at (c .before .before .before) .next-at .ensures .some)
+loop-less c = omega (arith, next (c .before .before .before .before) .fits)
 
 loop-again : tie.Need-loop-again Inv-loop μ-loop
-loop-again c = (at (c .before .before .before) .next-at .ensures .fits, w₁ (c .before .before .before))
+loop-again c = (next (c .before .before .before .before) .fits, wrote-scalar (c .before .before .before .before .before .before .before .loop .inv .1) (next (c .before .before .before .before)) (c .before .before .write-scalar .last .1 .0) (c .before .before .write-scalar .ensures .1) (c .before .before .write-scalar .result) (c .before .before .write-scalar .ensures .0))
+
+above-at-requires : tie.Need-above-at-requires Inv-loop μ-loop
+above-at-requires c κs = (c .before .before .loop-test .taken, (c .before .unit-at .ensures .0, (c .if1 .left, c .before .unit-at .ensures .1)))
+
+sub-write-scalar-2 : tie.Need-sub-write-scalar-2 Inv-loop μ-loop
+sub-write-scalar-2 c = omega (arith, fits (c .before .before .before .before .loop .inv .1))
+
+part-write-scalar-start-2 : tie.Need-part-write-scalar-start-2 Inv-loop μ-loop
+part-write-scalar-start-2 c = omega (arith, fits (c .before .before .before .before .loop .inv .1))
+
+part-write-scalar-end-2 : tie.Need-part-write-scalar-end-2 Inv-loop μ-loop
+part-write-scalar-end-2 c = omega arith
+
+write-scalar-requires-2 : tie.Need-write-scalar-requires-2 Inv-loop μ-loop
+write-scalar-requires-2 c κs = (c .before .above-at .ensures .scalar, room (c .before .before .before .before .before .loop .inv .1) (c .before .above-at .ensures))
+
+add-o-2 : tie.Need-add-o-2 Inv-loop μ-loop
+add-o-2 c = omega (arith, room (c .before .before .before .before .before .before .before .before .loop .inv .1) (c .before .before .before .before .above-at .ensures), rest-length (c .before .before .before .before .before .before .before .before .loop .out) (c .before .before .before .before .before .before .before .before .loop .o), as-long (c .before .before .before .before .before .before .before .before .loop .inv .1), c .before .before .write-scalar2 .ensures .0)
+
+add-i-2 : tie.Need-add-i-2 Inv-loop μ-loop
+add-i-2 c = omega (arith, c .before .before .before .before .before .above-at .ensures .fits)
+
+loop-less-2 : tie.Need-loop-less-2 Inv-loop μ-loop
+loop-less-2 c = omega (arith, c .before .before .before .before .before .above-at .ensures .fits, c .before .before .before .before .before .above-at .ensures .some)
+
+loop-again-2 : tie.Need-loop-again-2 Inv-loop μ-loop
+loop-again-2 c = (c .before .before .before .before .before .above-at .ensures .fits, wrote-scalar (c .before .before .before .before .before .before .before .before .before .loop .inv .1) (c .before .before .before .before .before .above-at .ensures) (c .before .before .before .write-scalar2 .last .1 .0) (c .before .before .before .write-scalar2 .ensures .1) (c .before .before .before .write-scalar2 .result) (c .before .before .before .write-scalar2 .ensures .0))
 
 same-length : tie.Need-same-length Inv-loop μ-loop
 same-length c = as-long (c .before .loop .inv .1)
@@ -99,7 +109,7 @@ utf16-lossy-write-spec =
     μ-loop
     loop-holds
     add-loop
-    next-at-requires
+    unit-at-requires
     sub-write-scalar
     part-write-scalar-start
     part-write-scalar-end
@@ -108,5 +118,14 @@ utf16-lossy-write-spec =
     add-i
     loop-less
     loop-again
+    above-at-requires
+    sub-write-scalar-2
+    part-write-scalar-start-2
+    part-write-scalar-end-2
+    write-scalar-requires-2
+    add-o-2
+    add-i-2
+    loop-less-2
+    loop-again-2
     same-length
     returns)

@@ -1,12 +1,12 @@
--- `unicode::utf8::run_of` meets its contract. The loop's invariant: the first e bytes are well-formed. The measure is what is left of the length.
--- Assumes nothing.
-use Prim.Native.Nat.{ℕ, _+_, _-_, _<_, _≤_}
-use native.Mathlib.Omega.{arith}
-use borrow.Author.Tests.{not-true, not-false}
+-- `utf::utf8::run_of` meets its contract. The loop's invariant: the first e bytes are well-formed. Assumes nothing.
+use Prim.Native.Nat.{ℕ, _+_, _-_}
+use mathlib.Core.Path.{sym}
 use denote.Ref.{now}
-use lib.ListN.{length, drop}
-use Rattle.utf.specs.Utf8Code.{Good, Stop}
-use Rattle.utf.proofs.Utf8Runs.{good-none, good-more, stop-end}
+use lib.ListN.{length}
+use Rattle.utf.specs.Utf8Code.{Good}
+use Rattle.utf.proofs.Utf8Runs.{good-none, good-more, good-at, stop-at, stop-end, ascii-good-at}
+use borrow.Author.Needs.{needs}
+use native.Mathlib.Omega.{arith}
 use Rattle.utf.proofs.utf8.run_of.Statement.{statement}
 use Rattle.utf.proofs.utf8.run_of.Tie as tie
 
@@ -19,31 +19,66 @@ abbrev μ-loop : tie.MeasureT-loop
 loop-holds : tie.Need-loop-holds Inv-loop μ-loop
 loop-holds c = good-none _
 
-advance-requires : tie.Need-advance-requires Inv-loop μ-loop
-advance-requires c κs = omega arith
+sub-ascii-run : tie.Need-sub-ascii-run Inv-loop μ-loop
+sub-ascii-run c = omega (arith, c .loop .inv .fits)
 
-returns : tie.Need-returns Inv-loop μ-loop
-returns c =
-    let at = c .before .before in
-    (at .before .before .loop .inv, at .advance .ensures .stop (not-true _ (c .if1 .taken)))
+part-ascii-run-start : tie.Need-part-ascii-run-start Inv-loop μ-loop
+part-ascii-run-start c = omega (arith, c .loop .inv .fits)
 
--- a turn takes one sequence more into the run
-more : (c : tie.Else1 Inv-loop μ-loop) → Good (c .before .before .before .before .loop .e + c .before .before .advance .result .len) (now (c .before .before .before .before .before .before .args .s))
-more c =
-    let at = c .before .before in
-    good-more _ _ _ (at .before .before .loop .inv) (at .advance .ensures .good (not-false _ (c .if1 .left)))
+part-ascii-run-end : tie.Need-part-ascii-run-end Inv-loop μ-loop
+part-ascii-run-end c = omega arith
+
+ascii-run-requires : tie.Need-ascii-run-requires Inv-loop μ-loop
+ascii-run-requires c κs = search needs
+
+-- with the run of ASCII
+ascii : (c : tie.After-ascii-run Inv-loop μ-loop) → Good (c .before .before .loop .e + c .ascii-run .result) (now (c .before .before .before .before .args .s))
+ascii c = good-more _ _ _ (c .before .before .loop .inv) (ascii-good-at (now (c .before .before .before .before .args .s)) (c .before .before .loop .e) (c .ascii-run .result) (c .ascii-run .ensures))
 
 add-e : tie.Need-add-e Inv-loop μ-loop
-add-e c = omega (arith, more c .fits)
+add-e c = omega (arith, ascii c .fits)
+
+returns : tie.Need-returns Inv-loop μ-loop
+returns c = (ascii (c .before), stop-end _ _ (ascii (c .before)) (c .if1 .taken))
+
+step-at-requires : tie.Need-step-at-requires Inv-loop μ-loop
+step-at-requires c κs = omega arith
+
+returns-2 : tie.Need-returns-2 Inv-loop μ-loop
+returns-2 c =
+    let p = c .before .step-at .ensures .broken (c .if2 .taken) in
+    (ascii (c .before .before .before), stop-at _ _ _ (c .before .before .if1 .left) (p .0) (sym (p .1)))
+
+-- with the sequence after it
+more : (c : tie.Else2 Inv-loop μ-loop) → Good (c .before .before .before .before .before .loop .e + c .before .before .before .ascii-run .result + c .before .step-at .result) (now (c .before .before .before .before .before .before .before .args .s))
+more c =
+    let p = c .before .step-at .ensures .whole (c .if2 .left) in
+    good-more _ _ _ (ascii (c .before .before .before)) (good-at _ _ _ (c .before .before .if1 .left) (p .0) (sym (p .1)))
+
+add-e-2 : tie.Need-add-e-2 Inv-loop μ-loop
+add-e-2 c = omega (arith, more c .fits)
 
 loop-less : tie.Need-loop-less Inv-loop μ-loop
-loop-less c = omega (arith, more c .fits, c .before .before .advance .ensures .some)
+loop-less c = omega (arith, more c .fits, c .before .step-at .ensures .whole (c .if2 .left) .0)
 
 loop-again : tie.Need-loop-again Inv-loop μ-loop
 loop-again c = more c
 
-returns-2 : tie.Need-returns-2 Inv-loop μ-loop
-returns-2 c = (c .before .loop .inv, stop-end _ _ (c .before .loop .inv) (c .loop-test .left))
-
 pub run-of-spec : {M : Type 1} → statement M
-run-of-spec = tie.close (tie.spec Inv-loop μ-loop loop-holds advance-requires returns add-e loop-less loop-again returns-2)
+run-of-spec =
+    tie.close
+    (tie.spec
+    Inv-loop
+    μ-loop
+    loop-holds
+    sub-ascii-run
+    part-ascii-run-start
+    part-ascii-run-end
+    ascii-run-requires
+    add-e
+    returns
+    step-at-requires
+    returns-2
+    add-e-2
+    loop-less
+    loop-again)

@@ -1,15 +1,16 @@
--- `unicode::utf8::utf8_lossy_len` meets its contract. The loop's invariant: n and the length of the text from i on make the length of the whole
--- text, and n is at most three for each byte passed. The measure is what is left of the length, and one for the last turn. Assumes nothing.
-use Prim.Native.Nat.{ℕ, _+_, _*_, _-_, _<_, _≤_}
-use mathlib.Core.Path.{_≡_, sym, ap, _∙_}
-use native.Mathlib.Omega.{arith}
+-- `utf::utf8::utf8_lossy_len` meets its contract. The loop's invariant: n and the length of the text from i on make the length of the
+-- whole text, and n is at most three for each byte passed. Assumes nothing.
+use Prim.Native.Nat.{ℕ, _+_, _*_, _-_, _≤_}
+use mathlib.Core.Bool.{true, false}
 use mathlib.Core.List.{List}
-use borrow.Author.Needs.{needs}
+use mathlib.Core.Path.{_≡_, ap}
 use denote.Ref.{now}
 use lib.ListN.{length, drop, length-drop}
-use Rattle.utf.specs.Utf8Code.{Good, Stop}
 use Rattle.unicode.specs.Unicode.{utf8Text}
-use Rattle.utf.proofs.Utf8Runs.{rest, length-done, length-part}
+use Rattle.utf.specs.Utf8Code.{Good}
+use Rattle.utf.proofs.Utf8Runs.{ascii-good-at, run-length, piece-fits, whole-next, broken-next, text-end}
+use borrow.Author.Needs.{needs}
+use native.Mathlib.Omega.{arith}
 use Rattle.utf.proofs.utf8.utf8_lossy_len.Statement.{statement}
 use Rattle.utf.proofs.utf8.utf8_lossy_len.Tie as tie
 
@@ -22,66 +23,91 @@ abbrev μ-loop : tie.MeasureT-loop
 loop-holds : tie.Need-loop-holds Inv-loop μ-loop
 loop-holds c = omega arith
 
-sub-run-of : tie.Need-sub-run-of Inv-loop μ-loop
-sub-run-of c = omega arith
+sub-ascii-run : tie.Need-sub-ascii-run Inv-loop μ-loop
+sub-ascii-run c = omega arith
 
-part-run-of-start : tie.Need-part-run-of-start Inv-loop μ-loop
-part-run-of-start c = omega arith
+part-ascii-run-start : tie.Need-part-ascii-run-start Inv-loop μ-loop
+part-ascii-run-start c = omega arith
 
-part-run-of-end : tie.Need-part-run-of-end Inv-loop μ-loop
-part-run-of-end c = omega arith
+part-ascii-run-end : tie.Need-part-ascii-run-end Inv-loop μ-loop
+part-ascii-run-end c = omega arith
 
-run-of-requires : tie.Need-run-of-requires Inv-loop μ-loop
-run-of-requires c κs = search needs
+ascii-run-requires : tie.Need-ascii-run-requires Inv-loop μ-loop
+ascii-run-requires c κs = search needs
 
--- where the run is known
-module _ (c : tie.After-run-of Inv-loop μ-loop) where
+-- after the run of ASCII
+module _ (c : tie.After-ascii-run Inv-loop μ-loop) where
   abbrev S : List ℕ
   S = now (c .before .before .before .before .args .s)
 
   abbrev I : ℕ
-  I = c .before .before .loop .i
+  I = c .before .before .loop .i + c .ascii-run .result
 
-  abbrev E : ℕ
-  E = c .run-of .result .end
+  run : Good (c .ascii-run .result) (drop (c .before .before .loop .i) S)
+  run = ascii-good-at S (c .before .before .loop .i) (c .ascii-run .result) (c .ascii-run .ensures)
 
-  abbrev B : ℕ
-  B = c .run-of .result .bad
+  fits : I ≤ length S
+  fits = omega (arith, run .fits, length-drop (c .before .before .loop .i) S, c .before .before .loop .inv .0)
 
-  good : Good E (drop I S)
-  good = rw (rest S I) at (c .run-of .ensures .0)
-
-  stop : Stop E B (drop I S)
-  stop = rw (rest S I) at (c .run-of .ensures .1)
-
-  fits : I + (E + B) ≤ length S
-  fits = omega (arith, stop .fits, length-drop I S, c .before .before .loop .inv .0)
-
-add-n : tie.Need-add-n Inv-loop μ-loop
-add-n c = omega (arith, fits (c .before))
-
-returns : tie.Need-returns Inv-loop μ-loop
-returns c =
-    let at = c .before .before .before in
-    omega (arith, at .before .before .loop .inv .2, length-done (S at) (I at) (E at) (B at) (stop at) (good at) (c .if1 .taken))
-
-add-n-2 : tie.Need-add-n-2 Inv-loop μ-loop
-add-n-2 c = omega (arith, fits (c .before .before .before))
+  length-after : length (utf8Text (drop (c .before .before .loop .i) S)) ≡ c .ascii-run .result + length (utf8Text (drop I S))
+  length-after = run-length S (c .before .before .loop .i) (c .ascii-run .result) run
 
 add-i : tie.Need-add-i Inv-loop μ-loop
-add-i c = omega (arith, fits (c .before .before .before .before))
+add-i c = omega (arith, fits c)
+
+add-n : tie.Need-add-n Inv-loop μ-loop
+add-n c = omega (arith, fits c, c .before .before .loop .inv .1)
+
+returns : tie.Need-returns Inv-loop μ-loop
+returns c = omega (arith, c .before .before .before .loop .inv .2, length-after (c .before), ap length (text-end (S (c .before)) (I (c .before)) (c .if1 .taken)))
+
+step-at-requires : tie.Need-step-at-requires Inv-loop μ-loop
+step-at-requires c κs = omega arith
 
 add-i-2 : tie.Need-add-i-2 Inv-loop μ-loop
-add-i-2 c = omega (arith, fits (c .before .before .before .before))
+add-i-2 c = omega (arith, piece-fits (S (c .before .before .before)) (I (c .before .before .before)) _ true (c .before .before .if1 .left) (c .before .step-at .ensures .whole (c .if2 .taken)))
+
+add-n-2 : tie.Need-add-n-2 Inv-loop μ-loop
+add-n-2 c = omega (arith, fits (c .before .before .before), c .before .before .before .before .before .loop .inv .1, piece-fits (S (c .before .before .before)) (I (c .before .before .before)) _ true (c .before .before .if1 .left) (c .before .step-at .ensures .whole (c .if2 .taken)))
 
 loop-less : tie.Need-loop-less Inv-loop μ-loop
-loop-less c = omega (arith, fits (c .before .before .before .before), c .before .if1 .left)
+loop-less c = omega (arith, piece-fits (S (c .before .before .before)) (I (c .before .before .before)) _ true (c .before .before .if1 .left) (c .before .step-at .ensures .whole (c .if2 .taken)), c .before .step-at .ensures .whole (c .if2 .taken) .0)
 
 loop-again : tie.Need-loop-again Inv-loop μ-loop
-loop-again c =
-    let at = c .before .before .before .before in
-    let some : 0 < B at = omega (arith, c .before .if1 .left) in
-    omega (arith, fits at, at .before .before .loop .inv .1, at .before .before .loop .inv .2, length-part (S at) (I at) (E at) (B at) (stop at) (good at) some)
+loop-again c = omega (arith, piece-fits (S (c .before .before .before)) (I (c .before .before .before)) _ true (c .before .before .if1 .left) (c .before .step-at .ensures .whole (c .if2 .taken)), c .before .before .before .before .before .loop .inv .1, c .before .before .before .before .before .loop .inv .2, length-after (c .before .before .before), whole-next (S (c .before .before .before)) (I (c .before .before .before)) _ (c .before .before .if1 .left) (c .before .step-at .ensures .whole (c .if2 .taken)))
+
+add-i-3 : tie.Need-add-i-3 Inv-loop μ-loop
+add-i-3 c = omega (arith, piece-fits (S (c .before .before .before)) (I (c .before .before .before)) _ false (c .before .before .if1 .left) (c .before .step-at .ensures .broken (c .if2 .left)))
+
+add-n-3 : tie.Need-add-n-3 Inv-loop μ-loop
+add-n-3 c = omega (arith, fits (c .before .before .before), c .before .before .before .before .before .loop .inv .1)
+
+loop-less-2 : tie.Need-loop-less-2 Inv-loop μ-loop
+loop-less-2 c = omega (arith, piece-fits (S (c .before .before .before)) (I (c .before .before .before)) _ false (c .before .before .if1 .left) (c .before .step-at .ensures .broken (c .if2 .left)), c .before .step-at .ensures .broken (c .if2 .left) .0)
+
+loop-again-2 : tie.Need-loop-again-2 Inv-loop μ-loop
+loop-again-2 c = omega (arith, piece-fits (S (c .before .before .before)) (I (c .before .before .before)) _ false (c .before .before .if1 .left) (c .before .step-at .ensures .broken (c .if2 .left)), c .before .step-at .ensures .broken (c .if2 .left) .0, c .before .before .before .before .before .loop .inv .1, c .before .before .before .before .before .loop .inv .2, length-after (c .before .before .before), broken-next (S (c .before .before .before)) (I (c .before .before .before)) _ (c .before .before .if1 .left) (c .before .step-at .ensures .broken (c .if2 .left)))
 
 pub utf8-lossy-len-spec : {M : Type 1} → statement M
-utf8-lossy-len-spec = tie.close (tie.spec Inv-loop μ-loop loop-holds sub-run-of part-run-of-start part-run-of-end run-of-requires add-n returns add-n-2 add-i add-i-2 loop-less loop-again)
+utf8-lossy-len-spec =
+    tie.close
+    (tie.spec
+    Inv-loop
+    μ-loop
+    loop-holds
+    sub-ascii-run
+    part-ascii-run-start
+    part-ascii-run-end
+    ascii-run-requires
+    add-i
+    add-n
+    returns
+    step-at-requires
+    add-i-2
+    add-n-2
+    loop-less
+    loop-again
+    add-i-3
+    add-n-3
+    loop-less-2
+    loop-again-2)

@@ -1,16 +1,17 @@
--- `unicode::utf8::utf8_lossy_write` meets its contract. The loop's invariant: what is not yet written is the text from i on. Assumes nothing.
-use Prim.Native.Nat.{ℕ, _+_, _-_, _^_, _<_, _≤_}
-use mathlib.Core.Path.{_≡_, refl, sym, ap, _∙_}
+-- `utf::utf8::utf8_lossy_write` meets its contract. The loop's invariant: what is not yet written is the text from i on. Assumes nothing.
+use Prim.Native.Nat.{ℕ, suc, _+_, _-_, _^_, _<_, _≤_}
+use mathlib.Core.Bool.{true, false}
 use mathlib.Core.List.{List, _++_}
-use native.Mathlib.Omega.{arith}
-use borrow.Author.Needs.{needs}
+use mathlib.Core.Path.{_≡_, refl, sym, ap}
 use denote.Ref.{now}
-use lib.ListN.{length, take, drop, length-drop}
-use Rattle.unicode.specs.Unicode.{utf8}
-use Rattle.utf.specs.Utf8Code.{Good, Stop}
-use Rattle.unicode.specs.Unicode.{utf8Text}
+use lib.ListN.{length, take, drop, length-drop, length-append}
+use Rattle.unicode.specs.Unicode.{pieceText, utf8Text}
+use Rattle.utf.specs.Ascii.{AsciiRun}
+use Rattle.utf.specs.Utf8Code.{firstAt, isScalar}
 use Rattle.buffer.proofs.Writing.{Writing, start, wrote-rest, fits, fits-rest, as-long, all, end}
-use Rattle.utf.proofs.Utf8Runs.{rest, good-text, text-done, text-part}
+use Rattle.utf.proofs.AsciiLaws.{rest, rest-length}
+use Rattle.utf.proofs.Utf8Runs.{ascii-wrote-rest, piece-text, piece-fits, whole-length, broken-length, text-end}
+use native.Mathlib.Omega.{arith}
 use Rattle.utf.proofs.utf8.utf8_lossy_write.Statement.{statement}
 use Rattle.utf.proofs.utf8.utf8_lossy_write.Tie as tie
 
@@ -23,178 +24,132 @@ abbrev μ-loop : tie.MeasureT-loop
 loop-holds : tie.Need-loop-holds Inv-loop μ-loop
 loop-holds c = (omega arith, start _ _ (c .before .before .pre))
 
-sub-run-of : tie.Need-sub-run-of Inv-loop μ-loop
-sub-run-of c = omega arith
+sub-copy-ascii : tie.Need-sub-copy-ascii Inv-loop μ-loop
+sub-copy-ascii c = omega arith
 
-part-run-of-start : tie.Need-part-run-of-start Inv-loop μ-loop
-part-run-of-start c = omega arith
+part-copy-ascii-start : tie.Need-part-copy-ascii-start Inv-loop μ-loop
+part-copy-ascii-start c = omega arith
 
-part-run-of-end : tie.Need-part-run-of-end Inv-loop μ-loop
-part-run-of-end c = omega arith
+part-copy-ascii-end : tie.Need-part-copy-ascii-end Inv-loop μ-loop
+part-copy-ascii-end c = omega arith
 
-run-of-requires : tie.Need-run-of-requires Inv-loop μ-loop
-run-of-requires c κs = search needs
+sub-copy-ascii-2 : tie.Need-sub-copy-ascii-2 Inv-loop μ-loop
+sub-copy-ascii-2 c = omega (arith, fits (c .before .loop .inv .1))
 
--- where the run is known
-module _ (c : tie.After-run-of Inv-loop μ-loop) where
+part-copy-ascii-start-2 : tie.Need-part-copy-ascii-start-2 Inv-loop μ-loop
+part-copy-ascii-start-2 c = omega (arith, fits (c .before .loop .inv .1))
+
+part-copy-ascii-end-2 : tie.Need-part-copy-ascii-end-2 Inv-loop μ-loop
+part-copy-ascii-end-2 c = omega arith
+
+copy-ascii-requires : tie.Need-copy-ascii-requires Inv-loop μ-loop
+copy-ascii-requires c κs = rw (rest (now (c .before .before .before .before .before .args .s)) (c .before .before .loop .i)) (omega (arith, fits (c .before .before .loop .inv .1), rest-length (c .before .before .loop .out) (c .before .before .loop .o)))
+
+-- after the run of ASCII
+module _ (c : tie.After-copy-ascii Inv-loop μ-loop) where
   abbrev S : List ℕ
-  S = now (c .before .before .before .before .before .args .s)
+  S = now (c .before .before .before .before .before .before .args .s)
 
   abbrev D : List ℕ
-  D = now (c .before .before .before .before .before .args .out)
+  D = now (c .before .before .before .before .before .before .args .out)
+
+  abbrev I₀ : ℕ
+  I₀ = c .before .before .before .loop .i
+
+  abbrev O₀ : ℕ
+  O₀ = c .before .before .before .loop .o
+
+  abbrev Out₀ : List ℕ
+  Out₀ = c .before .before .before .loop .out
 
   abbrev I : ℕ
-  I = c .before .before .loop .i
+  I = I₀ + c .copy-ascii .result
 
   abbrev O : ℕ
-  O = c .before .before .loop .o
+  O = O₀ + c .copy-ascii .result
 
   abbrev Out : List ℕ
-  Out = c .before .before .loop .out
+  Out = take O₀ Out₀ ++ (c .copy-ascii .last .1 .0 ++ drop (length Out₀ - O₀) (drop O₀ Out₀))
 
-  abbrev E : ℕ
-  E = c .run-of .result .end
-
-  abbrev B : ℕ
-  B = c .run-of .result .bad
-
-  good : Good E (drop I S)
-  good = rw (rest S I) at (c .run-of .ensures .0)
-
-  stop : Stop E B (drop I S)
-  stop = rw (rest S I) at (c .run-of .ensures .1)
-
-  bounds : I + (E + B) ≤ length S
-  bounds = omega (arith, stop .fits, length-drop I S, c .before .before .loop .inv .0)
-
-  small : length D < 2 ^ 64
-  small = c .before .before .before .before .before .good .1 .0 .0
+  run : AsciiRun (c .copy-ascii .result) (drop I₀ S)
+  run = rw (rest S I₀) at (c .copy-ascii .ensures .0)
 
   w : Writing (utf8Text S) D (utf8Text (drop I S)) Out O
-  w = c .before .before .loop .inv .1
+  w = ascii-wrote-rest S D Out₀ I₀ O₀ (c .before .before .before .loop .inv .1) (c .copy-ascii .result) run (c .copy-ascii .last .1 .0) (rw (rest S I₀) at (c .copy-ascii .ensures .1))
 
-  -- the run, and the text after it
-  abbrev P : List ℕ
-  P = take E (drop I S)
+  within-s : I ≤ length S
+  within-s = omega (arith, run .fits, length-drop I₀ S, c .before .before .before .loop .inv .0)
 
-  abbrev R : List ℕ
-  R = utf8Text (drop E (drop I S))
+  small : length D < 2 ^ 64
+  small = c .before .before .before .before .before .before .good .1 .0 .0
 
-  run-text : utf8Text (drop I S) ≡ P ++ R
-  run-text = good-text E (drop I S) good
-
-  lent : take (I + E - I) (drop I S) ≡ P
-  lent = let q : I + E - I ≡ E = omega arith in ap (λ (n : ℕ). take n (drop I S)) q
-
-add-e : tie.Need-add-e Inv-loop μ-loop
-add-e c = omega (arith, bounds (c .before))
-
-sub-copy : tie.Need-sub-copy Inv-loop μ-loop
-sub-copy c = omega arith
-
-part-copy-start : tie.Need-part-copy-start Inv-loop μ-loop
-part-copy-start c = omega arith
-
-part-copy-end : tie.Need-part-copy-end Inv-loop μ-loop
-part-copy-end c = omega (arith, bounds (c .before))
-
-sub-copy-2 : tie.Need-sub-copy-2 Inv-loop μ-loop
-sub-copy-2 c = omega (arith, fits (w (c .before .before)))
-
-part-copy-start-2 : tie.Need-part-copy-start-2 Inv-loop μ-loop
-part-copy-start-2 c = omega (arith, fits (w (c .before .before)))
-
-part-copy-end-2 : tie.Need-part-copy-end-2 Inv-loop μ-loop
-part-copy-end-2 c = omega arith
-
-copy-requires : tie.Need-copy-requires Inv-loop μ-loop
-copy-requires c κs =
-    let at = c .before .before .before in
-    fits-rest (w at) (P at) (R at) (run-text at) (ap length (lent at))
-
--- where the run is written
-module _ (c : tie.After-copy Inv-loop μ-loop) where
-  abbrev at : tie.After-run-of Inv-loop μ-loop
-  at = c .before .before .before .before
-
-  abbrev Out₁ : List ℕ
-  Out₁ = take (O at) (Out at) ++ (c .copy .last .1 .0 ++ drop (length (Out at) - O at) (drop (O at) (Out at)))
-
-  w₁ : Writing (utf8Text (S at)) (D at) (R at) Out₁ (O at + c .copy .result)
-  w₁ = wrote-rest (w at) (P at) (R at) (run-text at) (c .copy .last .1 .0) (rw (lent at) at (c .copy .ensures .1)) (c .copy .result) (c .copy .ensures .0 ∙ ap length (lent at))
+add-i : tie.Need-add-i Inv-loop μ-loop
+add-i c = omega (arith, within-s (c .before .before))
 
 add-o : tie.Need-add-o Inv-loop μ-loop
-add-o c =
-    let c₁ = c .before .before in
-    omega (arith, fits (w₁ c₁), as-long (w₁ c₁))
+add-o c = omega (arith, fits (w (c .before .before)), as-long (w (c .before .before)), small (c .before .before))
 
 same-length : tie.Need-same-length Inv-loop μ-loop
-same-length c = as-long (w₁ (c .before .before .before .before))
+same-length c = as-long (w (c .before .before .before))
 
 returns : tie.Need-returns Inv-loop μ-loop
 returns c =
-    let c₁ = c .before .before .before .before in
-    let done = text-done (S (at c₁)) (I (at c₁)) (E (at c₁)) (B (at c₁)) (stop (at c₁)) (c .if1 .taken) in
-    (all (w₁ c₁) done, end (w₁ c₁) done)
+    let done = text-end (S (c .before .before .before)) (I (c .before .before .before)) (c .if1 .taken) in
+    (all (w (c .before .before .before)) done, end (w (c .before .before .before)) done)
 
-sub-write-replacement : tie.Need-sub-write-replacement Inv-loop μ-loop
-sub-write-replacement c = omega (arith, fits (w₁ (c .before .before .before .before)))
+sub-write-piece : tie.Need-sub-write-piece Inv-loop μ-loop
+sub-write-piece c = omega (arith, fits (w (c .before .before .before)))
 
-part-write-replacement-start : tie.Need-part-write-replacement-start Inv-loop μ-loop
-part-write-replacement-start c = omega (arith, fits (w₁ (c .before .before .before .before)))
+part-write-piece-start : tie.Need-part-write-piece-start Inv-loop μ-loop
+part-write-piece-start c = omega (arith, fits (w (c .before .before .before)))
 
-part-write-replacement-end : tie.Need-part-write-replacement-end Inv-loop μ-loop
-part-write-replacement-end c = omega arith
+part-write-piece-end : tie.Need-part-write-piece-end Inv-loop μ-loop
+part-write-piece-end c = omega arith
 
--- where the run is followed by a malformed part
+-- where a piece follows
 module _ (c : tie.Else1 Inv-loop μ-loop) where
-  abbrev c₁ : tie.After-copy Inv-loop μ-loop
-  c₁ = c .before .before .before .before
+  abbrev P : List ℕ
+  P = pieceText (firstAt (S (c .before .before .before)) (I (c .before .before .before)) .piece)
 
-  abbrev I₂ : ℕ
-  I₂ = I (at c₁) + (E (at c₁) + B (at c₁))
+  abbrev R : List ℕ
+  R = utf8Text (drop (I (c .before .before .before) + suc (firstAt (S (c .before .before .before)) (I (c .before .before .before)) .more)) (S (c .before .before .before)))
 
-  part-text : R (at c₁) ≡ utf8 0xFFFD ++ utf8Text (drop I₂ (S (at c₁)))
-  part-text = text-part (S (at c₁)) (I (at c₁)) (E (at c₁)) (B (at c₁)) (stop (at c₁)) (omega (arith, c .if1 .left))
+  text : utf8Text (drop (I (c .before .before .before)) (S (c .before .before .before))) ≡ P ++ R
+  text = piece-text (S (c .before .before .before)) (I (c .before .before .before)) (suc (firstAt (S (c .before .before .before)) (I (c .before .before .before)) .more)) (isScalar (firstAt (S (c .before .before .before)) (I (c .before .before .before)) .piece)) (c .if1 .left) (refl, refl)
 
-write-replacement-requires : tie.Need-write-replacement-requires Inv-loop μ-loop
-unfolding utf8
-write-replacement-requires c κs = fits-rest (w₁ (c₁ (c .before))) (utf8 0xFFFD) _ (part-text (c .before)) refl
+  room : O (c .before .before .before) + length P ≤ length (Out (c .before .before .before))
+  room = omega (arith, fits (w (c .before .before .before)), ap length text, length-append P R)
 
--- where U+FFFD is written for it
-module _ (c : tie.After-write-replacement Inv-loop μ-loop) where
-  abbrev c₂ : tie.Else1 Inv-loop μ-loop
-  c₂ = c .before .before
+write-piece-requires : tie.Need-write-piece-requires Inv-loop μ-loop
+write-piece-requires c κs = (c .before .if1 .left, fits-rest (w (c .before .before .before .before)) (P (c .before)) (R (c .before)) (text (c .before)) refl)
 
-  abbrev O₁ : ℕ
-  O₁ = O (at (c₁ c₂)) + c₁ c₂ .copy .result
-
-  abbrev Out₂ : List ℕ
-  Out₂ = take O₁ (Out₁ (c₁ c₂)) ++ (c .write-replacement .last .0 ++ drop (length (Out₁ (c₁ c₂)) - O₁) (drop O₁ (Out₁ (c₁ c₂))))
-
-  w₂ : Writing (utf8Text (S (at (c₁ c₂)))) (D (at (c₁ c₂))) (utf8Text (drop (I₂ c₂) (S (at (c₁ c₂))))) Out₂ (O₁ + c .write-replacement .result)
-  unfolding utf8
-  w₂ = wrote-rest (w₁ (c₁ c₂)) (utf8 0xFFFD) _ (part-text c₂) (c .write-replacement .last .0) (c .write-replacement .ensures .1) (c .write-replacement .result) (c .write-replacement .ensures .0)
+add-i-2 : tie.Need-add-i-2 Inv-loop μ-loop
+add-i-2 c = omega (arith, piece-fits (S (c .before .before .before .before .before .before .before .before)) (I (c .before .before .before .before .before .before .before .before)) _ true (c .before .before .before .before .before .if1 .left) (c .before .before .before .write-piece .ensures .0 .whole (c .if2 .taken)))
 
 add-o-2 : tie.Need-add-o-2 Inv-loop μ-loop
-add-o-2 c =
-    let d = c .before .before in
-    omega (arith, fits (w₂ d), as-long (w₂ d), small (at (c₁ (c₂ d))))
-
-add-i : tie.Need-add-i Inv-loop μ-loop
-add-i c = omega (arith, bounds (at (c₁ (c₂ (c .before .before .before)))))
+add-o-2 c = omega (arith, room (c .before .before .before .before .before), as-long (w (c .before .before .before .before .before .before .before .before)), small (c .before .before .before .before .before .before .before .before), whole-length (S (c .before .before .before .before .before .before .before .before)) (I (c .before .before .before .before .before .before .before .before)) _ (c .before .before .before .before .before .if1 .left) (c .before .before .before .write-piece .ensures .0 .whole (c .if2 .taken)))
 
 loop-less : tie.Need-loop-less Inv-loop μ-loop
-loop-less c =
-    let e = c₂ (c .before .before .before) in
-    omega (arith, bounds (at (c₁ e)), e .if1 .left)
+loop-less c = omega (arith, piece-fits (S (c .before .before .before .before .before .before .before .before)) (I (c .before .before .before .before .before .before .before .before)) _ true (c .before .before .before .before .before .if1 .left) (c .before .before .before .write-piece .ensures .0 .whole (c .if2 .taken)), c .before .before .before .write-piece .ensures .0 .whole (c .if2 .taken) .0)
 
 loop-again : tie.Need-loop-again Inv-loop μ-loop
 loop-again c =
-    let d = c .before .before .before in
-    let a = at (c₁ (c₂ d)) in
-    let k : I a + E a + B a ≡ I₂ (c₂ d) = omega arith in
-    (omega (arith, bounds a), rw k (w₂ d))
+    let p = c .before .before .before .write-piece .ensures .0 .whole (c .if2 .taken) in
+    (piece-fits _ _ _ true (c .before .before .before .before .before .if1 .left) p, wrote-rest (w (c .before .before .before .before .before .before .before .before)) (P (c .before .before .before .before .before)) _ (piece-text (S (c .before .before .before .before .before .before .before .before)) (I (c .before .before .before .before .before .before .before .before)) (c .before .before .before .write-piece .result) true (c .before .before .before .before .before .if1 .left) p) (c .before .before .before .write-piece .last .1 .1 .0) (c .before .before .before .write-piece .ensures .1) _ (sym (whole-length _ _ _ (c .before .before .before .before .before .if1 .left) p)))
+
+add-i-3 : tie.Need-add-i-3 Inv-loop μ-loop
+add-i-3 c = omega (arith, piece-fits (S (c .before .before .before .before .before .before .before .before)) (I (c .before .before .before .before .before .before .before .before)) _ false (c .before .before .before .before .before .if1 .left) (c .before .before .before .write-piece .ensures .0 .broken (c .if2 .left)))
+
+add-o-3 : tie.Need-add-o-3 Inv-loop μ-loop
+add-o-3 c = omega (arith, room (c .before .before .before .before .before), as-long (w (c .before .before .before .before .before .before .before .before)), small (c .before .before .before .before .before .before .before .before), broken-length (S (c .before .before .before .before .before .before .before .before)) (I (c .before .before .before .before .before .before .before .before)) _ (c .before .before .before .write-piece .ensures .0 .broken (c .if2 .left)))
+
+loop-less-2 : tie.Need-loop-less-2 Inv-loop μ-loop
+loop-less-2 c = omega (arith, piece-fits (S (c .before .before .before .before .before .before .before .before)) (I (c .before .before .before .before .before .before .before .before)) _ false (c .before .before .before .before .before .if1 .left) (c .before .before .before .write-piece .ensures .0 .broken (c .if2 .left)), c .before .before .before .write-piece .ensures .0 .broken (c .if2 .left) .0)
+
+loop-again-2 : tie.Need-loop-again-2 Inv-loop μ-loop
+loop-again-2 c =
+    let p = c .before .before .before .write-piece .ensures .0 .broken (c .if2 .left) in
+    (piece-fits _ _ _ false (c .before .before .before .before .before .if1 .left) p, wrote-rest (w (c .before .before .before .before .before .before .before .before)) (P (c .before .before .before .before .before)) _ (piece-text (S (c .before .before .before .before .before .before .before .before)) (I (c .before .before .before .before .before .before .before .before)) (c .before .before .before .write-piece .result - 8) false (c .before .before .before .before .before .if1 .left) p) (c .before .before .before .write-piece .last .1 .1 .0) (c .before .before .before .write-piece .ensures .1) _ (sym (broken-length _ _ _ p)))
 
 pub utf8-lossy-write-spec : {M : Type 1} → statement M
 utf8-lossy-write-spec =
@@ -203,26 +158,26 @@ utf8-lossy-write-spec =
     Inv-loop
     μ-loop
     loop-holds
-    sub-run-of
-    part-run-of-start
-    part-run-of-end
-    run-of-requires
-    add-e
-    sub-copy
-    part-copy-start
-    part-copy-end
-    sub-copy-2
-    part-copy-start-2
-    part-copy-end-2
-    copy-requires
+    sub-copy-ascii
+    part-copy-ascii-start
+    part-copy-ascii-end
+    sub-copy-ascii-2
+    part-copy-ascii-start-2
+    part-copy-ascii-end-2
+    copy-ascii-requires
+    add-i
     add-o
     same-length
     returns
-    sub-write-replacement
-    part-write-replacement-start
-    part-write-replacement-end
-    write-replacement-requires
+    sub-write-piece
+    part-write-piece-start
+    part-write-piece-end
+    write-piece-requires
+    add-i-2
     add-o-2
-    add-i
     loop-less
-    loop-again)
+    loop-again
+    add-i-3
+    add-o-3
+    loop-less-2
+    loop-again-2)

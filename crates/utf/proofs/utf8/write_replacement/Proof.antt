@@ -1,12 +1,11 @@
--- `unicode::utf8::write_replacement` meets its contract: three stores from index 0. Assumes nothing.
-use mathlib.Core.Path.{refl}
+-- `utf::utf8::write_replacement` meets its contract: three stores from index 0. Assumes nothing.
 use mathlib.Core.List.{[], _∷_}
-use native.Mathlib.Omega.{arith}
-use borrow.Author.Needs.{needs}
 use denote.Ref.{now}
 use lib.ListN.{length-set}
 use lib.Seq.{sets-eq}
 use Rattle.unicode.specs.Unicode.{utf8}
+use native.Mathlib.Omega.{arith}
+use borrow.Author.Needs.{needs}
 use Rattle.utf.proofs.utf8.write_replacement.Statement.{statement}
 use Rattle.utf.proofs.utf8.write_replacement.Tie as tie
 
@@ -24,7 +23,8 @@ same-length c = search needs
 
 returns : tie.Need-returns
 unfolding utf8
-returns c = (refl, sets-eq (0xEF ∷ 0xBF ∷ 0xBD ∷ []) (now (c .args .out)) 0 (c .pre))
+returns c = sets-eq (0xEF ∷ 0xBF ∷ 0xBD ∷ []) (now (c .args .out)) 0 (c .pre)
 
 pub write-replacement-spec : {M : Type 1} → statement M
-write-replacement-spec = tie.close (tie.spec slice-write-out slice-write-out-2 slice-write-out-3 same-length returns)
+write-replacement-spec =
+    tie.close (tie.spec slice-write-out slice-write-out-2 slice-write-out-3 same-length returns)

@@ -13,6 +13,7 @@ use Rattle.unicode.proofs.ScalarBytes.{utf8-one, utf8-two}
 use Rattle.buffer.proofs.Writing.{next}
 use Rattle.codepage.specs.CodePage.{bytePieces, byteText, same}
 use Rattle.codepage.specs.Blocks.{highs}
+use Rattle.codepage.proofs.ByteText.{byte-length}
 
 -- ---- a block, and the text after it
 
@@ -53,6 +54,12 @@ unfolding byteText bytePieces textOf pieceText highs
 text-length [] h = refl
 text-length (b ∷ s) h =
     length-append (utf8 b) (byteText same s) ∙ omega (arith, small-length b (h 0), text-length s (λ i. h (suc i)))
+
+-- two bytes of text at least, where two bytes are left
+pub two-left : (s : List ℕ) (i : ℕ) → ((j : ℕ) → getD s j 0 < 0x100) → i + 1 < length s → 2 ≤ length (byteText same (drop i s))
+two-left s i h k =
+    omega
+    (arith, byte-length same s i (omega arith), byte-length same s (i + 1) k, small-length (getD s i 0) (h i), small-length (getD s (i + 1) 0) (h (i + 1)))
 
 -- where no byte is 80 or above, the bytes are their text
 pub plain-text : (s : List ℕ) → highs s ≡ 0 → byteText same s ≡ s

@@ -98,7 +98,7 @@ impl<L: Library> Run<L> {
             Until::Cases(most) => self.cases() >= most,
             // The clock is read seldom where cases are short.
             Until::Time(end) => {
-                (data.len() > 1000 || self.cases() % 1024 == 0) && Instant::now() >= end
+                (data.len() > 1000 || self.cases().is_multiple_of(1024)) && Instant::now() >= end
             }
         };
         if enough {

@@ -7,8 +7,8 @@ use native.Mathlib.Omega.{arith}
 use native.Mathlib.Numerals.{add-one}
 use borrow.Author.Tests.{eq-eqb, ne-eqb, eqb-true}
 use lib.Dec.{eqb}
-use lib.ListN.{length, take, drop, getD, length-append, length-drop, length-map, length-replicate, List·getD-map}
-use lib.Seq.{slice, slice-cons, slice-empty, getD-take, take-all, length-take-le}
+use lib.ListN.{length, take, drop, getD, length-append, length-drop, length-map, length-replicate, take-append-drop, List·getD-map}
+use lib.Seq.{slice, slice-cons, slice-empty, drop-append-le, getD-take, take-all, take-take, length-take-le}
 use Rattle.packed.specs.Packed.{nibbles, signNibble, sign, digitNibbles, character, digits, trimmed, zeros, fraction, decimalText}
 use Rattle.packed.specs.Inner.{Trimmed}
 
@@ -79,10 +79,28 @@ digit s k h =
 pub slice-next : (s : List ℕ) (k e b : ℕ) → k < e → e < 2 * length s → b ≡ character (getD (nibbles s) k 0) → slice k e (digits s) ≡ b ∷ slice (k + 1) e (digits s)
 slice-next s k e b h j q = rw (q ∙ sym (digit s k (omega arith)), add-one k) (slice-cons k e (digits s) 0x30 h (omega (arith, digits-length s)))
 
+-- the digits of the bytes from k up to j: the two of the byte k are the next
+pub bytes-next : (s : List ℕ) (k j : ℕ) → k < j → j < length s
+    → slice (2 * k) (2 * j) (digits s) ≡ character (getD s k 0 / 16) ∷ character (getD s k 0 % 16) ∷ slice (2 * (k + 1)) (2 * j) (digits s)
+bytes-next s k j h q =
+    let e : 2 * k + 1 + 1 ≡ 2 * (k + 1) = omega arith in
+    slice-next s (2 * k) (2 * j) (character (getD s k 0 / 16)) (omega arith) (omega arith) (ap character (sym (nibble-high s k (omega arith))))
+    ∙ ap (λ (l : List ℕ). character (getD s k 0 / 16) ∷ l)
+    (slice-next s (2 * k + 1) (2 * j) (character (getD s k 0 % 16)) (omega arith) (omega arith) (ap character (sym (nibble-low s k (omega arith))))
+    ∙ ap (λ (n : ℕ). character (getD s k 0 % 16) ∷ slice n (2 * j) (digits s)) e)
+
 pub slice-done : (ds : List ℕ) (k e : ℕ) → k ≤ e → e ≤ k → slice k e ds ≡ []
 slice-done ds k e h j =
     let q : k ≡ e = omega arith in
     ap (λ (n : ℕ). slice n e ds) q ∙ slice-empty e ds
+
+-- a run of digits in two
+pub slice-split : (ds : List ℕ) (a b e : ℕ) → a ≤ b → b ≤ e → e ≤ length ds → slice a e ds ≡ slice a b ds ++ slice b e ds
+slice-split ds a b e h k q =
+    let x : List ℕ = take e ds in
+    ap (drop a) (sym (take-append-drop b x))
+    ∙ drop-append-le a (take b x) (drop b x) (omega (arith, length-take-le b x (omega (arith, length-take-le e ds q))))
+    ∙ ap (λ (l : List ℕ). drop a l ++ drop b x) (take-take b e ds k)
 
 -- ---- the whole part
 

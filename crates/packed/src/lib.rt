@@ -50,8 +50,8 @@ fn whole_start(data: &[u8], w: usize) -> usize
     z
 }
 
-// Writes the digits from a up to e.
-fn digits_write(data: &[u8], a: usize, e: usize, out: &mut [u8]) -> usize
+// Writes the digits from a up to e, one by one.
+fn by_digit_write(data: &[u8], a: usize, e: usize, out: &mut [u8]) -> usize
     requires { ⌜ (a ≤ e) × ((e < 2 * length (now «data»)) × (length (slice a e (digits (now «data»))) ≤ length (now out))) ⌝ }
     ensures count { λ r. ⌜ r ≡ length (slice a e (digits (now («data» .entry)))) ⌝ }
     ensures bytes { λ _. ⌜ now (out .exit) ≡ written (slice a e (digits (now («data» .entry)))) (now (out .entry)) ⌝ }
@@ -63,6 +63,42 @@ fn digits_write(data: &[u8], a: usize, e: usize, out: &mut [u8]) -> usize
         o += 1;
         k += 1;
     }
+    o
+}
+
+// Writes the digits of the bytes from i up to j, two at a time.
+fn by_byte_write(data: &[u8], i: usize, j: usize, out: &mut [u8]) -> usize
+    requires { ⌜ (i ≤ j) × ((j < length (now «data»)) × (length (slice (2 * i) (2 * j) (digits (now «data»))) ≤ length (now out))) ⌝ }
+    ensures count { λ r. ⌜ r ≡ length (slice (2 * i) (2 * j) (digits (now («data» .entry)))) ⌝ }
+    ensures bytes { λ _. ⌜ now (out .exit) ≡ written (slice (2 * i) (2 * j) (digits (now («data» .entry)))) (now (out .entry)) ⌝ }
+{
+    let mut o = 0;
+    let mut k = i;
+    while k < j {
+        let b = data[k];
+        out[o] = 0x30 + b / 16;
+        let p = o + 1;
+        out[p] = 0x30 + b % 16;
+        o = p + 1;
+        k += 1;
+    }
+    o
+}
+
+// Writes the digits from a up to e; many of them by bytes, with those of a byte that is not whole one by one.
+fn digits_write(data: &[u8], a: usize, e: usize, out: &mut [u8]) -> usize
+    requires { ⌜ (a ≤ e) × ((e < 2 * length (now «data»)) × (length (slice a e (digits (now «data»))) ≤ length (now out))) ⌝ }
+    ensures count { λ r. ⌜ r ≡ length (slice a e (digits (now («data» .entry)))) ⌝ }
+    ensures bytes { λ _. ⌜ now (out .exit) ≡ written (slice a e (digits (now («data» .entry)))) (now (out .entry)) ⌝ }
+{
+    if e - a < 8 {
+        return by_digit_write(data, a, e, out);
+    }
+    let i = a / 2 + 1;
+    let j = e / 2;
+    let mut o = by_digit_write(data, a, 2 * i, out);
+    o += by_byte_write(data, i, j, &mut out[o..]);
+    o += by_digit_write(data, 2 * j, e, &mut out[o..]);
     o
 }
 

@@ -1,70 +1,201 @@
--- `packed::digits_write` meets its contract. The loop's invariant: what is not yet written are the digits from k on. Assumes nothing.
-use Prim.Native.Nat.{ℕ, _+_, _-_, _≤_}
-use mathlib.Core.List.{List, _∷_}
-use mathlib.Core.Path.{_≡_, ap}
+-- `packed::digits_write` meets its contract: the digits up to a whole byte, those of the whole bytes, and the rest are written one after the other.
+-- Assumes nothing.
+use Prim.Native.Nat.{ℕ, _+_, _-_, _*_, _/_, _≤_}
+use mathlib.Core.List.{List, [], _++_, append-nil}
+use mathlib.Core.Path.{_≡_, refl, sym, ap, _∙_}
 use native.Mathlib.Omega.{arith}
+use borrow.Author.Needs.{needs}
 use denote.Ref.{now}
-use lib.ListN.{length}
+use lib.ListN.{length, take, drop, length-append}
 use lib.Seq.{slice}
-use Rattle.buffer.proofs.Writing.{Writing, start, stored, fits, as-long, all, end}
+use Rattle.buffer.proofs.Writing.{Writing, wrote-first, wrote-rest, fits, fits-rest, as-long, all, end}
 use Rattle.packed.specs.Packed.{digits}
-use Rattle.packed.proofs.Nibbles.{slice-next, slice-done}
+use Rattle.packed.proofs.Nibbles.{digits-length, slice-split}
 use Rattle.packed.proofs.digits_write.Statement.{statement}
 use Rattle.packed.proofs.digits_write.Tie as tie
 
-abbrev Inv-loop : tie.InvT-loop
-Inv-loop s a e out₀ o₀ k₀ out o k = (k ≤ e) × Writing (slice a e (digits s)) out₀ (slice k e (digits s)) out o
+sub-if1 : tie.Need-sub-if1
+sub-if1 c = search needs
 
-abbrev μ-loop : tie.MeasureT-loop
-μ-loop s a e out₀ o₀ k₀ out o k = e - k
+by-digit-write-requires : tie.Need-by-digit-write-requires
+by-digit-write-requires c κs = search needs
 
-loop-holds : tie.Need-loop-holds Inv-loop μ-loop
-loop-holds c = (c .before .before .pre .0, start _ _ (c .before .before .pre .1 .1))
+same-length : tie.Need-same-length
+same-length c = search needs
 
-digit-at-requires : tie.Need-digit-at-requires Inv-loop μ-loop
-digit-at-requires c κs = omega (arith, c .before .before .before .before .pre)
+returns : tie.Need-returns
+returns c = search needs
 
--- the digit that was read is the next to be written
-module _ (c : tie.After-digit-at Inv-loop μ-loop) where
+add-i : tie.Need-add-i
+add-i c = search needs
+
+mul-by-digit-write : tie.Need-mul-by-digit-write
+mul-by-digit-write c = search needs
+
+-- the digits T of the bytes S are A, B and C; they go into the buffer D
+module _ (c : tie.Else1) where
+  abbrev entry : tie.Start
+  entry = c .before .before .before
+
   abbrev S : List ℕ
-  S = now (c .before .before .before .before .before .args .«data»)
+  S = now (entry .args .«data»)
 
-  abbrev k : ℕ
-  k = c .before .before .loop .k
+  abbrev D : List ℕ
+  D = now (entry .args .out)
 
-  abbrev e : ℕ
-  e = c .before .before .before .before .before .args .e
+  abbrev from : ℕ
+  from = entry .args .a
 
-  next : slice k e (digits S) ≡ c .digit-at .result ∷ slice (k + 1) e (digits S)
-  next =
-      slice-next S k e (c .digit-at .result) (c .before .loop-test .taken) (c .before .before .before .before .before .pre .1 .0)
-      (c .digit-at .ensures)
+  abbrev to : ℕ
+  to = entry .args .e
 
-slice-write-out : tie.Need-slice-write-out Inv-loop μ-loop
-slice-write-out c = omega (arith, fits (c .before .before .loop .inv .1), ap length (next c))
+  abbrev i : ℕ
+  i = from / 2 + 1
 
-add-o : tie.Need-add-o Inv-loop μ-loop
-add-o c = omega (arith, fits (c .before .before .loop .inv .1), ap length (next c))
+  abbrev j : ℕ
+  j = to / 2
 
-add-k : tie.Need-add-k Inv-loop μ-loop
-add-k c = omega arith
+  abbrev T : List ℕ
+  T = slice from to (digits S)
 
-loop-less : tie.Need-loop-less Inv-loop μ-loop
-loop-less c = omega arith
+  abbrev A : List ℕ
+  A = slice from (2 * i) (digits S)
 
-loop-again : tie.Need-loop-again Inv-loop μ-loop
-loop-again c = (omega arith, stored (c .before .before .loop .inv .1) (c .digit-at .result) _ (next c))
+  abbrev B : List ℕ
+  B = slice (2 * i) (2 * j) (digits S)
 
-same-length : tie.Need-same-length Inv-loop μ-loop
-same-length c = as-long (c .before .loop .inv .1)
+  abbrev C : List ℕ
+  C = slice (2 * j) to (digits S)
 
-returns : tie.Need-returns Inv-loop μ-loop
-returns c =
-    let l = c .before .loop in
-    let done = slice-done _ _ _ (l .inv .0) (c .loop-test .left) in
-    (all (l .inv .1) done, end (l .inv .1) done)
+  text : T ≡ A ++ (B ++ C)
+  text =
+      let k : to ≤ length (digits S) = omega (arith, digits-length S, entry .pre) in
+      let h : 2 * i ≤ 2 * j = omega (arith, c .if1 .left, entry .pre) in
+      slice-split (digits S) from (2 * i) to (omega arith) (omega arith) k
+      ∙ ap (λ (l : List ℕ). A ++ l) (slice-split (digits S) (2 * i) (2 * j) to h (omega arith) k)
+
+by-digit-write-requires-2 : tie.Need-by-digit-write-requires-2
+by-digit-write-requires-2 c κs =
+    let a = c .before in (
+      omega arith,
+      (
+        omega (arith, a .if1 .left, entry a .pre),
+        omega (arith, ap length (text a), length-append (A a) (B a ++ C a), entry a .pre),
+      ),
+    )
+
+-- the digits up to a whole byte are written
+module _ (c : tie.After-by-digit-write2) where
+  abbrev a : tie.Else1
+  a = c .before .before
+
+  abbrev Out : List ℕ
+  Out = c .by-digit-write2 .last .1 .1 .1 .0
+
+  abbrev O : ℕ
+  O = c .by-digit-write2 .result
+
+  w₀ : Writing (T a) (D a) (B a ++ C a) Out O
+  w₀ =
+      wrote-first (T a) (D a) (entry a .pre .1 .1) (A a) (B a ++ C a) (text a) _ (c .by-digit-write2 .ensures .1) _
+      (c .by-digit-write2 .ensures .0)
+
+sub-by-byte-write : tie.Need-sub-by-byte-write
+sub-by-byte-write c = omega (arith, fits (w₀ (c .before .before)))
+
+part-by-byte-write-start : tie.Need-part-by-byte-write-start
+part-by-byte-write-start c = omega (arith, fits (w₀ (c .before .before)))
+
+part-by-byte-write-end : tie.Need-part-by-byte-write-end
+part-by-byte-write-end c = search needs
+
+by-byte-write-requires : tie.Need-by-byte-write-requires
+by-byte-write-requires c κs =
+    let d = c .before .before .before in
+    let e = entry (a d) in
+    (omega (arith, a d .if1 .left, e .pre), (omega (arith, e .pre), fits-rest (w₀ d) (B (a d)) (C (a d)) refl refl))
+
+-- and those of the whole bytes
+module _ (c : tie.After-by-byte-write) where
+  abbrev b : tie.After-by-digit-write2
+  b = c .before .before .before .before
+
+  abbrev Out₁ : List ℕ
+  Out₁ = take (O b) (Out b) ++ (c .by-byte-write .last .1 .1 .1 .0 ++ drop (length (Out b) - O b) (drop (O b) (Out b)))
+
+  abbrev O₁ : ℕ
+  O₁ = O b + c .by-byte-write .result
+
+  w₁ : Writing (T (a b)) (D (a b)) (C (a b)) Out₁ O₁
+  w₁ = wrote-rest (w₀ b) (B (a b)) (C (a b)) refl _ (c .by-byte-write .ensures .1) _ (c .by-byte-write .ensures .0)
+
+add-o : tie.Need-add-o
+add-o c =
+    let d = c .before .before in
+    omega (arith, fits (w₁ d), as-long (w₁ d))
+
+mul-by-digit-write-2 : tie.Need-mul-by-digit-write-2
+mul-by-digit-write-2 c = search needs
+
+sub-by-digit-write : tie.Need-sub-by-digit-write
+sub-by-digit-write c = omega (arith, fits (w₁ (c .before .before)))
+
+part-by-digit-write-start : tie.Need-part-by-digit-write-start
+part-by-digit-write-start c = omega (arith, fits (w₁ (c .before .before)))
+
+part-by-digit-write-end : tie.Need-part-by-digit-write-end
+part-by-digit-write-end c = search needs
+
+by-digit-write-requires-3 : tie.Need-by-digit-write-requires-3
+by-digit-write-requires-3 c κs =
+    let d = c .before .before .before in
+    let e = entry (a (b d)) in
+    (omega arith, (e .pre .1 .0, fits-rest (w₁ d) (C (a (b d))) [] (sym (append-nil _)) refl))
+
+-- and the rest
+module _ (c : tie.After-by-digit-write3) where
+  abbrev d : tie.After-by-byte-write
+  d = c .before .before .before .before
+
+  w₂ : Writing (T (a (b d))) (D (a (b d))) []
+      (take (O₁ d) (Out₁ d) ++ (c .by-digit-write3 .last .1 .1 .1 .0 ++ drop (length (Out₁ d) - O₁ d) (drop (O₁ d) (Out₁ d))))
+      (O₁ d + c .by-digit-write3 .result)
+  w₂ = wrote-rest (w₁ d) (C (a (b d))) [] (sym (append-nil _)) _ (c .by-digit-write3 .ensures .1) _ (c .by-digit-write3 .ensures .0)
+
+add-o-2 : tie.Need-add-o-2
+add-o-2 c =
+    let f = c .before .before in
+    omega (arith, fits (w₂ f), as-long (w₂ f), entry (a (b (d f))))
+
+same-length-2 : tie.Need-same-length-2
+same-length-2 c = search needs
+
+returns-2 : tie.Need-returns-2
+returns-2 c =
+    let f = c .before .before in
+    (all (w₂ f) refl, end (w₂ f) refl)
 
 pub digits-write-spec : {M : Type 1} → statement M
 digits-write-spec =
     tie.close
-    (tie.spec Inv-loop μ-loop loop-holds digit-at-requires slice-write-out add-o add-k loop-less loop-again same-length returns)
+    (tie.spec
+    sub-if1
+    by-digit-write-requires
+    same-length
+    returns
+    add-i
+    mul-by-digit-write
+    by-digit-write-requires-2
+    sub-by-byte-write
+    part-by-byte-write-start
+    part-by-byte-write-end
+    by-byte-write-requires
+    add-o
+    mul-by-digit-write-2
+    sub-by-digit-write
+    part-by-digit-write-start
+    part-by-digit-write-end
+    by-digit-write-requires-3
+    add-o-2
+    same-length-2
+    returns-2)

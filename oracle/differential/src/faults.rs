@@ -41,7 +41,7 @@ pub enum Fault {
     No13488,
     /// 7F counts as shown in the test for text.
     DeleteShown,
-    /// U+0080 to U+009F count as shown in the test for text.
+    /// U+0085 counts as shown in the test for text.
     ControlsShown,
     /// A row id in lower case.
     LowerRowId,

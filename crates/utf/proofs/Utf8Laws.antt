@@ -167,10 +167,10 @@ by-trails s i k low high n h e d = recoded (λ m ok t. step-row s i k low high n
 -- ---- the common sequences: two bytes, and three but for E0 and ED
 
 pub said-nothing : (s : List ℕ) (i : ℕ) → Common s i 0
-said-nothing s i = record { small = omega arith; piece = λ h. let z : ⊥ = omega arith in absurd z }
+said-nothing s i = record { two = λ h. omega arith; three = omega arith; piece = λ h. let z : ⊥ = omega arith in absurd z }
 
-common : (s : List ℕ) (i n : ℕ) → n < 8 → PieceAt s i n true → Common s i n
-common s i n h a = record { small = h; piece = λ k. a }
+common : (s : List ℕ) (i n : ℕ) → 2 ≤ n → n ≤ 3 → PieceAt s i n true → Common s i n
+common s i n h k a = record { two = λ z. h; three = k; piece = λ z. a }
 
 -- a trail byte that is there
 pub there : (s : List ℕ) (j : ℕ) → j < length s → within (getD s j 0) trail ≡ true → trailAt s j 0x80 0xBF ≡ true
@@ -182,11 +182,11 @@ module _ (s : List ℕ) (i : ℕ) (e1 : trailAt s (i + 1) 0x80 0xBF ≡ true) wh
   unfolding ranges
   common-2 h k =
       let a = last-2 s i 0x80 0xBF 0 e1 refl in
-      common s i 2 (omega arith) (step-row s i 1 0x80 0xBF 0 2 true (omega arith) refl (a .0) (a .1))
+      common s i 2 (omega arith) (omega arith) (step-row s i 1 0x80 0xBF 0 2 true (omega arith) refl (a .0) (a .1))
 
   pub common-3 : trailAt s (i + 2) 0x80 0xBF ≡ true → 0xE1 ≤ getD s i 0 → getD s i 0 < 0xF0 → (getD s i 0 ≡ 0xED → ⊥) → Common s i 3
   unfolding ranges
-  common-3 e2 h k l = common s i 3 (omega arith) (go (ltb (getD s i 0) 0xED) refl)
+  common-3 e2 h k l = common s i 3 (omega arith) (omega arith) (go (ltb (getD s i 0) 0xED) refl)
     where
       a : TrailsAt s i 0x80 0xBF 1 3 true
       a = last-3 s i 0x80 0xBF 1 e1 e2 refl

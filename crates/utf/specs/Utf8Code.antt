@@ -23,9 +23,10 @@ isScalar malformed = false
 abbrev pub PieceAt : List ℕ → ℕ → ℕ → Bool → Type 0
 PieceAt s i n ok = (n ≡ suc (firstAt s i .more)) × (ok ≡ isScalar (firstAt s i .piece))
 
--- the piece at i takes n bytes and is a scalar value, unless n is 0, which says nothing
+-- the piece at i takes n bytes, two or three, and is a scalar value, unless n is 0, which says nothing
 pub record Common (s : List ℕ) (i n : ℕ) : Type 0 where
-  pub small : n < 8
+  pub two : 0 < n → 2 ≤ n
+  pub three : n ≤ 3
   pub piece : 0 < n → PieceAt s i n true
 
 -- the ranges of the bytes after a first byte: one of its own, and n as any trail byte

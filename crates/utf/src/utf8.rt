@@ -220,35 +220,34 @@ fn write_replacement(out: &mut [u8])
     out[2] = 0xBD;
 }
 
-// Copies the n bytes of s from i on. For two and three, the usual numbers, it has no loop.
-fn copy_few(s: &[u8], i: usize, n: usize, out: &mut [u8])
-    requires { ⌜ (i + n ≤ length (now s)) × (n ≤ length (now out)) ⌝ }
+// Copies the two or three bytes of s from i on.
+fn copy_common(s: &[u8], i: usize, n: usize, out: &mut [u8])
+    requires { ⌜ (i + n ≤ length (now s)) × ((n ≤ length (now out)) × ((2 ≤ n) × (n ≤ 3))) ⌝ }
     ensures { λ _. ⌜ now (out .exit) ≡ written (take n (drop i (now (s .entry)))) (now (out .entry)) ⌝ }
 {
+    out[0] = s[i];
+    out[1] = s[i + 1];
     if n == 2 {
-        out[0] = s[i];
-        out[1] = s[i + 1];
         return;
     }
-    if n == 3 {
-        out[0] = s[i];
-        out[1] = s[i + 1];
-        out[2] = s[i + 2];
-        return;
-    }
-    let e = i + n;
-    copy(&s[i..e], out);
+    out[2] = s[i + 2];
 }
 
-// Writes what stands at i, and returns what that is.
+// Writes what stands at i, and returns what that is. A common sequence goes first, and first_at is called: the loop over this stays small.
 fn write_piece(s: &[u8], i: usize, out: &mut [u8]) -> usize
     requires { ⌜ (i < length (now s)) × (length (pieceText (firstAt (now s) i .piece)) ≤ length (now out)) ⌝ }
     ensures piece { λ r. ⌜ Coded (PieceAt (now (s .entry)) i) r ⌝ }
     ensures bytes { λ _. ⌜ now (out .exit) ≡ written (pieceText (firstAt (now (s .entry)) i .piece)) (now (out .entry)) ⌝ }
 {
-    let n = step_at(s, i);
+    let m = common_at(s, i);
+    if m != 0 {
+        copy_common(s, i, m, out);
+        return m;
+    }
+    let n = first_at(s, i);
     if n < 8 {
-        copy_few(s, i, n, out);
+        let e = i + n;
+        copy(&s[i..e], out);
         return n;
     }
     write_replacement(out);

@@ -9,7 +9,7 @@ common-at-requires : tie.Need-common-at-requires
 common-at-requires c κs = search needs
 
 returns : tie.Need-returns
-returns c = well-formed _ (c .before .common-at .ensures .small) (c .before .common-at .ensures .piece (omega (arith, c .if1 .taken)))
+returns c = well-formed _ (omega (arith, c .before .common-at .ensures .three)) (c .before .common-at .ensures .piece (omega (arith, c .if1 .taken)))
 
 first-at-requires : tie.Need-first-at-requires
 first-at-requires c κs = search needs

@@ -1,11 +1,11 @@
 -- `codepage::latin1_bytes` meets its contract. The loop's invariant: what is not yet written is the text from i on. Assumes nothing.
-use Prim.Native.Nat.{ℕ, _+_, _-_, _^_, _<_, _≤_}
+use Prim.Native.Nat.{ℕ, _+_, _-_, _≤_}
 use mathlib.Core.Path.{_≡_, refl, sym, ap, _∙_}
 use mathlib.Core.List.{List, _++_}
 use native.Mathlib.Omega.{arith}
 use borrow.Author.Needs.{needs}
 use denote.Ref.{now}
-use lib.ListN.{length, take, drop, getD}
+use lib.ListN.{length, take, drop}
 use Rattle.unicode.specs.Unicode.{utf8}
 use Rattle.codepage.specs.CodePage.{byteText, same}
 use Rattle.buffer.proofs.Writing.{Writing, start, wrote-rest, fits, fits-rest, as-long, all, end}

@@ -4,7 +4,7 @@ use mathlib.Core.List.{List, [], _∷_}
 
 -- the bytes of a block, at most: their number fits a byte
 abbrev pub blockSize : ℕ
-blockSize = 128
+blockSize = 64
 
 -- how many bytes are 80 or above, where all are below 100
 unfoldable pub highs : List ℕ → ℕ

@@ -1,7 +1,7 @@
 -- `codepage::high_count` meets its contract. The loop's invariant: k and the count from i on make the whole count, and k is at most i, so that the sum
 -- fits a byte. Assumes nothing.
 use Prim.Native.Nat.{_+_, _-_, _≤_}
-use mathlib.Core.Path.{_≡_, ap, refl}
+use mathlib.Core.Path.{_≡_, ap}
 use native.Mathlib.Omega.{arith}
 use denote.Ref.{now}
 use lib.ListN.{length, drop, drop-of-length-le}

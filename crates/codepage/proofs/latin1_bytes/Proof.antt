@@ -1,15 +1,13 @@
 -- `codepage::latin1_bytes` meets its contract. The loop's invariant: what is not yet written is the text from i on. Assumes nothing.
-use Prim.Native.Nat.{ℕ, _+_, _-_, _^_, _<_, _≤_}
-use mathlib.Core.Path.{_≡_, refl, sym, ap, _∙_}
-use mathlib.Core.List.{List, _++_}
+use Prim.Native.Nat.{_+_, _-_, _≤_}
+use mathlib.Core.List.{_++_}
 use native.Mathlib.Omega.{arith}
 use borrow.Author.Needs.{needs}
 use denote.Ref.{now}
-use lib.ListN.{length, take, drop, getD}
-use Rattle.unicode.specs.Unicode.{utf8}
+use lib.ListN.{length, take, drop}
 use Rattle.codepage.specs.CodePage.{byteText, same}
-use Rattle.buffer.proofs.Writing.{Writing, start, wrote-rest, fits, fits-rest, as-long, all, end}
-use Rattle.codepage.proofs.ByteText.{byte-next, byte-end}
+use Rattle.buffer.proofs.Writing.{Writing, start, fits, as-long, all, end}
+use Rattle.codepage.proofs.ByteText.{turn-fits, turn, byte-end}
 use Rattle.codepage.proofs.latin1_bytes.Statement.{statement}
 use Rattle.codepage.proofs.latin1_bytes.Tie as tie
 
@@ -28,57 +26,36 @@ shared-slice-read-wide c = omega arith
 wide-requires : tie.Need-wide-requires Inv-loop μ-loop
 wide-requires c κs = search needs
 
--- where the code point is known
-module _ (c : tie.After-wide Inv-loop μ-loop) where
-  abbrev S : List ℕ
-  S = now (c .before .before .before .before .before .before .args .s)
-
-  abbrev D : List ℕ
-  D = now (c .before .before .before .before .before .before .args .out)
-
-  abbrev I : ℕ
-  I = c .before .before .before .loop .i
-
-  abbrev O : ℕ
-  O = c .before .before .before .loop .o
-
-  abbrev Out : List ℕ
-  Out = c .before .before .before .loop .out
-
-  abbrev Cp : ℕ
-  Cp = c .wide .result
-
-  w : Writing (byteText same S) D (byteText same (drop I S)) Out O
-  w = c .before .before .before .loop .inv .1
-
-  text : byteText same (drop I S) ≡ utf8 Cp ++ byteText same (drop (I + 1) S)
-  text = byte-next same S I (c .before .before .loop-test .taken) ∙ ap (λ (v : ℕ). utf8 v ++ byteText same (drop (I + 1) S)) (sym (c .wide .ensures .0))
-
 sub-write-small : tie.Need-sub-write-small Inv-loop μ-loop
-sub-write-small c = omega (arith, fits (w c))
+sub-write-small c = omega (arith, fits (c .before .before .before .loop .inv .1))
 
 part-write-small-start : tie.Need-part-write-small-start Inv-loop μ-loop
-part-write-small-start c = omega (arith, fits (w c))
+part-write-small-start c = omega (arith, fits (c .before .before .before .loop .inv .1))
 
 part-write-small-end : tie.Need-part-write-small-end Inv-loop μ-loop
 part-write-small-end c = omega arith
 
 write-small-requires : tie.Need-write-small-requires Inv-loop μ-loop
-write-small-requires c κs = (omega (arith, c .before .wide .ensures .1), fits-rest (w (c .before)) (utf8 (Cp (c .before))) _ (text (c .before)) refl)
+write-small-requires c κs =
+    let at = c .before in
+    (omega (arith, at .wide .ensures .1), turn-fits same (now (at .before .before .before .before .before .before .args .s)) (at .before .before .before .loop .i) (at .before .before .before .loop .inv .1) (at .before .before .loop-test .taken) (at .wide .result) (at .wide .ensures .0))
 
--- where it is written
+-- where the code point is written
 module _ (c : tie.After-write-small Inv-loop μ-loop) where
   abbrev at : tie.After-wide Inv-loop μ-loop
   at = c .before .before
 
-  w₁ : Writing (byteText same (S at)) (D at) (byteText same (drop (I at + 1) (S at)))
-      (take (O at) (Out at) ++ (c .write-small .last .1 .0 ++ drop (length (Out at) - O at) (drop (O at) (Out at)))) (O at + c .write-small .result)
-  w₁ = wrote-rest (w at) (utf8 (Cp at)) _ (text at) (c .write-small .last .1 .0) (c .write-small .ensures .1) (c .write-small .result) (c .write-small .ensures .0)
+  abbrev turned : tie.At-loop Inv-loop μ-loop
+  turned = at .before .before .before
+
+  w : Writing (byteText same (now (turned .before .before .before .args .s))) (now (turned .before .before .before .args .out)) (byteText same (drop (turned .loop .i + 1) (now (turned .before .before .before .args .s))))
+      (take (turned .loop .o) (turned .loop .out) ++ (c .write-small .last .1 .0 ++ drop (length (turned .loop .out) - turned .loop .o) (drop (turned .loop .o) (turned .loop .out)))) (turned .loop .o + c .write-small .result)
+  w = turn same (now (turned .before .before .before .args .s)) (turned .loop .i) (turned .loop .inv .1) (at .before .before .loop-test .taken) (at .wide .result) (at .wide .ensures .0) (c .write-small .last .1 .0) (c .write-small .ensures .1) (c .write-small .result) (c .write-small .ensures .0)
 
 add-o : tie.Need-add-o Inv-loop μ-loop
 add-o c =
     let d = c .before .before in
-    omega (arith, fits (w₁ d), as-long (w₁ d))
+    omega (arith, fits (w d), as-long (w d))
 
 add-i : tie.Need-add-i Inv-loop μ-loop
 add-i c = omega (arith, c .before .before .before .before .before .before)
@@ -87,7 +64,7 @@ loop-less : tie.Need-loop-less Inv-loop μ-loop
 loop-less c = omega (arith, c .before .before .before .before .before .before)
 
 loop-again : tie.Need-loop-again Inv-loop μ-loop
-loop-again c = (omega (arith, c .before .before .before .before .before .before), w₁ (c .before .before))
+loop-again c = (omega (arith, c .before .before .before .before .before .before), w (c .before .before))
 
 same-length : tie.Need-same-length Inv-loop μ-loop
 same-length c = as-long (c .before .loop .inv .1)

@@ -1,8 +1,5 @@
 -- `codepage::lead` meets its contract. Assumes nothing.
-use mathlib.Core.Path.{refl, sym, ap}
-use native.Mathlib.Omega.{arith}
 use borrow.Author.Needs.{needs}
-use lib.ListN.{getD}
 use Rattle.unicode.proofs.ScalarBytes.{utf8-one, utf8-two}
 use Rattle.codepage.proofs.lead.Statement.{statement}
 use Rattle.codepage.proofs.lead.Tie as tie

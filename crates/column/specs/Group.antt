@@ -20,6 +20,10 @@ entryOf mdd d = record { declared = true; «drda_type» = mdd; ccsid = field16 d
 unfoldable pub noEntry : EnvEntry
 noEntry = record { declared = false; «drda_type» = 0; ccsid = 0 }
 
+-- "The first entry for a LID counts": the known one where it is declared, else the later one
+unfoldable pub firstEntry : EnvEntry → EnvEntry → EnvEntry
+firstEntry known later = cond (known .declared) known later
+
 -- "0A Double, 0C Real, 36 Graphic, 38 and 3A VarGraphic, CE Clob, others by the table"
 unfoldable pub groupType : ℕ → ℕ → Db2Type
 groupType l n =

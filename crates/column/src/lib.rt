@@ -8,13 +8,25 @@ ghost use mathlib.Core.Path.{_≡_};
 ghost use Prim.Native.Nat.{_≤_, _<_};
 ghost use lib.ListN.{length};
 ghost use Rattle.column.specs.Column.{be16, field16, referenceLength, column as columnOf, sdaNumbers, sdaType, sdaColumn};
-ghost use Rattle.column.specs.Group.{entryOf, groupType, groupCcsid, undeclaredColumn, declaredColumn, lidColumn};
+ghost use Rattle.column.specs.Group.{entryOf, firstEntry, groupType, groupCcsid, undeclaredColumn, declaredColumn, lidColumn};
 
 // What an MDD and the SDA after it declare of a LID.
 pub struct EnvEntry {
     pub declared: bool,
     pub drda_type: u8,
     pub ccsid: u16,
+}
+
+impl EnvEntry {
+    // Of two entries for one LID the first counts.
+    pub fn first(self, later: EnvEntry) -> EnvEntry
+        ensures { λ r. ⌜ r ≡ firstEntry self later ⌝ }
+    {
+        if self.declared {
+            return self;
+        }
+        later
+    }
 }
 
 pub struct Numbers {

@@ -1,6 +1,5 @@
 -- What holds while a description is read: the columns in their places and those to come give the description's answer. Assumes nothing.
 use mathlib.Core.Path.{_≡_, sym, ap, _∙_}
-use mathlib.Core.Bool.{true, false}
 use mathlib.Core.List.{List, [], _∷_}
 use Prim.Native.Nat.{ℕ, _+_, _≤_, _<_}
 use native.Mathlib.Omega.{arith}
@@ -9,12 +8,12 @@ use borrow.Author.Tests.{lt-ltb, le-ltb}
 use Rattle.types.specs.declared.ColumnDescriptor.{ColumnDescriptor}
 use Rattle.types.specs.Places.{maxColumns, blankColumn}
 use Rattle.column.specs.declared.EnvEntry.{EnvEntry}
-use Rattle.column.specs.Group.{noEntry}
+use Rattle.column.specs.Group.{firstEntry, noEntry}
 use Rattle.triplets.specs.declared.Pending.the-variants as pending
 use Rattle.triplets.specs.declared.Cursor.{Cursor}
 use Rattle.triplets.specs.declared.Cursor.the-variants as cursor
 use Rattle.triplets.specs.declared.Step.the-variants as step
-use Rattle.triplets.specs.Descriptors.{noEntries, keepFirst, columnsFrom, columnsOf}
+use Rattle.triplets.specs.Descriptors.{noEntries, declare, columnsFrom, columnsOf}
 use Rattle.triplets.specs.Triplets.{reading}
 use Rattle.triplets.specs.Steps.{toCome, Within, Goes, Leads}
 use Rattle.triplets.proofs.Slices.{slice-all}
@@ -41,14 +40,9 @@ module _ (s : List ℕ) (cs : List ColumnDescriptor) (k : ℕ) (env : List EnvEn
   pub progress-skip : (n : Cursor) → Leads s c (step.Skip n) → Progress s cs k env n
   progress-skip n g = record { within = g .within; same = (rw (g .same env) at (i .same)) }
 
-  module _ (l : ℕ) (e : EnvEntry) (n : Cursor) (g : Leads s c (step.Declare l e n)) where
-    pub progress-kept : getD env l noEntry .declared ≡ true → Progress s cs k env n
-    unfolding keepFirst
-    progress-kept h = record { within = g .1 .within; same = (rw (g .1 .same env, h) at (i .same)) }
-
-    pub progress-declared : getD env l noEntry .declared ≡ false → Progress s cs k (set env l e) n
-    unfolding keepFirst
-    progress-declared h = record { within = g .1 .within; same = (rw (g .1 .same env, h) at (i .same)) }
+  pub progress-declared : (l : ℕ) (e : EnvEntry) (n : Cursor) → Leads s c (step.Declare l e n) → Progress s cs k (set env l (firstEntry (getD env l noEntry) e)) n
+  unfolding declare
+  progress-declared l e n g = record { within = g .1 .within; same = (rw (g .1 .same env) at (i .same)) }
 
   -- a column more
   module _ (d : List EnvEntry → ColumnDescriptor) (n : Cursor) (g : Goes s c n (λ e. d e ∷ toCome s e n)) where

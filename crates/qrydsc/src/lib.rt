@@ -89,12 +89,8 @@ pub fn parse_qrydsc(data: &[u8]) -> Description
             Step::Declare { lid, entry, next } => {
                 let place = lid as usize;
                 let known = environment[place];
-                if known.declared {
-                    cursor = next;
-                } else {
-                    environment[place] = entry;
-                    cursor = next;
-                }
+                environment[place] = known.first(entry);
+                cursor = next;
             }
             Step::Column { column, next } => {
                 if MAX_COLUMNS <= count {

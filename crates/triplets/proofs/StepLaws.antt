@@ -19,7 +19,7 @@ use Rattle.triplets.specs.declared.Pending.the-variants as pending
 use Rattle.triplets.specs.declared.Cursor.{Cursor}
 use Rattle.triplets.specs.declared.Cursor.the-variants as cursor
 use Rattle.triplets.specs.Triplets.{Triplet, triplet, reading}
-use Rattle.triplets.specs.Descriptors.{lastOf, pendingAfter, keepFirst, environmentAfter, sdaColumns, outerSda, lidColumns, innerColumns, groupColumns, tripletColumns, columnsFrom}
+use Rattle.triplets.specs.Descriptors.{lastOf, pendingAfter, declare, environmentAfter, sdaColumns, outerSda, lidColumns, innerColumns, groupColumns, tripletColumns, columnsFrom}
 use Rattle.triplets.specs.Steps.{groupAt, outerFrom, toCome, Within, ahead, Goes}
 use Rattle.triplets.proofs.Slices.{getD-slice}
 use Rattle.triplets.proofs.ReadingLaws.{Found}
@@ -156,11 +156,11 @@ module _ (s : List ℕ) (i k m : ℕ) (f : Found 2 s i (length s) k m) (e : k �
 
   pub outer-declare : (mdd : ℕ)
       → Goes s (cursor.Outer i (pending.Type mdd)) (cursor.Outer m pending.Nothing)
-      (λ env. toCome s (keepFirst env (getD s (i + 2) 0) (entryOf mdd (slice (i + 2) m s))) (cursor.Outer m pending.Nothing))
+      (λ env. toCome s (declare env (getD s (i + 2) 0) (entryOf mdd (slice (i + 2) m s))) (cursor.Outer m pending.Nothing))
   unfolding toCome tripletColumns pendingAfter environmentAfter outerSda
   outer-declare mdd =
       to-outer s i (pending.Type mdd) k m f pending.Nothing
-      (λ env. toCome s (keepFirst env (getD s (i + 2) 0) (entryOf mdd (slice (i + 2) m s))) (cursor.Outer m pending.Nothing))
+      (λ env. toCome s (declare env (getD s (i + 2) 0) (entryOf mdd (slice (i + 2) m s))) (cursor.Outer m pending.Nothing))
       (λ env. outer-more s i (pending.Type mdd) k m f env ∙ rw (e, some-data s (i + 2) m (f .high) h, first-byte s (i + 2) m (f .high) h))
 
 -- ---- inner triplets

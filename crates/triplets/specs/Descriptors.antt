@@ -7,7 +7,7 @@ use lib.ListN.{length, getD, drop, set, replicate}
 use Rattle.types.specs.declared.ColumnDescriptor.{ColumnDescriptor}
 use Rattle.column.specs.declared.EnvEntry.{EnvEntry}
 use Rattle.column.specs.Column.{sdaColumn}
-use Rattle.column.specs.Group.{entryOf, noEntry, lidColumn}
+use Rattle.column.specs.Group.{entryOf, firstEntry, noEntry, lidColumn}
 use Rattle.triplets.specs.declared.Pending.{Pending}
 use Rattle.triplets.specs.declared.Pending.the-variants as pending
 use Rattle.triplets.specs.Triplets.{Triplet, reading}
@@ -24,16 +24,16 @@ pendingAfter t = cond (eqb (t .kind) 0x78) (lastOf (t .body)) pending.Nothing
 unfoldable pub noEntries : List EnvEntry
 noEntries = replicate 256 noEntry
 
--- "The first entry for a LID counts"
-unfoldable pub keepFirst : List EnvEntry → ℕ → EnvEntry → List EnvEntry
-keepFirst env l e = cond (getD env l noEntry .declared) env (set env l e)
+-- an entry for the LID l
+unfoldable pub declare : List EnvEntry → ℕ → EnvEntry → List EnvEntry
+declare env l e = set env l (firstEntry (getD env l noEntry) e)
 
 -- 70 "with a pending type, .. declares an environment entry: LID .. at data 0"; "empty data declares nothing"
 unfoldable pub environmentAfter : Pending → List EnvEntry → Triplet → List EnvEntry
 environmentAfter pending.Nothing env t = env
 environmentAfter (pending.Type mdd) env t =
     cond (eqb (t .kind) 0x70)
-    (cond (eqb (length (t .body)) 0) env (keepFirst env (getD (t .body) 0 0) (entryOf mdd (t .body))))
+    (cond (eqb (length (t .body)) 0) env (declare env (getD (t .body) 0 0) (entryOf mdd (t .body))))
     env
 
 -- an SDA "is a column, or nothing where it has no data"

@@ -17,7 +17,7 @@ use Rattle.triplets.specs.declared.Cursor.the-variants as cursor
 use Rattle.triplets.specs.declared.Step.{Step}
 use Rattle.triplets.specs.declared.Step.the-variants as step
 use Rattle.triplets.specs.Triplets.{Triplet, begins, reading}
-use Rattle.triplets.specs.Descriptors.{keepFirst, lidColumns, innerColumns, columnsFrom}
+use Rattle.triplets.specs.Descriptors.{declare, lidColumns, innerColumns, columnsFrom}
 
 -- the triplet that begins s, where s begins at a place
 unfoldable pub nextOf : ℕ → List ℕ → ℕ → Next
@@ -59,6 +59,6 @@ pub record Goes (s : List ℕ) (c n : Cursor) (rest : List EnvEntry → List Col
 abbrev pub Leads : List ℕ → Cursor → Step → Type 0
 Leads s c step.End = (env : List EnvEntry) → toCome s env c ≡ []
 Leads s c (step.Skip n) = Goes s c n (λ env. toCome s env n)
-Leads s c (step.Declare l e n) = (l < 256) × Goes s c n (λ env. toCome s (keepFirst env l e) n)
+Leads s c (step.Declare l e n) = (l < 256) × Goes s c n (λ env. toCome s (declare env l e) n)
 Leads s c (step.Column d n) = Goes s c n (λ env. d ∷ toCome s env n)
 Leads s c (step.Lid l a b n) = (l < 256) × Goes s c n (λ env. lidColumn (getD env l noEntry) l a b ∷ toCome s env n)

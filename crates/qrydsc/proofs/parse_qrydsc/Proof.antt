@@ -9,7 +9,7 @@ use Rattle.triplets.specs.Descriptors.{noEntries}
 use Rattle.triplets.specs.Steps.{ahead}
 use Rattle.qrydsc.specs.Qrydsc.{description}
 use Rattle.qrydsc.proofs.Filling.{fill}
-use Rattle.qrydsc.proofs.Progress.{Progress, progress-start, progress-end, progress-skip, progress-kept, progress-declared, progress-full, progress-column}
+use Rattle.qrydsc.proofs.Progress.{Progress, progress-start, progress-end, progress-skip, progress-declared, progress-full, progress-column}
 use Rattle.qrydsc.proofs.parse_qrydsc.Statement.{statement}
 use Rattle.qrydsc.proofs.parse_qrydsc.Tie as tie
 
@@ -80,18 +80,8 @@ array-copy-out-known c =
     let g = (rw (c .before .lid .given .1) at (c .before .before .before .next-step .ensures)) in
     omega (arith, g .0)
 
-loop-less-2 : tie.Need-loop-less-2 Inv-loop μ-loop
-loop-less-2 c =
-    let g = (rw (c .before .before .before .lid .given .1) at (c .before .before .before .before .before .next-step .ensures)) in
-    g .1 .less
-
-loop-again-2 : tie.Need-loop-again-2 Inv-loop μ-loop
-unfolding noEntry
-loop-again-2 c =
-    let l = c .before .before .before .before .before .before .loop in
-    let s = now (c .before .before .before .before .before .before .before .before .before .before .args .«data») in
-    let g = (rw (c .before .before .before .lid .given .1) at (c .before .before .before .before .before .next-step .ensures)) in
-    progress-kept s (l .columns) (l .count) (l .environment) (l .cursor) (l .inv) _ _ _ g (c .if2 .taken)
+first-requires : tie.Need-first-requires Inv-loop μ-loop
+first-requires c κs = search needs
 
 mul-environment : tie.Need-mul-environment Inv-loop μ-loop
 mul-environment c =
@@ -103,18 +93,18 @@ array-set-from-environment c =
     let g = (rw (c .before .before .before .lid .given .1) at (c .before .before .before .before .before .next-step .ensures)) in
     omega (arith, g .0)
 
-loop-less-3 : tie.Need-loop-less-3 Inv-loop μ-loop
-loop-less-3 c =
+loop-less-2 : tie.Need-loop-less-2 Inv-loop μ-loop
+loop-less-2 c =
     let g = (rw (c .before .before .before .lid .given .1) at (c .before .before .before .before .before .next-step .ensures)) in
     g .1 .less
 
-loop-again-3 : tie.Need-loop-again-3 Inv-loop μ-loop
+loop-again-2 : tie.Need-loop-again-2 Inv-loop μ-loop
 unfolding noEntry
-loop-again-3 c =
+loop-again-2 c =
     let l = c .before .before .before .before .before .before .loop in
     let s = now (c .before .before .before .before .before .before .before .before .before .before .args .«data») in
     let g = (rw (c .before .before .before .lid .given .1) at (c .before .before .before .before .before .next-step .ensures)) in
-    progress-declared s (l .columns) (l .count) (l .environment) (l .cursor) (l .inv) _ _ _ g (c .if2 .left)
+    rw (c .first .ensures) (progress-declared s (l .columns) (l .count) (l .environment) (l .cursor) (l .inv) _ _ _ g)
 
 enum-known-column : tie.Need-enum-known-column Inv-loop μ-loop
 enum-known-column c = search needs
@@ -128,7 +118,7 @@ returns-3 c =
     let l = c .before .before .before .before .before .before .loop in
     let s = now (c .before .before .before .before .before .before .before .before .before .before .args .«data») in
     let g = (rw (c .before .before .before .column .given .1) at (c .before .before .before .before .before .next-step .ensures)) in
-    rw (le-ltb _ _ (c .before .before .before .before .before .before .before .before .if1 .left)) (c .refused2 .ensures ∙ progress-full s (l .columns) (l .count) (l .environment) (l .cursor) (l .inv) _ _ g (c .before .if3 .taken))
+    rw (le-ltb _ _ (c .before .before .before .before .before .before .before .before .if1 .left)) (c .refused2 .ensures ∙ progress-full s (l .columns) (l .count) (l .environment) (l .cursor) (l .inv) _ _ g (c .before .if2 .taken))
 
 cast-numbered : tie.Need-cast-numbered Inv-loop μ-loop
 cast-numbered c = search needs
@@ -142,17 +132,17 @@ array-set-from-columns c = search needs
 add-count : tie.Need-add-count Inv-loop μ-loop
 add-count c = search needs
 
-loop-less-4 : tie.Need-loop-less-4 Inv-loop μ-loop
-loop-less-4 c =
+loop-less-3 : tie.Need-loop-less-3 Inv-loop μ-loop
+loop-less-3 c =
     let g = (rw (c .before .before .column .given .1) at (c .before .before .before .before .next-step .ensures)) in
     g .less
 
-loop-again-4 : tie.Need-loop-again-4 Inv-loop μ-loop
-loop-again-4 c =
+loop-again-3 : tie.Need-loop-again-3 Inv-loop μ-loop
+loop-again-3 c =
     let l = c .before .before .before .before .before .loop in
     let s = now (c .before .before .before .before .before .before .before .before .before .args .«data») in
     let g = (rw (c .before .before .column .given .1) at (c .before .before .before .before .next-step .ensures)) in
-    progress-column s (l .columns) (l .count) (l .environment) (l .cursor) (l .inv) _ _ g (c .if3 .left)
+    progress-column s (l .columns) (l .count) (l .environment) (l .cursor) (l .inv) _ _ g (c .if2 .left)
 
 enum-known-lid-2 : tie.Need-enum-known-lid-2 Inv-loop μ-loop
 enum-known-lid-2 c = search needs
@@ -166,7 +156,7 @@ returns-4 c =
     let l = c .before .before .before .before .before .before .loop in
     let s = now (c .before .before .before .before .before .before .before .before .before .before .args .«data») in
     let g = (rw (c .before .before .before .lid2 .given .1) at (c .before .before .before .before .before .next-step .ensures)) in
-    rw (le-ltb _ _ (c .before .before .before .before .before .before .before .before .if1 .left)) (c .refused3 .ensures ∙ progress-full s (l .columns) (l .count) (l .environment) (l .cursor) (l .inv) _ _ (g .1) (c .before .if4 .taken))
+    rw (le-ltb _ _ (c .before .before .before .before .before .before .before .before .if1 .left)) (c .refused3 .ensures ∙ progress-full s (l .columns) (l .count) (l .environment) (l .cursor) (l .inv) _ _ (g .1) (c .before .if3 .taken))
 
 cast-place-2 : tie.Need-cast-place-2 Inv-loop μ-loop
 cast-place-2 c =
@@ -198,18 +188,18 @@ array-set-from-columns-2 c = search needs
 add-count-2 : tie.Need-add-count-2 Inv-loop μ-loop
 add-count-2 c = search needs
 
-loop-less-5 : tie.Need-loop-less-5 Inv-loop μ-loop
-loop-less-5 c =
+loop-less-4 : tie.Need-loop-less-4 Inv-loop μ-loop
+loop-less-4 c =
     let g = (rw (c .before .before .before .before .lid2 .given .1) at (c .before .before .before .before .before .before .next-step .ensures)) in
     g .1 .less
 
-loop-again-5 : tie.Need-loop-again-5 Inv-loop μ-loop
+loop-again-4 : tie.Need-loop-again-4 Inv-loop μ-loop
 unfolding noEntry
-loop-again-5 c =
+loop-again-4 c =
     let l = c .before .before .before .before .before .before .before .loop in
     let s = now (c .before .before .before .before .before .before .before .before .before .before .before .args .«data») in
     let g = (rw (c .before .before .before .before .lid2 .given .1) at (c .before .before .before .before .before .before .next-step .ensures)) in
-    rw (c .parse-compact-gda-lid .ensures) (progress-column s (l .columns) (l .count) (l .environment) (l .cursor) (l .inv) _ _ (g .1) (c .before .before .if4 .left))
+    rw (c .parse-compact-gda-lid .ensures) (progress-column s (l .columns) (l .count) (l .environment) (l .cursor) (l .inv) _ _ (g .1) (c .before .before .if3 .left))
 
 pub parse-qrydsc-spec : {M : Type 1} → statement M
 parse-qrydsc-spec =
@@ -231,12 +221,11 @@ parse-qrydsc-spec =
     cast-place
     mul-known
     array-copy-out-known
-    loop-less-2
-    loop-again-2
+    first-requires
     mul-environment
     array-set-from-environment
-    loop-less-3
-    loop-again-3
+    loop-less-2
+    loop-again-2
     enum-known-column
     refused-requires-2
     returns-3
@@ -244,8 +233,8 @@ parse-qrydsc-spec =
     mul-columns
     array-set-from-columns
     add-count
-    loop-less-4
-    loop-again-4
+    loop-less-3
+    loop-again-3
     enum-known-lid-2
     refused-requires-3
     returns-4
@@ -257,5 +246,5 @@ parse-qrydsc-spec =
     mul-columns-2
     array-set-from-columns-2
     add-count-2
-    loop-less-5
-    loop-again-5)
+    loop-less-4
+    loop-again-4)

@@ -1,0 +1,68 @@
+-- `lines::number` meets its contract: the number so far is at most the bound. Assumes nothing.
+use Prim.Native.Nat.{_-_, _≤_}
+use native.Mathlib.Omega.{arith}
+use borrow.Author.Needs.{needs}
+use lib.ListN.{length}
+use Rattle.lines.proofs.number.Statement.{statement}
+use Rattle.lines.proofs.number.Tie as tie
+
+abbrev Inv-loop : tie.InvT-loop
+Inv-loop s most n₀ i₀ n i = (i ≤ length s) × (n ≤ most)
+
+abbrev μ-loop : tie.MeasureT-loop
+μ-loop s most n₀ i₀ n i = length s - i
+
+unread-requires : tie.Need-unread-requires Inv-loop μ-loop
+unread-requires c κs = tt
+
+returns : tie.Need-returns Inv-loop μ-loop
+returns c = search needs
+
+shared-slice-read-if2 : tie.Need-shared-slice-read-if2 Inv-loop μ-loop
+shared-slice-read-if2 c = search needs
+
+returns-2 : tie.Need-returns-2 Inv-loop μ-loop
+returns-2 c = search needs
+
+loop-holds : tie.Need-loop-holds Inv-loop μ-loop
+loop-holds c = search needs
+
+shared-slice-read-decimal-value : tie.Need-shared-slice-read-decimal-value Inv-loop μ-loop
+shared-slice-read-decimal-value c = search needs
+
+decimal-value-requires : tie.Need-decimal-value-requires Inv-loop μ-loop
+decimal-value-requires c κs = tt
+
+unread-requires-2 : tie.Need-unread-requires-2 Inv-loop μ-loop
+unread-requires-2 c κs = tt
+
+returns-3 : tie.Need-returns-3 Inv-loop μ-loop
+returns-3 c = search needs
+
+mul-next : tie.Need-mul-next Inv-loop μ-loop
+mul-next c = search needs
+
+add-next : tie.Need-add-next Inv-loop μ-loop
+add-next c = search needs
+
+unread-requires-3 : tie.Need-unread-requires-3 Inv-loop μ-loop
+unread-requires-3 c κs = tt
+
+returns-4 : tie.Need-returns-4 Inv-loop μ-loop
+returns-4 c = search needs
+
+add-i : tie.Need-add-i Inv-loop μ-loop
+add-i c = search needs
+
+loop-less : tie.Need-loop-less Inv-loop μ-loop
+loop-less c = search needs
+
+loop-again : tie.Need-loop-again Inv-loop μ-loop
+loop-again c = search needs
+
+returns-5 : tie.Need-returns-5 Inv-loop μ-loop
+returns-5 c = search needs
+
+pub number-spec : {M : Type 1} → statement M
+number-spec =
+    tie.close (tie.spec Inv-loop μ-loop unread-requires returns shared-slice-read-if2 returns-2 loop-holds shared-slice-read-decimal-value decimal-value-requires unread-requires-2 returns-3 mul-next add-next unread-requires-3 returns-4 add-i loop-less loop-again returns-5)

@@ -1,0 +1,404 @@
+// Program. Replays stored answers of the Rust: for each line of standard input, a request and the Rust's answer behind ` A `, it makes the
+// call and compares. It writes a line for each line that differs or is no request, and at the end how many lines there were and how many were
+// the same. The kinds of line: T decode_character_bytes, G decode_graphic_bytes, L bytes_are_likely_text, P decode_packed_decimal.
+use buffer::TextAnswer;
+use check::same;
+use lines::answer_start;
+use lines::bytes;
+use lines::field;
+use lines::field_count;
+use lines::find;
+use lines::number;
+ghost use Prim.Native.Nat.{_≤_};
+ghost use lib.ListN.{length};
+
+// The most bytes of a line, its end included. The bytes of a field are half as many, and a text three times those and 14, or a decimal's 258.
+const LINE: usize = 32768;
+
+const BYTES: usize = 16384;
+
+const TEXT: usize = 49424;
+
+// What no text holds: UTF-8 has no such byte.
+const FILL: u8 = 0xFF;
+
+// The precision that a P line passes. It has no part in the text.
+const PRECISION: u8 = 31;
+
+// What is said of a line.
+enum Verdict {
+    Same,
+    Differs,
+    NoRequest,
+}
+
+fn judged(is_same: bool) -> Verdict {
+    if is_same {
+        return Verdict::Same;
+    }
+    Verdict::Differs
+}
+
+// A call that writes one text.
+enum Call {
+    // By CCSID.
+    Character(u16),
+    Graphic(u16),
+    // By scale.
+    Decimal(u8),
+}
+
+enum Asked {
+    For(Call),
+    Nothing,
+}
+
+// What a line of kind T, G or else P asks for, by the number in its field 1.
+fn asks_for(kind: u8, request: &[u8]) -> Asked {
+    let r = number(field(request, 1), 65535);
+    let n = r.value;
+    if !r.valid {
+        return Asked::Nothing;
+    }
+    if kind == b'T' {
+        return Asked::For(Call::Character(n as u16));
+    }
+    if kind == b'G' {
+        return Asked::For(Call::Graphic(n as u16));
+    }
+    if n > 255 {
+        return Asked::Nothing;
+    }
+    Asked::For(Call::Decimal(n as u8))
+}
+
+fn make(call: Call, data: &[u8], text: &mut [u8]) -> TextAnswer {
+    match call {
+        Call::Character(ccsid) => text::decode_character_bytes(data, ccsid, text),
+        Call::Graphic(ccsid) => text::decode_graphic_bytes(data, ccsid, text),
+        Call::Decimal(scale) => decimal::decode_packed_decimal(data, PRECISION, scale, text),
+    }
+}
+
+fn fill(text: &mut [u8]) {
+    let mut i = 0;
+    while i < text.len() {
+        text[i] = FILL;
+        i += 1;
+    }
+}
+
+fn is_filled(text: &[u8]) -> bool {
+    let mut i = 0;
+    while i < text.len() {
+        if text[i] != FILL {
+            return false;
+        }
+        i += 1;
+    }
+    true
+}
+
+// Whether the call writes `want` at the beginning of the buffer and no byte after it.
+fn writes(call: Call, data: &[u8], want: &[u8], text: &mut [u8]) -> bool {
+    fill(text);
+    let a = make(call, data, text);
+    let outcome = a.outcome;
+    let n = a.written;
+    if outcome.number() != 0 {
+        return false;
+    }
+    if n > text.len() {
+        return false;
+    }
+    if !same(&text[0..n], want) {
+        return false;
+    }
+    is_filled(&text[n..])
+}
+
+// Whether the call refuses with this number and this value and writes nothing.
+fn refuses(call: Call, data: &[u8], refusal: u32, value: usize, text: &mut [u8]) -> bool {
+    fill(text);
+    let a = make(call, data, text);
+    let outcome = a.outcome;
+    if a.written != 0 {
+        return false;
+    }
+    if outcome.number() != refusal {
+        return false;
+    }
+    if outcome.first_value() != value {
+        return false;
+    }
+    is_filled(text)
+}
+
+// Whether the call writes `want` into a larger buffer and into one that it fills, and refuses one that is a byte shorter.
+fn writes_each(call: Call, data: &[u8], want: &[u8], text: &mut [u8]) -> bool {
+    let n = want.len();
+    if text.len() <= n {
+        return false;
+    }
+    if !writes(call, data, want, text) {
+        return false;
+    }
+    if !writes(call, data, want, &mut text[0..n]) {
+        return false;
+    }
+    if n == 0 {
+        return true;
+    }
+    refuses(call, data, 9, n, &mut text[0..n - 1])
+}
+
+// The number of `REFUSE6` and the like; 0 where the answer is no refusal.
+fn refusal_number(answer: &[u8]) -> usize
+    ensures { λ r. ⌜ r ≤ 9 ⌝ }
+{
+    if answer.len() < 6 {
+        return 0;
+    }
+    if !same(&answer[0..6], b"REFUSE") {
+        return 0;
+    }
+    let r = number(&answer[6..], 9);
+    r.value
+}
+
+// Whether the call answers what is stored: a text, or a refusal without values.
+fn answers(call: Call, data: &[u8], answer: &[u8], want: &mut [u8], text: &mut [u8]) -> bool {
+    let w = bytes(answer, want);
+    let n = w.value;
+    if w.valid {
+        return writes_each(call, data, &want[0..n], text);
+    }
+    let r = refusal_number(answer);
+    if r == 0 {
+        return false;
+    }
+    refuses(call, data, r as u32, 0, text)
+}
+
+// A line of kind T, G or P: the number that the call holds, and the bytes.
+fn text_line(
+    kind: u8,
+    request: &[u8],
+    answer: &[u8],
+    data: &mut [u8],
+    want: &mut [u8],
+    text: &mut [u8],
+) -> Verdict {
+    if field_count(request) != 3 {
+        return Verdict::NoRequest;
+    }
+    let Asked::For(call) = asks_for(kind, request) else {
+        return Verdict::NoRequest;
+    };
+    let d = bytes(field(request, 2), data);
+    let n = d.value;
+    if !d.valid {
+        return Verdict::NoRequest;
+    }
+    judged(answers(call, &data[0..n], answer, want, text))
+}
+
+fn likely_line(request: &[u8], answer: &[u8], data: &mut [u8]) -> Verdict {
+    if field_count(request) != 2 {
+        return Verdict::NoRequest;
+    }
+    let d = bytes(field(request, 1), data);
+    let n = d.value;
+    if !d.valid {
+        return Verdict::NoRequest;
+    }
+    if text::bytes_are_likely_text(&data[0..n]) {
+        return judged(same(answer, b"1"));
+    }
+    judged(same(answer, b"0"))
+}
+
+// A line, by its kind. Each kind has a function of its own.
+fn replay_line(line: &[u8], data: &mut [u8], want: &mut [u8], text: &mut [u8]) -> Verdict {
+    let a = answer_start(line);
+    if a < 3 {
+        return Verdict::NoRequest;
+    }
+    let answer = &line[a..];
+    let request = &line[0..a - 3];
+    let kind = field(request, 0);
+    if kind.len() != 1 {
+        return Verdict::NoRequest;
+    }
+    match kind[0] {
+        b'L' => likely_line(request, answer, data),
+        b'T' | b'G' | b'P' => text_line(kind[0], request, answer, data, want, text),
+        _ => Verdict::NoRequest,
+    }
+}
+
+fn say(line: u64, what: &[u8]) {
+    io::write_all(1, b"line ");
+    io::print_decimal(1, line);
+    io::write_all(1, what);
+}
+
+// Says what is to be said of a line, and counts it where it is the same.
+fn told(v: Verdict, line: u64) -> u64 {
+    match v {
+        Verdict::Same => 1,
+        Verdict::Differs => {
+            say(line, b" differs\n");
+            0
+        }
+        Verdict::NoRequest => {
+            say(line, b" is no request\n");
+            0
+        }
+    }
+}
+
+// How far the list is replayed: the lines, those that are the same, the bytes behind the last line end, and whether more may come.
+struct Progress {
+    lines: u64,
+    same: u64,
+    left: usize,
+    more: bool,
+}
+
+// Replays the whole lines of a block.
+fn replay_block(
+    block: &[u8],
+    p: Progress,
+    data: &mut [u8],
+    want: &mut [u8],
+    text: &mut [u8],
+) -> Progress
+    ensures { λ r. ⌜ r .left ≤ length (now (block .entry)) ⌝ }
+{
+    let mut lines = p.lines;
+    let mut same = p.same;
+    let mut at = 0;
+    while at < block.len() {
+        let end = find(block, at, b'\n');
+        if end == block.len() {
+            let left = end - at;
+            return Progress {
+                lines: lines,
+                same: same,
+                left: left,
+                more: true,
+            };
+        }
+        lines = std::num::wrapping_add_u64(lines, 1);
+        let v = replay_line(&block[at..end], data, want, text);
+        same = std::num::wrapping_add_u64(same, told(v, lines));
+        at = end + 1;
+    }
+    Progress {
+        lines: lines,
+        same: same,
+        left: 0,
+        more: true,
+    }
+}
+
+// Moves the bytes of a part to the beginning.
+fn move_down(list: &mut [u8], from: usize, to: usize)
+    requires { ⌜ (from ≤ to) × (to ≤ length (now list)) ⌝ }
+{
+    let n = to - from;
+    let mut i = 0;
+    while i < n {
+        list[i] = list[from + i];
+        i += 1;
+    }
+}
+
+fn finish(lines: u64, same: u64) {
+    io::print_decimal(1, lines);
+    io::write_all(1, b" lines, ");
+    io::print_decimal(1, same);
+    io::write_all(1, b" same\n");
+}
+
+// Replays a last line without a line end, if there is one, and says how many lines there were.
+fn replay_rest(rest: &[u8], p: Progress, data: &mut [u8], want: &mut [u8], text: &mut [u8]) {
+    if rest.len() == 0 {
+        finish(p.lines, p.same);
+        return;
+    }
+    let lines = std::num::wrapping_add_u64(p.lines, 1);
+    let v = replay_line(rest, data, want, text);
+    finish(lines, std::num::wrapping_add_u64(p.same, told(v, lines)));
+}
+
+fn stopped() -> Progress {
+    Progress {
+        lines: 0,
+        same: 0,
+        left: 0,
+        more: false,
+    }
+}
+
+// Reads once, behind the bytes that are left, and replays the lines that are then whole.
+fn replay_some(
+    list: &mut [u8],
+    p: Progress,
+    data: &mut [u8],
+    want: &mut [u8],
+    text: &mut [u8],
+) -> Progress {
+    let left = p.left;
+    if left >= list.len() {
+        say(std::num::wrapping_add_u64(p.lines, 1), b" is too long\n");
+        return stopped();
+    }
+    let got = libc::read(0, &mut list[left..]);
+    let n = io::count(got, list);
+    if got == 0 {
+        replay_rest(&list[0..left], p, data, want, text);
+        return stopped();
+    }
+    if got < 0 {
+        io::write_all(1, b"the list cannot be read\n");
+        return stopped();
+    }
+    // What read promises; asked again here, it needs no proof.
+    if n > list.len() - left {
+        io::write_all(1, b"the list cannot be read\n");
+        return stopped();
+    }
+    let end = left + n;
+    let q = replay_block(&list[0..end], p, data, want, text);
+    let rest = q.left;
+    move_down(list, end - rest, end);
+    q
+}
+
+// Reads the list to its end. Nothing says that an input ends, so the loop counts its turns down, from a number that no run uses up.
+fn replay(list: &mut [u8], data: &mut [u8], want: &mut [u8], text: &mut [u8]) {
+    let mut p = Progress {
+        lines: 0,
+        same: 0,
+        left: 0,
+        more: true,
+    };
+    let mut turns = u64::MAX;
+    while turns > 0 {
+        p = replay_some(list, p, data, want, text);
+        if !p.more {
+            return;
+        }
+        turns -= 1;
+    }
+}
+
+fn main() {
+    let mut list = [0u8; LINE];
+    let mut data = [0u8; BYTES];
+    let mut want = [0u8; BYTES];
+    let mut text = [0u8; TEXT];
+    replay(&mut list, &mut data, &mut want, &mut text);
+}

@@ -254,8 +254,8 @@ fn write_piece(s: &[u8], i: usize, out: &mut [u8]) -> usize
     n
 }
 
-// Writes the text of s into out, from its first byte, and returns the text's length.
-pub fn utf8_lossy_write(s: &[u8], out: &mut [u8]) -> usize
+// Writes the text of s into out, from its first byte, piece by piece, and returns the text's length.
+fn write_pieces(s: &[u8], out: &mut [u8]) -> usize
     requires { ⌜ length (utf8Text (now s)) ≤ length (now out) ⌝ }
     ensures count { λ r. ⌜ r ≡ length (utf8Text (now (s .entry))) ⌝ }
     ensures bytes { λ _. ⌜ now (out .exit) ≡ written (utf8Text (now (s .entry))) (now (out .entry)) ⌝ }
@@ -278,4 +278,19 @@ pub fn utf8_lossy_write(s: &[u8], out: &mut [u8]) -> usize
         i += n - 8;
         o += 3;
     }
+}
+
+// Writes the text of s into out, from its first byte, and returns the text's length. What is well-formed, most often all, is copied at once.
+pub fn utf8_lossy_write(s: &[u8], out: &mut [u8]) -> usize
+    requires { ⌜ length (utf8Text (now s)) ≤ length (now out) ⌝ }
+    ensures count { λ r. ⌜ r ≡ length (utf8Text (now (s .entry))) ⌝ }
+    ensures bytes { λ _. ⌜ now (out .exit) ≡ written (utf8Text (now (s .entry))) (now (out .entry)) ⌝ }
+{
+    let r = run_of(s);
+    let e = r.end;
+    copy(&s[0..e], out);
+    if r.bad == 0 {
+        return e;
+    }
+    e + write_pieces(&s[e..], &mut out[e..])
 }

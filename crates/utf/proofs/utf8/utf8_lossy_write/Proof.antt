@@ -1,183 +1,120 @@
--- `utf::utf8::utf8_lossy_write` meets its contract. The loop's invariant: what is not yet written is the text from i on. Assumes nothing.
-use Prim.Native.Nat.{ℕ, suc, _+_, _-_, _^_, _<_, _≤_}
-use mathlib.Core.Bool.{true, false}
-use mathlib.Core.List.{List, _++_}
+-- `utf::utf8::utf8_lossy_write` meets its contract: the well-formed bytes, and then the text of what follows them. Assumes nothing.
+use Prim.Native.Nat.{ℕ, _-_}
+use mathlib.Core.List.{List, [], append-nil}
 use mathlib.Core.Path.{_≡_, refl, sym, ap}
 use denote.Ref.{now}
-use lib.ListN.{length, take, drop, length-drop, length-append}
-use Rattle.unicode.specs.Unicode.{pieceText, utf8Text}
-use Rattle.utf.specs.Ascii.{AsciiRun}
-use Rattle.utf.specs.Utf8Code.{firstAt, isScalar}
-use Rattle.buffer.proofs.Writing.{Writing, start, wrote-rest, fits, fits-rest, as-long, all, end}
+use lib.ListN.{length, take, drop, length-append}
+use lib.Seq.{length-take-le}
+use Rattle.unicode.specs.Unicode.{utf8Text}
+use Rattle.buffer.proofs.Writing.{Writing, wrote-first, wrote-rest, fits, as-long, all, end}
 use Rattle.utf.proofs.AsciiLaws.{rest, rest-length}
-use Rattle.utf.proofs.Utf8Runs.{ascii-wrote-rest, piece-text, piece-fits, whole-length, broken-length, text-end}
+use Rattle.utf.proofs.Utf8Runs.{good-text, text-end}
 use native.Mathlib.Omega.{arith}
+use borrow.Author.Needs.{needs}
 use Rattle.utf.proofs.utf8.utf8_lossy_write.Statement.{statement}
 use Rattle.utf.proofs.utf8.utf8_lossy_write.Tie as tie
 
-abbrev Inv-loop : tie.InvT-loop
-Inv-loop s out₀ i₀ o₀ out i o = (i ≤ length s) × Writing (utf8Text s) out₀ (utf8Text (drop i s)) out o
-
-abbrev μ-loop : tie.MeasureT-loop
-μ-loop s out₀ i₀ o₀ out i o = length s - i
-
-loop-holds : tie.Need-loop-holds Inv-loop μ-loop
-loop-holds c = (omega arith, start _ _ (c .before .before .pre))
-
-sub-copy-ascii : tie.Need-sub-copy-ascii Inv-loop μ-loop
-sub-copy-ascii c = omega arith
-
-part-copy-ascii-start : tie.Need-part-copy-ascii-start Inv-loop μ-loop
-part-copy-ascii-start c = omega arith
-
-part-copy-ascii-end : tie.Need-part-copy-ascii-end Inv-loop μ-loop
-part-copy-ascii-end c = omega arith
-
-sub-copy-ascii-2 : tie.Need-sub-copy-ascii-2 Inv-loop μ-loop
-sub-copy-ascii-2 c = omega (arith, fits (c .before .loop .inv .1))
-
-part-copy-ascii-start-2 : tie.Need-part-copy-ascii-start-2 Inv-loop μ-loop
-part-copy-ascii-start-2 c = omega (arith, fits (c .before .loop .inv .1))
-
-part-copy-ascii-end-2 : tie.Need-part-copy-ascii-end-2 Inv-loop μ-loop
-part-copy-ascii-end-2 c = omega arith
-
-copy-ascii-requires : tie.Need-copy-ascii-requires Inv-loop μ-loop
-copy-ascii-requires c κs = rw (rest (now (c .before .before .before .before .before .args .s)) (c .before .before .loop .i)) (omega (arith, fits (c .before .before .loop .inv .1), rest-length (c .before .before .loop .out) (c .before .before .loop .o)))
-
--- after the run of ASCII
-module _ (c : tie.After-copy-ascii Inv-loop μ-loop) where
+-- where the run is known
+module _ (c : tie.After-run-of) where
   abbrev S : List ℕ
-  S = now (c .before .before .before .before .before .before .args .s)
+  S = now (c .before .before .before .args .s)
 
-  abbrev D : List ℕ
-  D = now (c .before .before .before .before .before .before .args .out)
+  abbrev E : ℕ
+  E = c .run-of .result .end
 
-  abbrev I₀ : ℕ
-  I₀ = c .before .before .before .loop .i
+-- where it is copied
+module _ (c : tie.After-copy) where
+  abbrev Ys : List ℕ
+  Ys = c .copy .last .1 .0
 
-  abbrev O₀ : ℕ
-  O₀ = c .before .before .before .loop .o
+  w : Writing (utf8Text (S (c .before .before .before))) (now (c .before .before .before .before .before .before .args .out)) (utf8Text (drop (E (c .before .before .before)) (S (c .before .before .before)))) Ys (E (c .before .before .before))
+  w =
+      let g = c .before .before .before .run-of .ensures .0 in
+      let z : E (c .before .before .before) - 0 ≡ E (c .before .before .before) = omega arith in
+      wrote-first (utf8Text (S (c .before .before .before))) (now (c .before .before .before .before .before .before .args .out)) (c .before .before .before .before .before .before .pre) (take (E (c .before .before .before)) (S (c .before .before .before))) (utf8Text (drop (E (c .before .before .before)) (S (c .before .before .before)))) (good-text (E (c .before .before .before)) (S (c .before .before .before)) g) Ys
+      (rw z at (c .copy .ensures .1)) (E (c .before .before .before)) (sym (length-take-le (E (c .before .before .before)) (S (c .before .before .before)) (g .fits)))
 
-  abbrev Out₀ : List ℕ
-  Out₀ = c .before .before .before .loop .out
+run-of-requires : tie.Need-run-of-requires
+run-of-requires c κs = search needs
 
-  abbrev I : ℕ
-  I = I₀ + c .copy-ascii .result
+sub-copy : tie.Need-sub-copy
+sub-copy c = search needs
 
-  abbrev O : ℕ
-  O = O₀ + c .copy-ascii .result
+part-copy-start : tie.Need-part-copy-start
+part-copy-start c = search needs
 
-  abbrev Out : List ℕ
-  Out = take O₀ Out₀ ++ (c .copy-ascii .last .1 .0 ++ drop (length Out₀ - O₀) (drop O₀ Out₀))
+part-copy-end : tie.Need-part-copy-end
+part-copy-end c = search needs
 
-  run : AsciiRun (c .copy-ascii .result) (drop I₀ S)
-  run = rw (rest S I₀) at (c .copy-ascii .ensures .0)
+copy-requires : tie.Need-copy-requires
+copy-requires c κs =
+    let d = c .before .before in
+    let z : E d - 0 ≡ E d = omega arith in
+    rw z (omega (arith, ap length (good-text (E d) (S d) (d .run-of .ensures .0)), length-append (take (E d) (S d)) (utf8Text (drop (E d) (S d))), c .before .before .before .before .before .pre))
 
-  w : Writing (utf8Text S) D (utf8Text (drop I S)) Out O
-  w = ascii-wrote-rest S D Out₀ I₀ O₀ (c .before .before .before .loop .inv .1) (c .copy-ascii .result) run (c .copy-ascii .last .1 .0) (rw (rest S I₀) at (c .copy-ascii .ensures .1))
+same-length : tie.Need-same-length
+same-length c = search needs
 
-  within-s : I ≤ length S
-  within-s = omega (arith, run .fits, length-drop I₀ S, c .before .before .before .loop .inv .0)
-
-  small : length D < 2 ^ 64
-  small = c .before .before .before .before .before .before .good .1 .0 .0
-
-add-i : tie.Need-add-i Inv-loop μ-loop
-add-i c = omega (arith, within-s (c .before .before))
-
-add-o : tie.Need-add-o Inv-loop μ-loop
-add-o c = omega (arith, fits (w (c .before .before)), as-long (w (c .before .before)), small (c .before .before))
-
-same-length : tie.Need-same-length Inv-loop μ-loop
-same-length c = as-long (w (c .before .before .before))
-
-returns : tie.Need-returns Inv-loop μ-loop
+returns : tie.Need-returns
 returns c =
-    let done = text-end (S (c .before .before .before)) (I (c .before .before .before)) (c .if1 .taken) in
-    (all (w (c .before .before .before)) done, end (w (c .before .before .before)) done)
+    let d = c .before .before .before .before in
+    let done = text-end (S (d .before .before .before)) (E (d .before .before .before)) (omega (arith, d .before .before .before .run-of .ensures .1 .done (c .if1 .taken))) in
+    (all (w d) done, end (w d) done)
 
-sub-write-piece : tie.Need-sub-write-piece Inv-loop μ-loop
-sub-write-piece c = omega (arith, fits (w (c .before .before .before)))
+sub-write-pieces : tie.Need-sub-write-pieces
+sub-write-pieces c = search needs
 
-part-write-piece-start : tie.Need-part-write-piece-start Inv-loop μ-loop
-part-write-piece-start c = omega (arith, fits (w (c .before .before .before)))
+part-write-pieces-start : tie.Need-part-write-pieces-start
+part-write-pieces-start c = search needs
 
-part-write-piece-end : tie.Need-part-write-piece-end Inv-loop μ-loop
-part-write-piece-end c = omega arith
+part-write-pieces-end : tie.Need-part-write-pieces-end
+part-write-pieces-end c = search needs
 
--- where a piece follows
-module _ (c : tie.Else1 Inv-loop μ-loop) where
-  abbrev P : List ℕ
-  P = pieceText (firstAt (S (c .before .before .before)) (I (c .before .before .before)) .piece)
+sub-write-pieces-2 : tie.Need-sub-write-pieces-2
+sub-write-pieces-2 c = omega (arith, fits (w (c .before .before .before .before .before)))
 
-  abbrev R : List ℕ
-  R = utf8Text (drop (I (c .before .before .before) + suc (firstAt (S (c .before .before .before)) (I (c .before .before .before)) .more)) (S (c .before .before .before)))
+part-write-pieces-start-2 : tie.Need-part-write-pieces-start-2
+part-write-pieces-start-2 c = omega (arith, fits (w (c .before .before .before .before .before)))
 
-  text : utf8Text (drop (I (c .before .before .before)) (S (c .before .before .before))) ≡ P ++ R
-  text = piece-text (S (c .before .before .before)) (I (c .before .before .before)) (suc (firstAt (S (c .before .before .before)) (I (c .before .before .before)) .more)) (isScalar (firstAt (S (c .before .before .before)) (I (c .before .before .before)) .piece)) (c .if1 .left) (refl, refl)
+part-write-pieces-end-2 : tie.Need-part-write-pieces-end-2
+part-write-pieces-end-2 c = search needs
 
-  room : O (c .before .before .before) + length P ≤ length (Out (c .before .before .before))
-  room = omega (arith, fits (w (c .before .before .before)), ap length text, length-append P R)
+write-pieces-requires : tie.Need-write-pieces-requires
+write-pieces-requires c κs = rw (rest (S (c .before .before .before .before .before .before .before .before .before)) (E (c .before .before .before .before .before .before .before .before .before))) (omega (arith, fits (w (c .before .before .before .before .before .before)), rest-length (Ys (c .before .before .before .before .before .before)) (E (c .before .before .before .before .before .before .before .before .before))))
 
-write-piece-requires : tie.Need-write-piece-requires Inv-loop μ-loop
-write-piece-requires c κs = (c .before .if1 .left, fits-rest (w (c .before .before .before .before)) (P (c .before)) (R (c .before)) (text (c .before)) refl)
+count : (c : tie.After-slice-known3) → c .before .before .write-pieces .result ≡ length (utf8Text (drop (E (c .before .before .before .before .before .before .before .before .before .before .before .before)) (S (c .before .before .before .before .before .before .before .before .before .before .before .before))))
+count c = rw (rest (S (c .before .before .before .before .before .before .before .before .before .before .before .before)) (E (c .before .before .before .before .before .before .before .before .before .before .before .before))) at (c .before .before .write-pieces .ensures .0)
 
-add-i-2 : tie.Need-add-i-2 Inv-loop μ-loop
-add-i-2 c = omega (arith, piece-fits (S (c .before .before .before .before .before .before .before .before)) (I (c .before .before .before .before .before .before .before .before)) _ true (c .before .before .before .before .before .if1 .left) (c .before .before .before .write-piece .ensures .0 .whole (c .if2 .taken)))
+add-result : tie.Need-add-result
+add-result c = omega (arith, count c, fits (w (c .before .before .before .before .before .before .before .before .before)), as-long (w (c .before .before .before .before .before .before .before .before .before)), c .before .before .before .before .before .before .before .before .before .before .before .before .before .before .before .good .1 .0 .0)
 
-add-o-2 : tie.Need-add-o-2 Inv-loop μ-loop
-add-o-2 c = omega (arith, room (c .before .before .before .before .before), as-long (w (c .before .before .before .before .before .before .before .before)), small (c .before .before .before .before .before .before .before .before), whole-length (S (c .before .before .before .before .before .before .before .before)) (I (c .before .before .before .before .before .before .before .before)) _ (c .before .before .before .before .before .if1 .left) (c .before .before .before .write-piece .ensures .0 .whole (c .if2 .taken)))
+same-length-2 : tie.Need-same-length-2
+same-length-2 c = search needs
 
-loop-less : tie.Need-loop-less Inv-loop μ-loop
-loop-less c = omega (arith, piece-fits (S (c .before .before .before .before .before .before .before .before)) (I (c .before .before .before .before .before .before .before .before)) _ true (c .before .before .before .before .before .if1 .left) (c .before .before .before .write-piece .ensures .0 .whole (c .if2 .taken)), c .before .before .before .write-piece .ensures .0 .whole (c .if2 .taken) .0)
-
-loop-again : tie.Need-loop-again Inv-loop μ-loop
-loop-again c =
-    let p = c .before .before .before .write-piece .ensures .0 .whole (c .if2 .taken) in
-    (piece-fits _ _ _ true (c .before .before .before .before .before .if1 .left) p, wrote-rest (w (c .before .before .before .before .before .before .before .before)) (P (c .before .before .before .before .before)) _ (piece-text (S (c .before .before .before .before .before .before .before .before)) (I (c .before .before .before .before .before .before .before .before)) (c .before .before .before .write-piece .result) true (c .before .before .before .before .before .if1 .left) p) (c .before .before .before .write-piece .last .1 .1 .0) (c .before .before .before .write-piece .ensures .1) _ (sym (whole-length _ _ _ (c .before .before .before .before .before .if1 .left) p)))
-
-add-i-3 : tie.Need-add-i-3 Inv-loop μ-loop
-add-i-3 c = omega (arith, piece-fits (S (c .before .before .before .before .before .before .before .before)) (I (c .before .before .before .before .before .before .before .before)) _ false (c .before .before .before .before .before .if1 .left) (c .before .before .before .write-piece .ensures .0 .broken (c .if2 .left)))
-
-add-o-3 : tie.Need-add-o-3 Inv-loop μ-loop
-add-o-3 c = omega (arith, room (c .before .before .before .before .before), as-long (w (c .before .before .before .before .before .before .before .before)), small (c .before .before .before .before .before .before .before .before), broken-length (S (c .before .before .before .before .before .before .before .before)) (I (c .before .before .before .before .before .before .before .before)) _ (c .before .before .before .write-piece .ensures .0 .broken (c .if2 .left)))
-
-loop-less-2 : tie.Need-loop-less-2 Inv-loop μ-loop
-loop-less-2 c = omega (arith, piece-fits (S (c .before .before .before .before .before .before .before .before)) (I (c .before .before .before .before .before .before .before .before)) _ false (c .before .before .before .before .before .if1 .left) (c .before .before .before .write-piece .ensures .0 .broken (c .if2 .left)), c .before .before .before .write-piece .ensures .0 .broken (c .if2 .left) .0)
-
-loop-again-2 : tie.Need-loop-again-2 Inv-loop μ-loop
-loop-again-2 c =
-    let p = c .before .before .before .write-piece .ensures .0 .broken (c .if2 .left) in
-    (piece-fits _ _ _ false (c .before .before .before .before .before .if1 .left) p, wrote-rest (w (c .before .before .before .before .before .before .before .before)) (P (c .before .before .before .before .before)) _ (piece-text (S (c .before .before .before .before .before .before .before .before)) (I (c .before .before .before .before .before .before .before .before)) (c .before .before .before .write-piece .result - 8) false (c .before .before .before .before .before .if1 .left) p) (c .before .before .before .write-piece .last .1 .1 .0) (c .before .before .before .write-piece .ensures .1) _ (sym (broken-length _ _ _ p)))
+returns-2 : tie.Need-returns-2
+returns-2 c =
+    let d = c .before .before .before .before .before .before .before .before .before in
+    let done = wrote-rest (w d) (utf8Text (drop (E (c .before .before .before .before .before .before .before .before .before .before .before .before)) (S (c .before .before .before .before .before .before .before .before .before .before .before .before)))) [] (sym (append-nil (utf8Text (drop (E (c .before .before .before .before .before .before .before .before .before .before .before .before)) (S (c .before .before .before .before .before .before .before .before .before .before .before .before)))))) (c .before .before .write-pieces .last .1 .0) (rw (rest (S (c .before .before .before .before .before .before .before .before .before .before .before .before)) (E (c .before .before .before .before .before .before .before .before .before .before .before .before))) at (c .before .before .write-pieces .ensures .1)) (c .before .before .write-pieces .result) (count c) in
+    (all done refl, end done refl)
 
 pub utf8-lossy-write-spec : {M : Type 1} → statement M
 utf8-lossy-write-spec =
     tie.close
     (tie.spec
-    Inv-loop
-    μ-loop
-    loop-holds
-    sub-copy-ascii
-    part-copy-ascii-start
-    part-copy-ascii-end
-    sub-copy-ascii-2
-    part-copy-ascii-start-2
-    part-copy-ascii-end-2
-    copy-ascii-requires
-    add-i
-    add-o
+    run-of-requires
+    sub-copy
+    part-copy-start
+    part-copy-end
+    copy-requires
     same-length
     returns
-    sub-write-piece
-    part-write-piece-start
-    part-write-piece-end
-    write-piece-requires
-    add-i-2
-    add-o-2
-    loop-less
-    loop-again
-    add-i-3
-    add-o-3
-    loop-less-2
-    loop-again-2)
+    sub-write-pieces
+    part-write-pieces-start
+    part-write-pieces-end
+    sub-write-pieces-2
+    part-write-pieces-start-2
+    part-write-pieces-end-2
+    write-pieces-requires
+    add-result
+    same-length-2
+    returns-2)

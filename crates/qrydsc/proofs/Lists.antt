@@ -14,7 +14,7 @@ use Rattle.types.specs.declared.ColumnDescriptor.{ColumnDescriptor}
 use Rattle.types.specs.declared.Columns.{Columns}
 use Rattle.types.specs.Places.{maxColumns, filled, blankColumn, columnList}
 use Rattle.triplets.specs.Descriptors.{columnsOf}
-use Rattle.qrydsc.specs.Qrydsc.{number, numbered, DescriptionTold, listed, description}
+use Rattle.qrydsc.specs.Qrydsc.{number, numbered, DescriptionTold, listed, maxQrydsc, description}
 
 -- the column at a place
 abbrev pub columnAt : Columns → ℕ → ColumnDescriptor
@@ -72,8 +72,8 @@ ordered-listed cs = go (ltb maxColumns (length cs)) refl
 -- the column list of every answer
 pub description-ordered : (s : List ℕ) → Ordered (description s .columns)
 unfolding description
-description-ordered s = go (ltb 65536 (length s)) refl
+description-ordered s = go (ltb maxQrydsc (length s)) refl
   where
-    go : (b : Bool) → ltb 65536 (length s) ≡ b → Ordered (description s .columns)
+    go : (b : Bool) → ltb maxQrydsc (length s) ≡ b → Ordered (description s .columns)
     go true t = rw t ordered-none
     go false t = rw t (ordered-listed (columnsOf s))

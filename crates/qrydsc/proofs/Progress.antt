@@ -26,11 +26,11 @@ pub record Progress (s : List ℕ) (cs : List ColumnDescriptor) (k : ℕ) (env :
   pub same : fill cs k (toCome s env c) ≡ listed (columnsOf s)
 
 -- at the start all columns are to come
-all-to-come : (s : List ℕ) → toCome s noEntries (cursor.Outer 0 pending.Nothing) ≡ columnsOf s
+all-to-come : (s : List ℕ) → toCome s noEntries (cursor.Outer pending.Nothing 0) ≡ columnsOf s
 unfolding toCome columnsOf
 all-to-come s = ap (λ (t : List ℕ). columnsFrom pending.Nothing noEntries (reading 2 t .triplets)) (slice-all s)
 
-pub progress-start : (s : List ℕ) → Progress s (replicate maxColumns blankColumn) 0 noEntries (cursor.Outer 0 pending.Nothing)
+pub progress-start : (s : List ℕ) → Progress s (replicate maxColumns blankColumn) 0 noEntries (cursor.Outer pending.Nothing 0)
 progress-start s = record { within = omega arith; same = rw (all-to-come s) (fill-all (columnsOf s)) }
 
 module _ (s : List ℕ) (cs : List ColumnDescriptor) (k : ℕ) (env : List EnvEntry) (c : Cursor) (i : Progress s cs k env c) where

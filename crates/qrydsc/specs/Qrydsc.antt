@@ -50,5 +50,8 @@ listed cs =
     cond (ltb maxColumns (length cs)) (refusal 2 []) (record { outcome = accepted; columns = columnList (numbered 0 cs) })
 
 -- "1. QRYDSC longer than 65,536 bytes"
+abbrev pub maxQrydsc : ℕ
+maxQrydsc = 65536
+
 unfoldable pub description : List ℕ → DescriptionTold
-description s = cond (ltb 65536 (length s)) (refusal 1 []) (listed (columnsOf s))
+description s = cond (ltb maxQrydsc (length s)) (refusal 1 []) (listed (columnsOf s))

@@ -16,7 +16,7 @@ ghost use Rattle.refusal.specs.Refusal.{refusalNumber, refusalValues};
 ghost use Rattle.types.specs.Places.{blankColumn};
 ghost use Rattle.qrydsc.specs.Qrydsc.{toldDescription, description, refusal};
 
-// How many bytes a description may have.
+// How many bytes a description may have. specs/Qrydsc.antt calls it maxQrydsc.
 const MAX_QRYDSC: usize = 65536;
 
 // How many LIDs there are.

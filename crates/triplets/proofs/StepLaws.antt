@@ -44,7 +44,7 @@ last-byte s a e h k =
     rw (some-data s a e k h, length-slice a e s k, getD-slice a e (e - a - 1) s 0 (omega arith), q)
 
 -- ---- outer triplets
-pub outer-end : (s : List ℕ) (i : ℕ) (p : Pending) → reading 2 (slice i (length s) s) .triplets ≡ [] → (env : List EnvEntry) → toCome s env (cursor.Outer i p) ≡ []
+pub outer-end : (s : List ℕ) (i : ℕ) (p : Pending) → reading 2 (slice i (length s) s) .triplets ≡ [] → (env : List EnvEntry) → toCome s env (cursor.Outer p i) ≡ []
 unfolding toCome columnsFrom
 outer-end s i p h env = rw h
 
@@ -98,39 +98,39 @@ module _ (s : List ℕ) (i : ℕ) (p : Pending) (k m : ℕ) (f : Found 2 s i (le
   body = slice (i + 2) m s
 
   outer-more : (env : List EnvEntry)
-      → toCome s env (cursor.Outer i p)
+      → toCome s env (cursor.Outer p i)
       ≡ tripletColumns p env (triplet k body) ++ columnsFrom (pendingAfter (triplet k body)) (environmentAfter p env (triplet k body)) (outerFrom s m)
   unfolding toCome columnsFrom
   outer-more env = rw (f .more)
 
   to-outer : (q : Pending) (rest : List EnvEntry → List ColumnDescriptor)
-      → ((env : List EnvEntry) → toCome s env (cursor.Outer i p) ≡ rest env)
-      → Goes s (cursor.Outer i p) (cursor.Outer m q) rest
+      → ((env : List EnvEntry) → toCome s env (cursor.Outer p i) ≡ rest env)
+      → Goes s (cursor.Outer p i) (cursor.Outer q m) rest
   to-outer q rest same =
       let l = f .low in
       let h = f .high in
       record { within = h; less = omega arith; same = same }
 
-  pub outer-empty : k ≡ 0x70 → i + 2 ≡ m → Goes s (cursor.Outer i p) (cursor.Outer m pending.Nothing) (λ env. toCome s env (cursor.Outer m pending.Nothing))
+  pub outer-empty : k ≡ 0x70 → i + 2 ≡ m → Goes s (cursor.Outer p i) (cursor.Outer pending.Nothing m) (λ env. toCome s env (cursor.Outer pending.Nothing m))
   unfolding toCome tripletColumns pendingAfter
   outer-empty e q =
-      to-outer pending.Nothing (λ env. toCome s env (cursor.Outer m pending.Nothing))
+      to-outer pending.Nothing (λ env. toCome s env (cursor.Outer pending.Nothing m))
       (λ env. outer-more env ∙ rw (no-data s (i + 2) m q, e, empty-sda p, same-empty p env 0x70))
 
   pub outer-other : (k ≡ 0x70 → ⊥) → (k ≡ 0x76 → ⊥) → (k ≡ 0x78 → ⊥)
-      → Goes s (cursor.Outer i p) (cursor.Outer m pending.Nothing) (λ env. toCome s env (cursor.Outer m pending.Nothing))
+      → Goes s (cursor.Outer p i) (cursor.Outer pending.Nothing m) (λ env. toCome s env (cursor.Outer pending.Nothing m))
   unfolding toCome tripletColumns pendingAfter
   outer-other a b d =
-      to-outer pending.Nothing (λ env. toCome s env (cursor.Outer m pending.Nothing))
+      to-outer pending.Nothing (λ env. toCome s env (cursor.Outer pending.Nothing m))
       (λ env. outer-more env ∙ rw (same-environment p env (triplet k body) (ne-eqb _ _ a), ne-eqb _ _ a, ne-eqb _ _ b, ne-eqb _ _ d))
 
-  pub outer-mdd : k ≡ 0x78 → Goes s (cursor.Outer i p) (cursor.Outer m (lastOf body)) (λ env. toCome s env (cursor.Outer m (lastOf body)))
+  pub outer-mdd : k ≡ 0x78 → Goes s (cursor.Outer p i) (cursor.Outer (lastOf body) m) (λ env. toCome s env (cursor.Outer (lastOf body) m))
   unfolding toCome tripletColumns pendingAfter
   outer-mdd e =
-      to-outer (lastOf body) (λ env. toCome s env (cursor.Outer m (lastOf body)))
+      to-outer (lastOf body) (λ env. toCome s env (cursor.Outer (lastOf body) m))
       (λ env. outer-more env ∙ rw (e, same-environment p env (triplet 0x78 body) refl))
 
-  pub outer-group : k ≡ 0x76 → Goes s (cursor.Outer i p) (groupAt s (i + 2) m) (λ env. toCome s env (groupAt s (i + 2) m))
+  pub outer-group : k ≡ 0x76 → Goes s (cursor.Outer p i) (groupAt s (i + 2) m) (λ env. toCome s env (groupAt s (i + 2) m))
   unfolding tripletColumns pendingAfter
   outer-group e =
       let l = f .low in
@@ -147,26 +147,26 @@ module _ (s : List ℕ) (i k m : ℕ) (f : Found 2 s i (length s) k m) (e : k �
   h : i + 2 < m
   h = let l = f .low in omega arith
 
-  pub outer-column : Goes s (cursor.Outer i pending.Nothing) (cursor.Outer m pending.Nothing)
-      (λ env. sdaColumn (slice (i + 2) m s) ∷ toCome s env (cursor.Outer m pending.Nothing))
+  pub outer-column : Goes s (cursor.Outer pending.Nothing i) (cursor.Outer pending.Nothing m)
+      (λ env. sdaColumn (slice (i + 2) m s) ∷ toCome s env (cursor.Outer pending.Nothing m))
   unfolding toCome tripletColumns pendingAfter environmentAfter outerSda sdaColumns
   outer-column =
-      to-outer s i pending.Nothing k m f pending.Nothing (λ env. sdaColumn (slice (i + 2) m s) ∷ toCome s env (cursor.Outer m pending.Nothing))
+      to-outer s i pending.Nothing k m f pending.Nothing (λ env. sdaColumn (slice (i + 2) m s) ∷ toCome s env (cursor.Outer pending.Nothing m))
       (λ env. outer-more s i pending.Nothing k m f env ∙ rw (e, some-data s (i + 2) m (f .high) h))
 
   pub outer-declare : (mdd : ℕ)
-      → Goes s (cursor.Outer i (pending.Type mdd)) (cursor.Outer m pending.Nothing)
-      (λ env. toCome s (declare env (getD s (i + 2) 0) (entryOf mdd (slice (i + 2) m s))) (cursor.Outer m pending.Nothing))
+      → Goes s (cursor.Outer (pending.Type mdd) i) (cursor.Outer pending.Nothing m)
+      (λ env. toCome s (declare env (getD s (i + 2) 0) (entryOf mdd (slice (i + 2) m s))) (cursor.Outer pending.Nothing m))
   unfolding toCome tripletColumns pendingAfter environmentAfter outerSda
   outer-declare mdd =
       to-outer s i (pending.Type mdd) k m f pending.Nothing
-      (λ env. toCome s (declare env (getD s (i + 2) 0) (entryOf mdd (slice (i + 2) m s))) (cursor.Outer m pending.Nothing))
+      (λ env. toCome s (declare env (getD s (i + 2) 0) (entryOf mdd (slice (i + 2) m s))) (cursor.Outer pending.Nothing m))
       (λ env. outer-more s i (pending.Type mdd) k m f env ∙ rw (e, some-data s (i + 2) m (f .high) h, first-byte s (i + 2) m (f .high) h))
 
 -- ---- inner triplets
 module _ (s : List ℕ) (i e : ℕ) (p : i ≤ e) (q : e ≤ length s) where
   pub inner-none : reading 3 (slice i e s) .triplets ≡ []
-      → Goes s (cursor.Inner i e) (cursor.Outer e pending.Nothing) (λ env. toCome s env (cursor.Outer e pending.Nothing))
+      → Goes s (cursor.Inner i e) (cursor.Outer pending.Nothing e) (λ env. toCome s env (cursor.Outer pending.Nothing e))
   unfolding toCome innerColumns
   inner-none h = record { within = q; less = omega arith; same = λ env. rw h }
 
@@ -211,7 +211,7 @@ short-lids env (l ∷ a ∷ []) h = refl
 short-lids env (l ∷ a ∷ b ∷ d) h = absurd (omega arith)
 
 module _ (s : List ℕ) (i e : ℕ) (p : i ≤ e) (q : e ≤ length s) where
-  pub lids-end : e - i < 3 → Goes s (cursor.Lids i e) (cursor.Outer e pending.Nothing) (λ env. toCome s env (cursor.Outer e pending.Nothing))
+  pub lids-end : e - i < 3 → Goes s (cursor.Lids i e) (cursor.Outer pending.Nothing e) (λ env. toCome s env (cursor.Outer pending.Nothing e))
   unfolding toCome
   lids-end h =
       let l = length-slice i e s q in

@@ -33,19 +33,19 @@ outerFrom s at = reading 2 (slice at (length s) s) .triplets
 
 -- the columns that are still to come
 unfoldable pub toCome : List ℕ → List EnvEntry → Cursor → List ColumnDescriptor
-toCome s env (cursor.Outer at p) = columnsFrom p env (outerFrom s at)
+toCome s env (cursor.Outer p at) = columnsFrom p env (outerFrom s at)
 toCome s env (cursor.Lids at e) = lidColumns env (slice at e s) ++ columnsFrom pending.Nothing env (outerFrom s e)
 toCome s env (cursor.Inner at e) =
     innerColumns (reading 3 (slice at e s) .triplets) ++ columnsFrom pending.Nothing env (outerFrom s e)
 
 abbrev pub Within : List ℕ → Cursor → Type 0
-Within s (cursor.Outer at p) = at ≤ length s
+Within s (cursor.Outer p at) = at ≤ length s
 Within s (cursor.Lids at e) = (at ≤ e) × (e ≤ length s)
 Within s (cursor.Inner at e) = (at ≤ e) × (e ≤ length s)
 
 -- what every step makes less: the bytes ahead, twice, and one for a group
 abbrev pub ahead : List ℕ → Cursor → ℕ
-ahead s (cursor.Outer at p) = 2 * (length s - at)
+ahead s (cursor.Outer p at) = 2 * (length s - at)
 ahead s (cursor.Lids at e) = 2 * (length s - at) + 1
 ahead s (cursor.Inner at e) = 2 * (length s - at) + 1
 

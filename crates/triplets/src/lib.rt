@@ -24,7 +24,8 @@ pub enum Pending {
 
 // Where the reading stands: before an outer triplet, among the threes of a D0 group that ends at `end`, or before an inner triplet of such a group.
 pub enum Cursor {
-    Outer { at: usize, pending: Pending },
+    // The small field first: so no variant's pending shares bytes with another's end.
+    Outer { pending: Pending, at: usize },
     Lids { at: usize, end: usize },
     Inner { at: usize, end: usize },
 }
@@ -105,7 +106,7 @@ fn group_at(data: &[u8], start: usize, end: usize) -> Cursor
 
 fn outer_step(data: &[u8], at: usize, pending: Pending) -> Step
     requires { ⌜ at ≤ length (now «data») ⌝ }
-    ensures { λ r. ⌜ Leads (now («data» .entry)) (Cursor.Outer at pending) r ⌝ }
+    ensures { λ r. ⌜ Leads (now («data» .entry)) (Cursor.Outer pending at) r ⌝ }
 {
     let Next::Triplet { kind, end } = next_triplet(data, at, data.len(), 2) else {
         return Step::End;

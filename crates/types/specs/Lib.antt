@@ -1,0 +1,5 @@
+pub mod Types
+pub mod FixedLength
+pub mod Names
+pub mod Places
+pub mod Kinds

@@ -1,0 +1,44 @@
+-- Lists in a fixed number of places, and what an unused place holds (document 01, "What the call hands back"). Assumes nothing.
+use Prim.Native.Nat.{ℕ, _-_}
+use mathlib.Core.Bool.{false}
+use mathlib.Core.List.{List, _++_}
+use lib.ListN.{length, replicate}
+use Rattle.types.specs.declared.Db2Type.the-variants as type
+use Rattle.types.specs.declared.Db2Value.the-variants as value
+use Rattle.types.specs.declared.ByteOrder.the-variants.{BigEndian}
+use Rattle.types.specs.declared.ReferenceLength.the-variants.{Absent}
+use Rattle.types.specs.declared.ColumnDescriptor.{ColumnDescriptor}
+use Rattle.types.specs.declared.Columns.{Columns}
+use Rattle.types.specs.declared.ValuePlace.{ValuePlace}
+
+-- "A column list has 128 places"
+abbrev pub maxColumns : ℕ
+maxColumns = 128
+
+-- xs in the first places, and a blank in each of the others
+unfoldable pub filled : {A : Type 0} → A → List A → List A
+filled blank xs = xs ++ replicate (maxColumns - length xs) blank
+
+-- "Unused places hold type Null, every number 0, not nullable, big-endian, no reference length"
+unfoldable pub blankColumn : ColumnDescriptor
+blankColumn =
+    record {
+      «column_index» = 0;
+      «drda_type» = 0;
+      length = 0;
+      precision = 0;
+      scale = 0;
+      nullable = false;
+      ccsid = 0;
+      «db2_type» = type.Null;
+      «extdta_reference_length» = Absent;
+      «byte_order» = BigEndian;
+    }
+
+-- "unused value places hold Null and are not external"
+unfoldable pub blankValue : ValuePlace
+blankValue = record { value = value.Null; external = false }
+
+-- a list of columns in its places, with its count
+unfoldable pub columnList : List ColumnDescriptor → Columns
+columnList cs = record { columns = filled blankColumn cs; count = length cs }

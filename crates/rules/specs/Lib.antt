@@ -6,3 +6,5 @@ pub mod Value
 pub mod Row
 pub mod Conversions
 pub mod Demand3
+pub mod Sorts
+pub mod Accepted

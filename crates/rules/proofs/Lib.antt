@@ -1,0 +1,7 @@
+pub mod Tests
+pub mod Extents
+pub mod Walks
+pub mod Rows
+pub mod Items
+pub mod Answers
+pub mod Demand3

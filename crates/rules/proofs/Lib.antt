@@ -5,3 +5,4 @@ pub mod Rows
 pub mod Items
 pub mod Answers
 pub mod Demand3
+pub mod Accepted

@@ -6,3 +6,5 @@ pub mod Items
 pub mod Answers
 pub mod Demand3
 pub mod Accepted
+pub mod Exceptions
+pub mod Example

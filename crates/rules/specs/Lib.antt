@@ -8,3 +8,4 @@ pub mod Conversions
 pub mod Demand3
 pub mod Sorts
 pub mod Accepted
+pub mod Exceptions

@@ -1,0 +1,70 @@
+-- The column that an SDA describes (document 01, "Descriptors": "An SDA column ..."). Assumes nothing.
+use Prim.Native.Nat.{ℕ, _+_, _*_, _%_}
+use mathlib.Core.Bool.{Bool, cond}
+use mathlib.Core.List.{List}
+use lib.Dec.{leb, eqb}
+use lib.ListN.{length, getD}
+use Rattle.types.specs.Types.{baseOf, nullableBit, fromDrdaType}
+use Rattle.types.specs.declared.Db2Type.{Db2Type}
+use Rattle.types.specs.declared.Db2Type.the-variants as type
+use Rattle.types.specs.declared.ByteOrder.{ByteOrder}
+use Rattle.types.specs.declared.ByteOrder.the-variants.{LittleEndian}
+use Rattle.types.specs.declared.ReferenceLength.{ReferenceLength}
+use Rattle.types.specs.declared.ReferenceLength.the-variants.{Absent, Width}
+use Rattle.types.specs.declared.ColumnDescriptor.{ColumnDescriptor}
+use Rattle.column.specs.declared.Numbers.{Numbers}
+
+-- two bytes as a number, big-endian
+abbrev pub be16 : ℕ → ℕ → ℕ
+be16 high low = high * 256 + low
+
+-- the number in the two bytes at a place: "A field whose bytes aren't all there is 0"
+unfoldable pub field16 : List ℕ → ℕ → ℕ
+field16 d at = cond (leb (at + 2) (length d)) (be16 (getD d at 0) (getD d (at + 1) 0)) 0
+
+-- "A reference length exists exactly for type codes C8 to CF with length bit 8000: the low 15 bits"
+unfoldable pub referenceLength : ℕ → ℕ → ReferenceLength
+referenceLength c n =
+    cond (leb 0xC8 c) (cond (leb c 0xCF) (cond (leb 0x8000 n) (Width (n % 0x8000)) Absent) Absent) Absent
+
+abbrev pub numbers : ℕ → ℕ → ℕ → Numbers
+numbers precision scale ccsid = record { precision = precision; scale = scale; ccsid = ccsid }
+
+-- a column of type code c and length n, not yet numbered
+abbrev pub column : ℕ → ℕ → Numbers → Bool → Db2Type → ByteOrder → ColumnDescriptor
+column c n m nullable t order =
+    record {
+      «column_index» = 0;
+      «drda_type» = c;
+      length = n;
+      precision = m .precision;
+      scale = m .scale;
+      nullable = nullable;
+      ccsid = m .ccsid;
+      «db2_type» = t;
+      «extdta_reference_length» = referenceLength c n;
+      «byte_order» = order;
+    }
+
+-- "CCSID at 3 and 4; base 0C has precision and scale at 3 and 4 and CCSID at 5 and 6"; "precision and scale are there only together"
+unfoldable pub sdaNumbers : List ℕ → Numbers
+sdaNumbers d =
+    cond (eqb (baseOf (getD d 0 0)) 0x0C)
+    (cond (leb 5 (length d)) (numbers (getD d 3 0) (getD d 4 0) (field16 d 5)) (numbers 0 0 (field16 d 5)))
+    (numbers 0 0 (field16 d 3))
+
+-- "CCSID 0 turns bases 30 and 32 into Binary and VarBinary"
+unfoldable pub sdaType : ℕ → ℕ → Numbers → Db2Type
+sdaType c n m =
+    let listed = fromDrdaType c n (m .precision) (m .scale) .«db2_type» in
+    cond (eqb (m .ccsid) 0)
+    (cond (eqb (baseOf c) 0x30) (type.Binary n) (cond (eqb (baseOf c) 0x32) (type.VarBinary n) listed))
+    listed
+
+-- "An SDA column has its type at data 0, length at 1 and 2"; "Little-endian. Nullable is bit 01 here"
+unfoldable pub sdaColumn : List ℕ → ColumnDescriptor
+sdaColumn d =
+    let c = getD d 0 0 in
+    let n = field16 d 1 in
+    let m = sdaNumbers d in
+    column c n m (nullableBit c) (sdaType c n m) LittleEndian

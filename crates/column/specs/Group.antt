@@ -1,0 +1,76 @@
+-- The column of a LID of a D0 group, and the environment entries that declare LIDs (document 01, "Descriptors": 70 and 76). Assumes nothing.
+use Prim.Native.Nat.{ℕ, _+_, _/_}
+use mathlib.Core.Bool.{Bool, true, false, cond}
+use mathlib.Core.List.{List, [], _∷_}
+use lib.Dec.{eqb}
+use Rattle.types.specs.Types.{baseOf, nullableBit, listedOr, fromDrdaType}
+use Rattle.types.specs.Names.{namedIn}
+use Rattle.types.specs.declared.Db2Type.{Db2Type}
+use Rattle.types.specs.declared.Db2Type.the-variants as type
+use Rattle.types.specs.declared.ByteOrder.the-variants.{BigEndian}
+use Rattle.types.specs.declared.ColumnDescriptor.{ColumnDescriptor}
+use Rattle.column.specs.declared.EnvEntry.{EnvEntry}
+use Rattle.column.specs.Column.{be16, field16, numbers, column}
+
+-- an environment entry: the type that the MDD left, and "CCSID at data 4 and 5 if there are 6 bytes, else 0"
+unfoldable pub entryOf : ℕ → List ℕ → EnvEntry
+entryOf mdd d = record { declared = true; «drda_type» = mdd; ccsid = field16 d 4 }
+
+-- a LID that is not declared
+unfoldable pub noEntry : EnvEntry
+noEntry = record { declared = false; «drda_type» = 0; ccsid = 0 }
+
+-- "0A Double, 0C Real, 36 Graphic, 38 and 3A VarGraphic, CE Clob, others by the table"
+unfoldable pub groupType : ℕ → ℕ → Db2Type
+groupType l n =
+    listedOr (fromDrdaType l n 0 0 .«db2_type»)
+    ((0x0A, type.Double)
+    ∷ (0x0C, type.Real)
+    ∷ (0x36, type.Graphic n)
+    ∷ (0x38, type.VarGraphic n)
+    ∷ (0x3A, type.VarGraphic n)
+    ∷ (0xCE, type.Clob)
+    ∷ [])
+    (baseOf l)
+
+-- "CCSID is 1208 for Char, VarChar, LongVarChar, Clob, ClobLocator, DbClobLocator, LobChar, Date, Time, Timestamp and Xml, else 0"
+abbrev pub groupCcsid : Db2Type → ℕ
+groupCcsid t =
+    cond
+    (namedIn
+    (type.Char 0
+    ∷ type.VarChar 0
+    ∷ type.LongVarChar
+    ∷ type.Clob
+    ∷ type.ClobLocator
+    ∷ type.DbClobLocator
+    ∷ type.LobChar 0
+    ∷ type.Date
+    ∷ type.Time
+    ∷ type.Timestamp
+    ∷ type.Xml
+    ∷ [])
+    t)
+    1208
+    0
+
+-- a LID l that is not declared, with its attribute bytes a and b: "base 0E is Decimal (precision, scale; length its byte count)"; "Nullable
+-- is bit 01 here and for undeclared LIDs"
+unfoldable pub undeclaredColumn : ℕ → ℕ → ℕ → ColumnDescriptor
+undeclaredColumn l a b =
+    let n = be16 a b in
+    let t = groupType l n in
+    cond (eqb (baseOf l) 0x0E) (column l ((a + 2) / 2) (numbers a b 0) (nullableBit l) (type.Decimal a b) BigEndian)
+    (column l n (numbers 0 0 (groupCcsid t)) (nullableBit l) t BigEndian)
+
+-- "A declared LID gives the entry's type and CCSID, the length from the attributes, precision and scale 0"; "declared ones use
+-- `from_drda_type`"
+unfoldable pub declaredColumn : EnvEntry → ℕ → ℕ → ColumnDescriptor
+declaredColumn e a b =
+    let n = be16 a b in
+    let r = fromDrdaType (e .«drda_type») n 0 0 in
+    column (e .«drda_type») n (numbers 0 0 (e .ccsid)) (r .nullable) (r .«db2_type») BigEndian
+
+-- the column of a LID, of which e is the environment's entry
+unfoldable pub lidColumn : EnvEntry → ℕ → ℕ → ℕ → ColumnDescriptor
+lidColumn e l a b = cond (e .declared) (declaredColumn e a b) (undeclaredColumn l a b)

@@ -1,0 +1,62 @@
+-- Columns put into their places one after the other give the answer to the list of them. Assumes nothing.
+use mathlib.Core.Path.{_≡_, refl, sym, ap, _∙_}
+use mathlib.Core.Bool.{Bool, true, false, cond}
+use mathlib.Core.List.{List, [], _∷_, _++_, append-assoc, append-nil}
+use Prim.Native.Nat.{ℕ, suc, _+_, _-_, _≤_, _<_}
+use native.Mathlib.Omega.{arith}
+use lib.Dec.{ltb}
+use lib.ListN.{length, set, replicate, length-append}
+use lib.Seq.{set-append-seam, append-snoc}
+use borrow.Author.Tests.{ltb-true, ltb-false, lt-ltb, le-ltb}
+use Rattle.refusal.specs.Refusal.{accepted}
+use Rattle.types.specs.declared.ColumnDescriptor.{ColumnDescriptor}
+use Rattle.types.specs.declared.Columns.{Columns}
+use Rattle.types.specs.Places.{maxColumns, filled, blankColumn, columnList}
+use Rattle.qrydsc.specs.Qrydsc.{number, numbered, DescriptionTold, refusal, listed}
+
+-- places cs of which k are used, and columns that are still to be put there
+unfoldable pub fill : List ColumnDescriptor → ℕ → List ColumnDescriptor → DescriptionTold
+fill cs k [] = record { outcome = accepted; columns = record { columns = cs; count = k } }
+fill cs k (d ∷ ds) = cond (ltb k maxColumns) (fill (set cs k (number k d)) (k + 1) ds) (refusal 2 [])
+
+filled-set : {A : Type 0} (b : A) (xs : List A) (x : A) → length xs < maxColumns → set (filled b xs) (length xs) x ≡ filled b (xs ++ (x ∷ []))
+unfolding filled
+filled-set {A} b xs x h =
+    let m : ℕ = maxColumns - suc (length xs) in
+    let l = length-append xs (x ∷ []) in
+    let p : maxColumns - length xs ≡ suc m = omega arith in
+    let q : maxColumns - length (xs ++ (x ∷ [])) ≡ m = omega arith in
+    rw (p, q) (set-append-seam xs b (replicate m b) x ∙ sym (append-snoc xs x (replicate m b)))
+
+abbrev answer : List ColumnDescriptor → List ColumnDescriptor → DescriptionTold
+answer xs ds =
+    cond (ltb maxColumns (length xs + length ds)) (refusal 2 [])
+    (record { outcome = accepted; columns = columnList (xs ++ numbered (length xs) ds) })
+
+fill-after : (ds xs : List ColumnDescriptor) → length xs ≤ maxColumns → fill (filled blankColumn xs) (length xs) ds ≡ answer xs ds
+unfolding fill numbered columnList
+fill-after [] xs h = rw (le-ltb maxColumns (length xs + 0) (omega arith), append-nil)
+fill-after (d ∷ ds) xs h = go (fill-after ds (xs ++ (number (length xs) d ∷ []))) (ltb (length xs) maxColumns) refl
+  where
+    x : ColumnDescriptor
+    x = number (length xs) d
+
+    go : (length (xs ++ (x ∷ [])) ≤ maxColumns
+        → fill (filled blankColumn (xs ++ (x ∷ []))) (length (xs ++ (x ∷ []))) ds ≡ answer (xs ++ (x ∷ [])) ds)
+        → (b : Bool)
+        → ltb (length xs) maxColumns ≡ b
+        → fill (filled blankColumn xs) (length xs) (d ∷ ds) ≡ answer xs (d ∷ ds)
+    go again true t =
+        let l = length-append xs (x ∷ []) in
+        let k = ltb-true (length xs) maxColumns t in
+        let e : length (xs ++ (x ∷ [])) ≡ length xs + 1 = omega arith in
+        let n : length (xs ++ (x ∷ [])) + length ds ≡ length xs + suc (length ds) = omega arith in
+        rw (t, filled-set blankColumn xs x k, ← e) (again (omega arith) ∙ rw (n, append-assoc, e))
+    go again false t =
+        let k = ltb-false (length xs) maxColumns t in
+        rw (t, lt-ltb maxColumns (length xs + suc (length ds)) (omega arith))
+
+-- from blank places
+pub fill-all : (ds : List ColumnDescriptor) → fill (replicate maxColumns blankColumn) 0 ds ≡ listed ds
+unfolding filled listed
+fill-all ds = let z : 0 + length ds ≡ length ds = omega arith in fill-after ds [] (omega arith) ∙ rw z

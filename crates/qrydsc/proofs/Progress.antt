@@ -1,0 +1,61 @@
+-- What holds while a description is read: the columns in their places and those to come give the description's answer. Assumes nothing.
+use mathlib.Core.Path.{_≡_, sym, ap, _∙_}
+use mathlib.Core.Bool.{true, false}
+use mathlib.Core.List.{List, [], _∷_}
+use Prim.Native.Nat.{ℕ, _+_, _≤_, _<_}
+use native.Mathlib.Omega.{arith}
+use lib.ListN.{length, getD, set, replicate}
+use borrow.Author.Tests.{lt-ltb, le-ltb}
+use Rattle.types.specs.declared.ColumnDescriptor.{ColumnDescriptor}
+use Rattle.types.specs.Places.{maxColumns, blankColumn}
+use Rattle.column.specs.declared.EnvEntry.{EnvEntry}
+use Rattle.column.specs.Group.{noEntry}
+use Rattle.triplets.specs.declared.Pending.the-variants as pending
+use Rattle.triplets.specs.declared.Cursor.{Cursor}
+use Rattle.triplets.specs.declared.Cursor.the-variants as cursor
+use Rattle.triplets.specs.declared.Step.the-variants as step
+use Rattle.triplets.specs.Descriptors.{noEntries, keepFirst, columnsFrom, columnsOf}
+use Rattle.triplets.specs.Triplets.{reading}
+use Rattle.triplets.specs.Steps.{toCome, Within, Goes, Leads}
+use Rattle.triplets.proofs.Slices.{slice-all}
+use Rattle.qrydsc.specs.Qrydsc.{number, refusal, listed}
+use Rattle.qrydsc.proofs.Filling.{fill, fill-all}
+
+-- places cs of which k are used, with an environment, at a cursor
+pub record Progress (s : List ℕ) (cs : List ColumnDescriptor) (k : ℕ) (env : List EnvEntry) (c : Cursor) : Type 0 where
+  pub within : Within s c
+  pub same : fill cs k (toCome s env c) ≡ listed (columnsOf s)
+
+-- at the start all columns are to come
+all-to-come : (s : List ℕ) → toCome s noEntries (cursor.Outer 0 pending.Nothing) ≡ columnsOf s
+unfolding toCome columnsOf
+all-to-come s = ap (λ (t : List ℕ). columnsFrom pending.Nothing noEntries (reading 2 t .triplets)) (slice-all s)
+
+pub progress-start : (s : List ℕ) → Progress s (replicate maxColumns blankColumn) 0 noEntries (cursor.Outer 0 pending.Nothing)
+progress-start s = record { within = omega arith; same = rw (all-to-come s) (fill-all (columnsOf s)) }
+
+module _ (s : List ℕ) (cs : List ColumnDescriptor) (k : ℕ) (env : List EnvEntry) (c : Cursor) (i : Progress s cs k env c) where
+  pub progress-end : Leads s c step.End → fill cs k [] ≡ listed (columnsOf s)
+  progress-end h = (rw (h env) at (i .same))
+
+  pub progress-skip : (n : Cursor) → Leads s c (step.Skip n) → Progress s cs k env n
+  progress-skip n g = record { within = g .within; same = (rw (g .same env) at (i .same)) }
+
+  module _ (l : ℕ) (e : EnvEntry) (n : Cursor) (g : Leads s c (step.Declare l e n)) where
+    pub progress-kept : getD env l noEntry .declared ≡ true → Progress s cs k env n
+    unfolding keepFirst
+    progress-kept h = record { within = g .1 .within; same = (rw (g .1 .same env, h) at (i .same)) }
+
+    pub progress-declared : getD env l noEntry .declared ≡ false → Progress s cs k (set env l e) n
+    unfolding keepFirst
+    progress-declared h = record { within = g .1 .within; same = (rw (g .1 .same env, h) at (i .same)) }
+
+  -- a column more
+  module _ (d : List EnvEntry → ColumnDescriptor) (n : Cursor) (g : Goes s c n (λ e. d e ∷ toCome s e n)) where
+    pub progress-full : maxColumns ≤ k → refusal 2 [] ≡ listed (columnsOf s)
+    unfolding fill
+    progress-full h = (rw (g .same env, le-ltb k maxColumns h) at (i .same))
+
+    pub progress-column : k < maxColumns → Progress s (set cs k (number k (d env))) (k + 1) env n
+    unfolding fill
+    progress-column h = record { within = g .within; same = (rw (g .same env, lt-ltb k maxColumns h) at (i .same)) }

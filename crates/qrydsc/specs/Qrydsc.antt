@@ -1,0 +1,54 @@
+-- What parse_qrydsc answers (document 01, "What the call hands back"). Assumes nothing.
+use Prim.Native.Nat.{ℕ, _+_}
+use mathlib.Core.Bool.{cond}
+use mathlib.Core.List.{List, [], _∷_}
+use lib.Dec.{ltb}
+use lib.ListN.{length}
+use Rattle.refusal.specs.Refusal.{Told, accepted, refused, told}
+use Rattle.types.specs.declared.ColumnDescriptor.{ColumnDescriptor}
+use Rattle.types.specs.declared.Columns.{Columns}
+use Rattle.types.specs.Places.{maxColumns, columnList}
+use Rattle.triplets.specs.Descriptors.{columnsOf}
+use Rattle.qrydsc.specs.declared.Description.{Description}
+
+-- a column with its number
+abbrev pub number : ℕ → ColumnDescriptor → ColumnDescriptor
+number k c =
+    record {
+      «column_index» = k;
+      «drda_type» = c .«drda_type»;
+      length = c .length;
+      precision = c .precision;
+      scale = c .scale;
+      nullable = c .nullable;
+      ccsid = c .ccsid;
+      «db2_type» = c .«db2_type»;
+      «extdta_reference_length» = c .«extdta_reference_length»;
+      «byte_order» = c .«byte_order»;
+    }
+
+-- columns numbered in order, from k on
+unfoldable pub numbered : ℕ → List ColumnDescriptor → List ColumnDescriptor
+numbered k [] = []
+numbered k (c ∷ cs) = number k c ∷ numbered (k + 1) cs
+
+-- an answer by document 01's numbers: what is said of the description, and the column list
+pub record DescriptionTold : Type 0 where
+  pub outcome : Told
+  pub columns : Columns
+
+abbrev pub toldDescription : Description → DescriptionTold
+toldDescription d = record { outcome = told (d .outcome); columns = d .columns }
+
+-- "A refusal returns blanks": no column, and every place blank
+abbrev pub refusal : ℕ → List ℕ → DescriptionTold
+refusal n vs = record { outcome = refused n vs; columns = columnList [] }
+
+-- the answer to a list of columns: "2. QRYDSC with more than 128 columns", else the list, numbered from 0
+unfoldable pub listed : List ColumnDescriptor → DescriptionTold
+listed cs =
+    cond (ltb maxColumns (length cs)) (refusal 2 []) (record { outcome = accepted; columns = columnList (numbered 0 cs) })
+
+-- "1. QRYDSC longer than 65,536 bytes"
+unfoldable pub description : List ℕ → DescriptionTold
+description s = cond (ltb 65536 (length s)) (refusal 1 []) (listed (columnsOf s))

@@ -1,0 +1,75 @@
+-- The columns that the triplets of a description describe (document 01, "Descriptors"). Assumes nothing.
+use Prim.Native.Nat.{ℕ, _-_}
+use mathlib.Core.Bool.{cond}
+use mathlib.Core.List.{List, [], _∷_, _++_}
+use lib.Dec.{eqb}
+use lib.ListN.{length, getD, drop, set, replicate}
+use Rattle.types.specs.declared.ColumnDescriptor.{ColumnDescriptor}
+use Rattle.column.specs.declared.EnvEntry.{EnvEntry}
+use Rattle.column.specs.Column.{sdaColumn}
+use Rattle.column.specs.Group.{entryOf, noEntry, lidColumn}
+use Rattle.triplets.specs.declared.Pending.{Pending}
+use Rattle.triplets.specs.declared.Pending.the-variants as pending
+use Rattle.triplets.specs.Triplets.{Triplet, reading}
+
+-- 78: "its last data byte is kept as pending, or nothing where it has no data"
+unfoldable pub lastOf : List ℕ → Pending
+lastOf d = cond (eqb (length d) 0) pending.Nothing (pending.Type (getD d (length d - 1) 0))
+
+-- 70 uses pending up; "76, 71 and unknown types clear pending"
+unfoldable pub pendingAfter : Triplet → Pending
+pendingAfter t = cond (eqb (t .kind) 0x78) (lastOf (t .body)) pending.Nothing
+
+-- "an array of 256 places, one for each LID"
+unfoldable pub noEntries : List EnvEntry
+noEntries = replicate 256 noEntry
+
+-- "The first entry for a LID counts"
+unfoldable pub keepFirst : List EnvEntry → ℕ → EnvEntry → List EnvEntry
+keepFirst env l e = cond (getD env l noEntry .declared) env (set env l e)
+
+-- 70 "with a pending type, .. declares an environment entry: LID .. at data 0"; "empty data declares nothing"
+unfoldable pub environmentAfter : Pending → List EnvEntry → Triplet → List EnvEntry
+environmentAfter pending.Nothing env t = env
+environmentAfter (pending.Type mdd) env t =
+    cond (eqb (t .kind) 0x70)
+    (cond (eqb (length (t .body)) 0) env (keepFirst env (getD (t .body) 0 0) (entryOf mdd (t .body))))
+    env
+
+-- an SDA "is a column, or nothing where it has no data"
+unfoldable pub sdaColumns : List ℕ → List ColumnDescriptor
+sdaColumns d = cond (eqb (length d) 0) [] (sdaColumn d ∷ [])
+
+-- 70: a column where nothing is pending
+unfoldable pub outerSda : Pending → List ℕ → List ColumnDescriptor
+outerSda pending.Nothing d = sdaColumns d
+outerSda (pending.Type mdd) d = []
+
+-- 76 whose data begins D0: "threes of LID and two attribute bytes follow; a rest below three bytes is ignored"
+unfoldable pub lidColumns : List EnvEntry → List ℕ → List ColumnDescriptor
+lidColumns env [] = []
+lidColumns env (l ∷ []) = []
+lidColumns env (l ∷ a ∷ []) = []
+lidColumns env (l ∷ a ∷ b ∷ d) = lidColumn (getD env l noEntry) l a b ∷ lidColumns env d
+
+-- other 76: "inner 70 is a column"
+unfoldable pub innerColumns : List Triplet → List ColumnDescriptor
+innerColumns [] = []
+innerColumns (t ∷ ts) = cond (eqb (t .kind) 0x70) (sdaColumns (t .body)) [] ++ innerColumns ts
+
+unfoldable pub groupColumns : List EnvEntry → List ℕ → List ColumnDescriptor
+groupColumns env d =
+    cond (eqb (getD d 0 0) 0xD0) (lidColumns env (drop 1 d)) (innerColumns (reading 3 d .triplets))
+
+unfoldable pub tripletColumns : Pending → List EnvEntry → Triplet → List ColumnDescriptor
+tripletColumns p env t =
+    cond (eqb (t .kind) 0x70) (outerSda p (t .body)) (cond (eqb (t .kind) 0x76) (groupColumns env (t .body)) [])
+
+-- the columns of triplets, with what is pending and the environment before them
+unfoldable pub columnsFrom : Pending → List EnvEntry → List Triplet → List ColumnDescriptor
+columnsFrom p env [] = []
+columnsFrom p env (t ∷ ts) = tripletColumns p env t ++ columnsFrom (pendingAfter t) (environmentAfter p env t) ts
+
+-- the columns of a description, not yet numbered
+unfoldable pub columnsOf : List ℕ → List ColumnDescriptor
+columnsOf s = columnsFrom pending.Nothing noEntries (reading 2 s .triplets)

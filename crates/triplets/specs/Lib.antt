@@ -1,0 +1,3 @@
+pub mod Triplets
+pub mod Descriptors
+pub mod Steps

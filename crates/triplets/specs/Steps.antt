@@ -1,0 +1,64 @@
+-- For inner functions; no public promise rests on it. What stands at a cursor of a description. Assumes nothing.
+use Prim.Native.Nat.{ℕ, _+_, _-_, _*_, _≤_, _<_}
+use mathlib.Core.Path.{_≡_}
+use mathlib.Core.Bool.{cond, _&&_}
+use mathlib.Core.List.{List, [], _∷_, _++_}
+use lib.Dec.{ltb, eqb}
+use lib.ListN.{length, getD}
+use lib.Seq.{slice}
+use Rattle.types.specs.declared.ColumnDescriptor.{ColumnDescriptor}
+use Rattle.column.specs.declared.EnvEntry.{EnvEntry}
+use Rattle.column.specs.Group.{noEntry, lidColumn}
+use Rattle.triplets.specs.declared.Pending.the-variants as pending
+use Rattle.triplets.specs.declared.Next.{Next}
+use Rattle.triplets.specs.declared.Next.the-variants as next
+use Rattle.triplets.specs.declared.Cursor.{Cursor}
+use Rattle.triplets.specs.declared.Cursor.the-variants as cursor
+use Rattle.triplets.specs.declared.Step.{Step}
+use Rattle.triplets.specs.declared.Step.the-variants as step
+use Rattle.triplets.specs.Triplets.{Triplet, begins, reading}
+use Rattle.triplets.specs.Descriptors.{keepFirst, lidColumns, innerColumns, columnsFrom}
+
+-- the triplet that begins s, where s begins at a place
+unfoldable pub nextOf : ℕ → List ℕ → ℕ → Next
+nextOf least s at = cond (begins least s) (next.Triplet (getD s 1 0) (at + getD s 0 0)) next.Nothing
+
+-- where a group begins whose data goes from a to e
+unfoldable pub groupAt : List ℕ → ℕ → ℕ → Cursor
+groupAt s a e = cond (ltb a e && eqb (getD s a 0) 0xD0) (cursor.Lids (a + 1) e) (cursor.Inner a e)
+
+-- the outer triplets from a place on
+abbrev pub outerFrom : List ℕ → ℕ → List Triplet
+outerFrom s at = reading 2 (slice at (length s) s) .triplets
+
+-- the columns that are still to come
+unfoldable pub toCome : List ℕ → List EnvEntry → Cursor → List ColumnDescriptor
+toCome s env (cursor.Outer at p) = columnsFrom p env (outerFrom s at)
+toCome s env (cursor.Lids at e) = lidColumns env (slice at e s) ++ columnsFrom pending.Nothing env (outerFrom s e)
+toCome s env (cursor.Inner at e) =
+    innerColumns (reading 3 (slice at e s) .triplets) ++ columnsFrom pending.Nothing env (outerFrom s e)
+
+abbrev pub Within : List ℕ → Cursor → Type 0
+Within s (cursor.Outer at p) = at ≤ length s
+Within s (cursor.Lids at e) = (at ≤ e) × (e ≤ length s)
+Within s (cursor.Inner at e) = (at ≤ e) × (e ≤ length s)
+
+-- what every step makes less: the bytes ahead, twice, and one for a group
+abbrev pub ahead : List ℕ → Cursor → ℕ
+ahead s (cursor.Outer at p) = 2 * (length s - at)
+ahead s (cursor.Lids at e) = 2 * (length s - at) + 1
+ahead s (cursor.Inner at e) = 2 * (length s - at) + 1
+
+-- from the cursor c to the cursor n: what was to come at c, in an environment, is now `rest`
+pub record Goes (s : List ℕ) (c n : Cursor) (rest : List EnvEntry → List ColumnDescriptor) : Type 0 where
+  pub within : Within s n
+  pub less : ahead s n < ahead s c
+  pub same : (env : List EnvEntry) → toCome s env c ≡ rest env
+
+-- what a step says of the columns to come
+abbrev pub Leads : List ℕ → Cursor → Step → Type 0
+Leads s c step.End = (env : List EnvEntry) → toCome s env c ≡ []
+Leads s c (step.Skip n) = Goes s c n (λ env. toCome s env n)
+Leads s c (step.Declare l e n) = (l < 256) × Goes s c n (λ env. toCome s (keepFirst env l e) n)
+Leads s c (step.Column d n) = Goes s c n (λ env. d ∷ toCome s env n)
+Leads s c (step.Lid l a b n) = (l < 256) × Goes s c n (λ env. lidColumn (getD env l noEntry) l a b ∷ toCome s env n)

@@ -1,0 +1,42 @@
+-- Bytes read as triplets (document 01, "Descriptors"). Assumes nothing.
+use Prim.Native.Nat.{ℕ, zero, suc, _-_}
+use mathlib.Core.Bool.{Bool, cond, _&&_}
+use mathlib.Core.List.{List, [], _∷_}
+use lib.Dec.{leb}
+use lib.ListN.{length, getD, take, drop}
+
+-- "A triplet is a length byte (itself included), a type byte and data"
+pub record Triplet : Type 0 where
+  pub kind : ℕ
+  pub body : List ℕ
+
+abbrev pub triplet : ℕ → List ℕ → Triplet
+triplet k d = record { kind = k; body = d }
+
+abbrev pub firstTriplet : List ℕ → Triplet
+firstTriplet s = triplet (getD s 1 0) (take (getD s 0 0 - 2) (drop 2 s))
+
+-- a triplet begins s: at least `least` bytes remain, its length is not below 2 and does not run past the end
+abbrev pub begins : ℕ → List ℕ → Bool
+begins least s = leb least (length s) && (leb 2 (getD s 0 0) && leb (getD s 0 0) (length s))
+
+-- the triplets of some bytes, and the bytes after them, which are not read
+pub record Reading : Type 0 where
+  pub triplets : List Triplet
+  pub unread : List ℕ
+
+abbrev pub stopped : List ℕ → Reading
+stopped s = record { triplets = []; unread = s }
+
+abbrev pub after : Triplet → Reading → Reading
+after t r = record { triplets = t ∷ r .triplets; unread = r .unread }
+
+-- the reading of at most n triplets
+unfoldable pub readingOf : ℕ → ℕ → List ℕ → Reading
+readingOf least zero s = stopped s
+readingOf least (suc n) s = cond (begins least s) (after (firstTriplet s) (readingOf least n (drop (getD s 0 0) s))) (stopped s)
+
+-- "Reading stops, without refusal, when fewer than two bytes remain, the length is below 2 or it runs past the end": `least` is 2. Inner
+-- triplets are read "while at least three bytes remain": `least` is 3. There are never more triplets than bytes
+unfoldable pub reading : ℕ → List ℕ → Reading
+reading least s = readingOf least (length s) s

@@ -22,10 +22,10 @@ use Rattle.rules.specs.Extent.{isReference, isHexDigit, hexDigits, isShortRefer
 use Rattle.rules.specs.Meaning.{allZero, lobEmpty, headerItem, lobReference, lobInline, lobItem, varyingItem, lobBytesItem, lobCharItem, itemIn, isEmptyLob, refersIn}
 use Rattle.rules.specs.Walk.{skipOf, nullableNeed, columnNeed, cellPiece, consPiece, cellShort, walk, walkBody}
 use Rattle.rules.specs.Value.{bytesAt, valueBytes, textsTogether}
-use Rattle.rules.specs.Row.{valueOf, textOf as textOf-row, pieceItem, pieceValue, rowValues, rowTexts, anyDecFloat, walkDecision, bodyDecision, rowDecision, answerOf, textAfter}
+use Rattle.rules.specs.Row.{startOf, valueOf, textOf as textOf-row, pieceItem, pieceValue, rowValues, rowTexts, anyDecFloat, walkDecision, bodyDecision, rowDecision, answerOf, textAfter}
 use Rattle.rules.specs.Conversions.{rowAnswer, rowText}
 use Rattle.edges.specs.Edges.{EdgesHold}
 
 pub edges-hold : EdgesHold
-unfolding ascii outcomeOf edges baseTypes listedOr fromDrdaType filled blankColumn blankValue columnList field16 referenceLength sdaNumbers sdaType sdaColumn entryOf noEntry groupType undeclaredColumn declaredColumn lidColumn readingOf reading lastOf pendingAfter noEntries keepFirst environmentAfter sdaColumns outerSda lidColumns innerColumns groupColumns tripletColumns columnsFrom columnsOf numbered listed description number realOf doubleOf nibbles sign digits trimmed fraction decimalText decimalAnswer decimalBuffer textAnswer textBuffer textIn characterConversion isUtf16 graphicConversion characterText graphicText hexDigit hexText utf8 pieceText textOf replaced readFrom within rowIn fit value firstBy firstOf utf8Text units pairOf unitOf utf16Text allAscii table037 codePoint037 bytePieces byteText isReference isHexDigit hexDigits isShortReference saysHeader lobNeed need allZero lobEmpty headerItem lobReference lobInline lobItem varyingItem lobBytesItem lobCharItem itemIn isEmptyLob refersIn skipOf nullableNeed columnNeed cellPiece consPiece cellShort walk walkBody bytesAt valueBytes textsTogether valueOf textOf-row pieceItem pieceValue rowValues rowTexts anyDecFloat walkDecision bodyDecision rowDecision answerOf textAfter rowAnswer rowText
+unfolding ascii outcomeOf edges baseTypes listedOr fromDrdaType filled blankColumn blankValue columnList field16 referenceLength sdaNumbers sdaType sdaColumn entryOf noEntry groupType undeclaredColumn declaredColumn lidColumn readingOf reading lastOf pendingAfter noEntries keepFirst environmentAfter sdaColumns outerSda lidColumns innerColumns groupColumns tripletColumns columnsFrom columnsOf numbered listed description number realOf doubleOf nibbles sign digits trimmed fraction decimalText decimalAnswer decimalBuffer textAnswer textBuffer textIn characterConversion isUtf16 graphicConversion characterText graphicText hexDigit hexText utf8 pieceText textOf replaced readFrom within rowIn fit value firstBy firstOf utf8Text units pairOf unitOf utf16Text allAscii table037 codePoint037 bytePieces byteText isReference isHexDigit hexDigits isShortReference saysHeader lobNeed need allZero lobEmpty headerItem lobReference lobInline lobItem varyingItem lobBytesItem lobCharItem itemIn isEmptyLob refersIn skipOf nullableNeed columnNeed cellPiece consPiece cellShort walk walkBody bytesAt valueBytes textsTogether startOf valueOf textOf-row pieceItem pieceValue rowValues rowTexts anyDecFloat walkDecision bodyDecision rowDecision answerOf textAfter rowAnswer rowText
 edges-hold = refl

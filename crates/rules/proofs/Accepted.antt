@@ -1,4 +1,5 @@
--- What holds of every accepted answer (specs/Accepted.antt): every place fits, and every value is of a sort that its column allows. Assumes nothing.
+-- What holds of every answer (specs/Accepted.antt): it has all places, and the text buffer its length. What holds of every accepted one: every place fits, and every
+-- value is of a sort that its column allows. Assumes nothing.
 use Prim.Native.Nat.{ℕ, zero, suc, _+_, _-_, _≤_, _<_}
 use mathlib.Core.Path.{_≡_, refl, sym, ap, _∙_, subst}
 use mathlib.Core.Bool.{Bool, true, false, cond, true≢false}
@@ -7,8 +8,9 @@ use mathlib.Core.Logic.{_⊎_, inl, inr, ⊎-elim}
 use mathlib.Core.Option.{Option, none, some}
 use native.Mathlib.Omega.{arith}
 use native.Mathlib.Nat.{le-of-suc-le-suc}
-use lib.ListN.{length, getD, take, drop, replicate, length-append}
-use lib.Dec.{eqb}
+use lib.ListN.{length, getD, take, drop, replicate, length-append, length-drop, length-take, length-replicate}
+use lib.Dec.{leb, eqb}
+use borrow.Author.Tests.{ltb-false}
 use lib.Ieee.{binary32, binary64, nanBits, ofBits}
 use Rattle.refusal.specs.Refusal.{accepted}
 use Rattle.buffer.specs.Buffer.{written}
@@ -21,19 +23,83 @@ use Rattle.types.specs.declared.ValuePlace.{ValuePlace}
 use Rattle.types.specs.Names.{namedIn}
 use Rattle.types.specs.Places.{maxColumns, filled, blankColumn, blankValue}
 use Rattle.numbers.specs.Number.{Number, numberValue, realOf, doubleOf}
+use Rattle.rules.specs.declared.Extent.{Extent}
+use Rattle.rules.specs.Extent.{extentOf}
 use Rattle.rules.specs.Meaning.{ByteSort, TextSort, Item, nothing, number, boolean, part, text, Conversions, itemIn}
-use Rattle.rules.specs.Walk.{columnNeed, Piece, absent, present, cellPiece, Walk, done, short, consPiece, walk, walkBody, walkRow, skipOf}
+use Rattle.rules.specs.Walk.{columnNeed, Piece, absent, present, cellPiece, Walk, done, short, consPiece, cellShort, walk, walkBody, walkRow, skipOf}
 use Rattle.rules.specs.Value.{Holder, nowhere, row, textBuffer, heldBy}
-use Rattle.rules.specs.Row.{Decision, acceptance, covered, place, partValue, textValue, valueOf, textOf, pieceItem, pieceValue, rowValues, rowTexts, anyDecFloat, rowDecision, answerOf, textAfter, answerWith, textWith}
+use Rattle.rules.specs.Row.{Decision, refusal, acceptance, covered, partValue, textValue, valueOf, textOf, pieceItem, pieceValue, rowValues, rowTexts, anyDecFloat, rowDecision, answerOf, textAfter, answerWith, textWith}
 use Rattle.rules.specs.Conversions.{ported, rowAnswer, rowText}
 use Rattle.rules.specs.Sorts.{Sort, sortOf, sortsOf, Among, AllowsSort, Allows}
-use Rattle.rules.specs.Accepted.{Fits, PlacesFit, SortsAllowed}
+use Rattle.rules.specs.Accepted.{Fits, AllPlaces, SameLength, PlacesFit, SortsAllowed}
 use Rattle.rules.proofs.Tests.{or-left, or-right}
 use Rattle.rules.proofs.Walks.{isDone, usedOf, piecesOf, walk-step, walk-first, walk-rest}
 use Rattle.rules.proofs.Rows.{row-used}
 use Rattle.rules.proofs.Items.{partSort, textSort, Item-of, Nothing, Numbers, item-of}
 use Rattle.rules.proofs.Answers.{Within, row-placed, places-within}
 use Rattle.rules.proofs.Demand3.{facts}
+
+-- ---- all places, and the buffer's length
+
+cons-count : (p : Piece) (w : Walk) (n : ℕ) → length (piecesOf w) ≤ n → length (piecesOf (consPiece p w)) ≤ suc n
+unfolding consPiece
+cons-count p (done ps k) n h = omega arith
+cons-count p (short e a) n h = omega arith
+
+short-count : (t : Bool) (e : Extent) (offset : ℕ) (s : List ℕ) → length (piecesOf (cellShort t e offset s)) ≡ 0
+unfolding cellShort
+short-count true e offset [] = refl
+short-count true e offset (b ∷ s) = refl
+short-count false e offset s = refl
+
+cond-count : (t : Bool) (x y : Walk) (n : ℕ) → length (piecesOf x) ≤ n → length (piecesOf y) ≤ n → length (piecesOf (cond t x y)) ≤ n
+cond-count true x y n h k = h
+cond-count false x y n h k = k
+
+walk-count : (start : ℕ) (cs : List ColumnDescriptor) (at : ℕ) (s : List ℕ) → length (piecesOf (walk start cs at s)) ≤ length cs
+unfolding walk
+walk-count start [] at s = omega arith
+walk-count start (c ∷ cs) at s =
+    let k = columnNeed c s in
+    let p = cellPiece (c .nullable) c at (take k s) in
+    let rest = walk start cs (at + k) (drop k s) in
+    cond-count (leb k (length s)) (consPiece p rest) (cellShort (c .nullable) (extentOf c) (at - start) s) (suc (length cs))
+    (cons-count p rest (length cs) (walk-count start cs (at + k) (drop k s)))
+    (omega (arith, short-count (c .nullable) (extentOf c) (at - start) s))
+
+values-count : (L : Conversions) (ps : List Piece) (next : ℕ) → length (rowValues L ps next) ≡ length ps
+unfolding rowValues
+values-count L [] next = refl
+values-count L (p ∷ ps) next = ap suc (values-count L ps (next + length (textOf (pieceItem L p))))
+
+filled-count : (vs : List ValuePlace) → length vs ≤ maxColumns → length (filled blankValue vs) ≡ maxColumns
+unfolding filled
+filled-count vs h =
+    let k = maxColumns - length vs in
+    omega (arith, length-append vs (replicate k blankValue), length-replicate k blankValue)
+
+module _ (L : Conversions) (columns : Columns) (s d : List ℕ) where
+  -- what an acceptance shows
+  taken : (ps : List Piece) (n : ℕ) → rowDecision L columns s d ≡ acceptance ps n → (length ps ≤ maxColumns) × (length (rowTexts L ps) ≤ length d)
+  unfolding answerOf walkBody
+  taken ps n e =
+      let f = facts L columns s d (ap (λ (x : Decision). answerOf L x .outcome) e) in
+      let cs = covered columns in
+      let same : ps ≡ piecesOf (walkRow cs s) = let decided = f .decided in cc in
+      let few = walk-count (skipOf s) cs (skipOf s) (drop (skipOf s) s) in
+      rw same (omega (arith, few, length-take (columns .count) (columns .columns), ltb-false maxColumns (columns .count) (f .few)), f .room)
+
+  places-count : (x : Decision) → rowDecision L columns s d ≡ x → length (answerOf L x .places) ≡ maxColumns
+  unfolding answerOf
+  places-count (refusal n vs) e = filled-count [] (omega arith)
+  places-count (acceptance ps n) e = filled-count (rowValues L ps 0) (omega (arith, values-count L ps 0, taken ps n e .0))
+
+  text-length : (x : Decision) → rowDecision L columns s d ≡ x → length (textAfter L x d) ≡ length d
+  unfolding textAfter
+  text-length (refusal n vs) e = refl
+  text-length (acceptance ps n) e =
+      let ts = rowTexts L ps in
+      omega (arith, length-append ts (drop (length ts) d), length-drop (length ts) d, taken ps n e .1)
 
 -- ---- every place fits
 
@@ -111,8 +177,8 @@ module _ (L : Conversions) (ns : Numbers L NumberSort) where
   value-allowed c plain n nothing h at next = ⊎-elim inr (λ e. absurd (true≢false (sym e ∙ plain))) h
   value-allowed c plain n (number x) h at next = known-allowed c (sortOf (numberValue x)) h
   value-allowed c plain n (boolean b) h at next = h
-  value-allowed c plain n (part k from l) h at next = rw (part-sort k (place (cond (eqb l 0) 0 (at + from)) l)) (h .0)
-  value-allowed c plain n (text k t) h at next = rw (text-sort k (place next (length t))) h
+  value-allowed c plain n (part k from l) h at next = rw part-sort (h .0)
+  value-allowed c plain n (text k t) h at next = rw text-sort h
 
   present-allowed : (c : ColumnDescriptor) → namedIn (type.DecFloat 0 ∷ []) (c .«db2_type») ≡ false → (at : ℕ) (s : List ℕ) (next : ℕ)
       → Allows c (pieceValue L (present c at s) next .value)
@@ -179,6 +245,14 @@ module _ (L : Conversions) (ns : Numbers L NumberSort) where
       l)
 
 -- of the row call
+pub all-places : AllPlaces rowAnswer rowText
+unfolding rowAnswer
+all-places columns s d = places-count ported columns s d (rowDecision ported columns s d) refl
+
+pub same-length : SameLength rowAnswer rowText
+unfolding rowText
+same-length columns s d = text-length ported columns s d (rowDecision ported columns s d) refl
+
 pub places-fit : PlacesFit rowAnswer rowText
 unfolding rowAnswer rowText
 places-fit = places-fit-with ported

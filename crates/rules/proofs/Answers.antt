@@ -19,7 +19,7 @@ use Rattle.numbers.specs.Number.{Number, numberValue}
 use Rattle.rules.specs.Meaning.{ByteSort, TextSort, Item, nothing, number, boolean, part, text, Conversions, itemIn}
 use Rattle.rules.specs.Walk.{columnNeed, Piece, absent, present, cellPiece, Walk, done, short, consPiece, walk, walkBody, walkRow, skipOf}
 use Rattle.rules.specs.Value.{Holder, nowhere, row, textBuffer, heldBy, bytesAt, heldBytes, valueBytes, heldText, textsTogether}
-use Rattle.rules.specs.Row.{place, partValue, textValue, valueOf, textOf, pieceItem, pieceValue, rowValues, rowTexts}
+use Rattle.rules.specs.Row.{partValue, textValue, startOf, valueOf, textOf, pieceItem, pieceValue, rowValues, rowTexts}
 use Rattle.rules.specs.Sorts.{sortsOf}
 use Rattle.rules.proofs.Walks.{isDone, usedOf, piecesOf, walk-step, walk-first, walk-rest, walk-rest-used, walk-used, drop-take}
 use Rattle.rules.proofs.Items.{Item-of, Nothing, Numbers, item-of}
@@ -114,25 +114,38 @@ Inside n (boolean b) = Unit {0}
 Inside n (part k from l) = l ≤ n - from
 Inside n (text k t) = Unit {0}
 
+start-ends : (l at n : ℕ) → at + l ≤ n → startOf l at + l ≤ n
+unfolding startOf
+start-ends l at n h = go (eqb l 0) refl
+  where
+    go : (t : Bool) → eqb l 0 ≡ t → cond t 0 at + l ≤ n
+    go true e = omega (arith, eqb-true l 0 e)
+    go false e = h
+
+-- an empty part ends at its place, whatever that is
+start-empty : (at n : ℕ) → startOf 0 at + 0 ≤ n
+unfolding startOf
+start-empty at n = omega arith
+
+part-ends : (l from at size n : ℕ) → l ≤ size - from → at + size ≤ n → startOf l (at + from) + l ≤ n
+part-ends zero from at size n i h = start-empty (at + from) n
+part-ends (suc l) from at size n i h = start-ends (suc l) (at + from) n (omega arith)
+
 value-within : (n m : ℕ) (x : Item) (at size next : ℕ) → Inside size x → at + size ≤ n → next + length (textOf x) ≤ m → Within n m (heldBy (valueOf x at next))
 unfolding valueOf textOf
 value-within n m nothing at size next i h k = tt
-value-within n m (number x) at size next i h k = rw (number-held x) tt
+value-within n m (number x) at size next i h k = rw number-held tt
 value-within n m (boolean b) at size next i h k = tt
-value-within n m (part k from l) at size next i h j = rw (part-held k (place (cond (eqb l 0) 0 (at + from)) l)) (go (eqb l 0) refl)
-  where
-    go : (t : Bool) → eqb l 0 ≡ t → cond t 0 (at + from) + l ≤ n
-    go true e = omega (arith, eqb-true l 0 e)
-    go false e = omega (arith, eqb-false l 0 e)
-value-within n m (text k t) at size next i h j = rw (text-held k (place next (length t))) j
+value-within n m (part k from l) at size next i h j = rw part-held (part-ends l from at size n i h)
+value-within n m (text k t) at size next i h j = rw text-held (omega arith)
 
 value-length : (x : Item) (at next : ℕ) → heldText (heldBy (valueOf x at next)) ≡ length (textOf x)
 unfolding valueOf textOf
 value-length nothing at next = refl
-value-length (number x) at next = rw (number-held x)
+value-length (number x) at next = rw number-held
 value-length (boolean b) at next = refl
-value-length (part k from l) at next = rw (part-held k (place (cond (eqb l 0) 0 (at + from)) l))
-value-length (text k t) at next = rw (text-held k (place next (length t)))
+value-length (part k from l) at next = rw part-held
+value-length (text k t) at next = rw text-held
 
 -- of numbers nothing is needed here
 any-number : (L : Conversions) → Numbers L (λ t x. Unit {0})

@@ -21,7 +21,7 @@ use Rattle.rules.specs.OwnEnd.{carriesOwnEnd, allCarryOwnEnd}
 use Rattle.rules.specs.Meaning.{itemIn}
 use Rattle.rules.specs.Walk.{skipOf, nullableNeed, columnNeed, cellPiece, consPiece, walk, walkBody}
 use Rattle.rules.specs.Value.{textsTogether}
-use Rattle.rules.specs.Row.{covered, refusedRow, valueOf, textOf, pieceItem, pieceValue, rowValues, rowTexts, anyDecFloat, walkDecision, bodyDecision, rowDecision, answerOf}
+use Rattle.rules.specs.Row.{covered, refusedRow, startOf, valueOf, textOf, pieceItem, pieceValue, rowValues, rowTexts, anyDecFloat, walkDecision, bodyDecision, rowDecision, answerOf}
 use Rattle.rules.specs.Conversions.{rowAnswer, rowText}
 use Rattle.rules.specs.Demand3.{AcceptedRow, LargeEnough, Same}
 use Rattle.rules.proofs.Demand3.{demand3}
@@ -71,7 +71,7 @@ unfolding columnsB columnList filled rowAnswer answerOf rowDecision bodyDecision
 used = refl
 
 texts : textsTogether (rowAnswer columnsB rowB bufferB .places) ≡ 6
-unfolding columnsB columnList filled blankValue rowAnswer answerOf rowDecision bodyDecision walkDecision walkBody walk skipOf columnNeed nullableNeed need cellPiece consPiece anyDecFloat rowValues rowTexts pieceValue pieceItem itemIn valueOf textOf textsTogether decimalText sign digits nibbles trimmed fraction
+unfolding columnsB columnList filled blankValue rowAnswer answerOf rowDecision bodyDecision walkDecision walkBody walk skipOf columnNeed nullableNeed need cellPiece consPiece anyDecFloat rowValues rowTexts pieceValue pieceItem itemIn startOf valueOf textOf textsTogether decimalText sign digits nibbles trimmed fraction
 texts = refl
 
 accepted-row : AcceptedRow rowAnswer rowText columnsB rowB bufferB

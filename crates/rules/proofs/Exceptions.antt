@@ -19,7 +19,7 @@ use Rattle.rules.specs.OwnEnd.{carriesOwnEnd}
 use Rattle.rules.specs.Meaning.{allZero, lobEmpty, headerItem, lobReference, lobInline, lobItem, varyingItem, lobBytesItem, lobCharItem, itemIn}
 use Rattle.rules.specs.Walk.{skipOf, nullableNeed, columnNeed, cellPiece, consPiece, cellShort, walk, walkBody}
 use Rattle.rules.specs.Value.{textsTogether}
-use Rattle.rules.specs.Row.{RowTold, valueOf, textOf, pieceItem, pieceValue, rowValues, rowTexts, anyDecFloat, walkDecision, bodyDecision, rowDecision, answerOf}
+use Rattle.rules.specs.Row.{RowTold, startOf, valueOf, textOf, pieceItem, pieceValue, rowValues, rowTexts, anyDecFloat, walkDecision, bodyDecision, rowDecision, answerOf}
 use Rattle.rules.specs.Conversions.{rowAnswer, rowText}
 use Rattle.rules.specs.Demand3.{AcceptedRow, Longer}
 use Rattle.rules.specs.Exceptions.{Exception, columnsIn, room, exceptions, Breaks, AllBreak}
@@ -122,7 +122,7 @@ from-test [] e = tt
 from-test (x ∷ xs) e = (all-parts x (and-left (breaks x) (allOf xs) e), from-test xs (and-right (breaks x) (allOf xs) e))
 
 computed : allOf exceptions ≡ true
-unfolding exceptions carriesOwnEnd rowAnswer answerOf rowDecision bodyDecision walkDecision walkBody walk skipOf columnNeed nullableNeed cellPiece consPiece cellShort need lobNeed isReference saysHeader isShortReference hexDigits isHexDigit number anyDecFloat columnList filled blankValue rowValues rowTexts pieceValue pieceItem itemIn valueOf textOf textsTogether varyingItem headerItem lobItem lobEmpty lobReference lobInline lobBytesItem lobCharItem allZero textIn hexText characterText characterConversion graphicText graphicConversion utf8Text likelyText allLikely likelyPiece isControl isTabOrLineEnd readFrom firstOf firstBy rowIn within fit value
+unfolding exceptions carriesOwnEnd rowAnswer answerOf rowDecision bodyDecision walkDecision walkBody walk skipOf columnNeed nullableNeed cellPiece consPiece cellShort need lobNeed isReference saysHeader isShortReference hexDigits isHexDigit number anyDecFloat columnList filled blankValue rowValues rowTexts pieceValue pieceItem itemIn startOf valueOf textOf textsTogether varyingItem headerItem lobItem lobEmpty lobReference lobInline lobBytesItem lobCharItem allZero textIn hexText characterText characterConversion graphicText graphicConversion utf8Text likelyText allLikely likelyPiece isControl isTabOrLineEnd readFrom firstOf firstBy rowIn within fit value
 computed = refl
 
 pub exceptions-break : AllBreak exceptions

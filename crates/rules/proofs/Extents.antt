@@ -22,7 +22,7 @@ use Rattle.numbers.specs.Number.{number}
 use Rattle.numbers.proofs.Laws.{take-first}
 use Rattle.rules.specs.declared.Extent.{Extent}
 use Rattle.rules.specs.declared.Extent.the-variants.{Fixed, Counted, Header, Inline, Locator, Materialized}
-use Rattle.rules.specs.Extent.{be16, be32, low15, isReference, isShortReference, saysHeader, hexDigits, lobNeed, need, graphicUnit, lobExtent, typeExtent, extentOf}
+use Rattle.rules.specs.Extent.{be16, be32, low15, referenceMark, isReference, isShortReference, saysHeader, hexDigits, lobNeed, need, graphicUnit, lobExtent, typeExtent, extentOf}
 use Rattle.rules.specs.OwnEnd.{isAbsent, isLongMaterialized, isLobOfLength0, isTinyHeader, carriesOwnEnd}
 use Rattle.rules.proofs.Tests.{lt-or-le, is-false, not-true, and-left, and-right, or-left, or-right}
 
@@ -51,13 +51,13 @@ module _ (s : List ℕ) (m : ℕ) where
   be32-take h = ap (number BigEndian) (take-take 4 m s h)
 
 -- a reference of nine bytes
-reference-is : (s : List ℕ) → isReference s ≡ true → (9 ≤ length s) × (getD s 0 0 ≡ 2)
+reference-is : (s : List ℕ) → isReference s ≡ true → (9 ≤ length s) × (getD s 0 0 ≡ referenceMark)
 unfolding isReference
-reference-is s e = (leb-true 9 (length s) (and-left (leb 9 (length s)) (eqb (getD s 0 0) 2) e), eqb-true (getD s 0 0) 2 (and-right (leb 9 (length s)) (eqb (getD s 0 0) 2) e))
+reference-is s e = (leb-true 9 (length s) (and-left (leb 9 (length s)) (eqb (getD s 0 0) referenceMark) e), eqb-true (getD s 0 0) referenceMark (and-right (leb 9 (length s)) (eqb (getD s 0 0) referenceMark) e))
 
-is-reference : (s : List ℕ) → 9 ≤ length s → getD s 0 0 ≡ 2 → isReference s ≡ true
+is-reference : (s : List ℕ) → 9 ≤ length s → getD s 0 0 ≡ referenceMark → isReference s ≡ true
 unfolding isReference
-is-reference s h e = rw (le-leb 9 (length s) h, eq-eqb (getD s 0 0) 2 e)
+is-reference s h e = rw (le-leb 9 (length s) h, eq-eqb (getD s 0 0) referenceMark e)
 
 -- `need` at each kind of extent
 counted-short : (w : ℕ) (s : List ℕ) → length s < 2 → need (Counted w) s ≡ 2
@@ -118,7 +118,7 @@ header-stays n b s u h = ⊎-elim short long (lt-or-le (length s) 2)
     long : 2 ≤ length s → need (Header n) (s ++ u) ≡ need (Header n) s
     long l = rw (header-long n s l, header-long n (s ++ u) (omega (arith, le-length-append s u)), be16-append s u l)
 
-be32-of-02 : (s : List ℕ) → 4 ≤ length s → getD s 0 0 ≡ 2 → 9 ≤ be32 s
+be32-of-02 : (s : List ℕ) → 4 ≤ length s → getD s 0 0 ≡ referenceMark → 9 ≤ be32 s
 unfolding number
 be32-of-02 s h z = rw (take-first s 4) (omega arith)
 
@@ -133,7 +133,7 @@ inline-stays s u h = ⊎-elim short long (lt-or-le (length s) 4)
     plain : 4 ≤ length s → isReference s ≡ false → isReference (s ++ u) ≡ true → ⊥
     plain l e f =
         let r = reference-is (s ++ u) f in
-        let z : getD s 0 0 ≡ 2 = sym (List·getD-append s u 0 0 (omega arith)) ∙ r .1 in
+        let z : getD s 0 0 ≡ referenceMark = sym (List·getD-append s u 0 0 (omega arith)) ∙ r .1 in
         let big : 9 ≤ length s = omega (arith, lob-plain (4 + be32 s) s l e, be32-of-02 s l z) in
         true≢false (sym (is-reference s big z) ∙ e)
 

@@ -1,11 +1,12 @@
--- What holds of every accepted answer (document 01, "What the call hands back"), as a statement about a row call, given as in specs/Demand3.antt. Assumes nothing.
+-- What holds of every answer, and of every accepted one (document 01, "What the call hands back"), as statements about a row call, given as in
+-- specs/Demand3.antt. Assumes nothing.
 use Prim.Native.Nat.{ℕ, _+_, _≤_, _<_}
 use mathlib.Core.Path.{_≡_}
 use mathlib.Core.List.{List}
 use lib.ListN.{length, getD}
 use Rattle.refusal.specs.Refusal.{accepted}
 use Rattle.types.specs.declared.Columns.{Columns}
-use Rattle.types.specs.Places.{blankColumn, blankValue}
+use Rattle.types.specs.Places.{maxColumns, blankColumn, blankValue}
 use Rattle.rules.specs.Value.{Holder, nowhere, row, textBuffer, heldBy}
 use Rattle.rules.specs.Row.{RowTold, covered}
 use Rattle.rules.specs.Sorts.{Allows}
@@ -17,7 +18,15 @@ Fits (row p) s d = p .start + p .len ≤ length s
 Fits (textBuffer p) s d = p .start + p .len ≤ length d
 
 module _ (answer : Columns → List ℕ → List ℕ → RowTold) (after : Columns → List ℕ → List ℕ → List ℕ) where
-  -- every place fits
+  -- an answer has as many value places as a list has places for columns
+  abbrev pub AllPlaces : Type 0
+  AllPlaces = (columns : Columns) (s d : List ℕ) → length (answer columns s d .places) ≡ maxColumns
+
+  -- the text buffer stays as long as it was
+  abbrev pub SameLength : Type 0
+  SameLength = (columns : Columns) (s d : List ℕ) → length (after columns s d) ≡ length d
+
+  -- in an accepted answer every place fits
   abbrev pub PlacesFit : Type 0
   PlacesFit =
       (columns : Columns) (s d : List ℕ) → answer columns s d .outcome ≡ accepted

@@ -33,8 +33,11 @@ abbrev pub low15 : ℕ → ℕ
 low15 n = n % 0x8000
 
 -- the Rust: externalized_lob_reference_len. Nine bytes or more, of which the first is 02, begin a reference of nine
+abbrev pub referenceMark : ℕ
+referenceMark = 0x02
+
 unfoldable pub isReference : List ℕ → Bool
-isReference s = leb 9 (length s) && eqb (getD s 0 0) 0x02
+isReference s = leb 9 (length s) && eqb (getD s 0 0) referenceMark
 
 -- the Rust: is_short_externalized_lob_reference. For a declared length of 1,024 or more, 16 bytes or more, but fewer than declared, with 16 hexadecimal
 -- digits among them

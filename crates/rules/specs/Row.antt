@@ -50,6 +50,10 @@ textValue time p = value.Time p
 textValue timestamp p = value.Timestamp p
 textValue xml p = value.Xml p
 
+-- "an empty one names place 0": where a part of n bytes begins that is found at a place
+unfoldable pub startOf : ℕ → ℕ → ℕ
+startOf n at = cond (eqb n 0) 0 at
+
 -- The value of an item whose bytes begin at place `at` of the input. `next` is the next unwritten byte of the text buffer.
 -- "Binary and Blob values name a place, counted from the input's first byte, and a length in the row; an empty one names place 0. An empty text names the next
 -- unwritten byte."
@@ -57,7 +61,7 @@ unfoldable pub valueOf : Item → ℕ → ℕ → Db2Value
 valueOf nothing at next = value.Null
 valueOf (number x) at next = numberValue x
 valueOf (boolean b) at next = value.Boolean b
-valueOf (part k from n) at next = partValue k (place (cond (eqb n 0) 0 (at + from)) n)
+valueOf (part k from n) at next = partValue k (place (startOf n (at + from)) n)
 valueOf (text k t) at next = textValue k (place next (length t))
 
 unfoldable pub textOf : Item → List ℕ

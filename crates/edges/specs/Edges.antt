@@ -1,13 +1,12 @@
 -- Document 01, "At the edges": the cases A to P, each with the outcome that it gives. Assumes nothing.
 use Prim.Native.Nat.{ℕ}
 use Prim.Native.Char.{Char}
-use Prim.Native.String.{String}
 use mathlib.Core.Path.{_≡_}
-use mathlib.Core.Bool.{Bool, true, false}
-use mathlib.Core.List.{List, [], _∷_, _++_, map}
+use mathlib.Core.Bool.{true, false}
+use mathlib.Core.List.{List, [], _∷_, map}
 use lib.IntN.{pos}
 use lib.ListN.{length, replicate, take}
-use Rattle.refusal.specs.Refusal.{Told, accepted, refused}
+use Rattle.refusal.specs.Refusal.{Told, accepted}
 use Rattle.buffer.specs.Buffer.{TextTold, written}
 use Rattle.types.specs.declared.Db2Value.{Db2Value}
 use Rattle.types.specs.declared.Db2Value.the-variants as value

@@ -1,10 +1,10 @@
 -- The bits of a float value are the pattern that it was made from, for every pattern of 32 or 64 bits: -0, subnormals, infinities and NaNs included.
 -- Assumes nothing.
 use Prim.Native.Nat.{ℕ, _*_, _^_, _<_}
-use mathlib.Core.Path.{_≡_, refl, sym, ap, _∙_, subst}
+use mathlib.Core.Path.{_≡_, refl, sym, _∙_, subst}
 use mathlib.Core.Bool.{Bool, true, false, not, cond}
 use lib.Dec.{T}
-use lib.Ieee.{Float, Format, binary32, binary64, nanBits, ofBits, toBits, isNan, top}
+use lib.Ieee.{Float, Format, binary32, binary64, nanBits, ofBits, toBits, top}
 use lib.Ieee.Bits.{toBits-ofBits, nanBits-is}
 use Rattle.numbers.specs.Number.{Number, realOf, doubleOf, floatBits}
 

@@ -12,7 +12,6 @@ use lib.ListN.{length, getD, take, drop, replicate, length-append, length-drop, 
 use lib.Dec.{leb, eqb}
 use borrow.Author.Tests.{ltb-false}
 use lib.Ieee.{binary32, binary64, nanBits, ofBits}
-use Rattle.refusal.specs.Refusal.{accepted}
 use Rattle.buffer.specs.Buffer.{written}
 use Rattle.types.specs.declared.Db2Type.{Db2Type}
 use Rattle.types.specs.declared.Db2Type.the-variants as type

@@ -1,23 +1,23 @@
 -- Demand 3 (specs/Demand3.antt): for every choice of the conversions, and so of the row call. Assumes nothing.
-use Prim.Native.Nat.{ℕ, _+_, _-_, _≤_, _<_}
+use Prim.Native.Nat.{ℕ, _-_, _≤_, _<_}
 use mathlib.Core.Path.{_≡_, refl, sym, ap, _∙_, subst⁻¹}
 use mathlib.Core.Bool.{Bool, true, false, cond, true≢false}
-use mathlib.Core.List.{List, [], _∷_, _++_}
+use mathlib.Core.List.{List, [], _∷_}
 use native.Mathlib.Omega.{arith}
 use lib.ListN.{length, getD, take, drop, length-append}
 use lib.Seq.{take-at, take-take, length-take-le}
 use lib.Dec.{ltb}
 use borrow.Author.Tests.{le-ltb, ltb-false}
-use Rattle.refusal.specs.Refusal.{Told, accepted, refused, inputLimit}
+use Rattle.refusal.specs.Refusal.{accepted, inputLimit}
 use Rattle.buffer.specs.Buffer.{written}
 use Rattle.types.specs.declared.ColumnDescriptor.{ColumnDescriptor}
 use Rattle.types.specs.declared.Columns.{Columns}
 use Rattle.types.specs.Places.{maxColumns, filled, blankValue}
 use Rattle.rules.specs.OwnEnd.{allCarryOwnEnd}
 use Rattle.rules.specs.Meaning.{Conversions}
-use Rattle.rules.specs.Walk.{Piece, Walk, done, short, skipOf, walkRow}
+use Rattle.rules.specs.Walk.{Piece, Walk, done, short, walkRow}
 use Rattle.rules.specs.Value.{textsTogether}
-use Rattle.rules.specs.Row.{RowTold, Decision, refusal, acceptance, covered, anyDecFloat, rowValues, rowTexts, walkDecision, bodyDecision, rowDecision, refusedRow, answerOf, textAfter, answerWith, textWith}
+use Rattle.rules.specs.Row.{Decision, refusal, acceptance, covered, anyDecFloat, rowValues, rowTexts, walkDecision, bodyDecision, rowDecision, answerOf, textAfter, answerWith, textWith}
 use Rattle.rules.specs.Conversions.{ported, rowAnswer, rowText}
 use Rattle.rules.specs.Demand3.{SameAnswer, AcceptedRow, Longer, Shorter, Alone, Demand3}
 use Rattle.rules.proofs.Walks.{isDone, usedOf, piecesOf}

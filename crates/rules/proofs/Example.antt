@@ -1,8 +1,8 @@
 -- Demand 3 is not empty: case B of document 01 meets every hypothesis, with a longer input, a shorter beginning, the bytes used alone, and another text buffer.
 -- Assumes nothing.
-use Prim.Native.Nat.{ℕ, _+_, _≤_, _<_}
-use mathlib.Core.Path.{_≡_, refl, sym, ap, _∙_}
-use mathlib.Core.Bool.{Bool, true, false}
+use Prim.Native.Nat.{ℕ}
+use mathlib.Core.Path.{_≡_, refl}
+use mathlib.Core.Bool.{true}
 use mathlib.Core.List.{List, [], _∷_}
 use native.Mathlib.Omega.{arith}
 use lib.ListN.{length, take, replicate}
@@ -14,14 +14,13 @@ use Rattle.types.specs.declared.ReferenceLength.the-variants.{Absent}
 use Rattle.types.specs.declared.ColumnDescriptor.{ColumnDescriptor}
 use Rattle.types.specs.declared.Columns.{Columns}
 use Rattle.types.specs.Places.{filled, blankValue, columnList}
-use Rattle.numbers.specs.Number.{number}
 use Rattle.packed.specs.Packed.{nibbles, sign, digits, trimmed, fraction, decimalText}
 use Rattle.rules.specs.Extent.{need}
 use Rattle.rules.specs.OwnEnd.{carriesOwnEnd, allCarryOwnEnd}
 use Rattle.rules.specs.Meaning.{itemIn}
 use Rattle.rules.specs.Walk.{skipOf, nullableNeed, columnNeed, cellPiece, consPiece, walk, walkBody}
 use Rattle.rules.specs.Value.{textsTogether}
-use Rattle.rules.specs.Row.{covered, refusedRow, startOf, valueOf, textOf, pieceItem, pieceValue, rowValues, rowTexts, anyDecFloat, walkDecision, bodyDecision, rowDecision, answerOf}
+use Rattle.rules.specs.Row.{covered, refusedRow, valueOf, textOf, pieceItem, pieceValue, rowValues, rowTexts, anyDecFloat, walkDecision, bodyDecision, rowDecision, answerOf}
 use Rattle.rules.specs.Conversions.{rowAnswer, rowText}
 use Rattle.rules.specs.Demand3.{AcceptedRow, LargeEnough, Same}
 use Rattle.rules.proofs.Demand3.{demand3}
@@ -62,30 +61,23 @@ own : allCarryOwnEnd (covered columnsB) ≡ true
 unfolding columnsB columnList filled allCarryOwnEnd carriesOwnEnd
 own = refl
 
-outcome : rowAnswer columnsB rowB bufferB .outcome ≡ accepted
-unfolding columnsB columnList filled rowAnswer answerOf rowDecision bodyDecision walkDecision walkBody walk skipOf columnNeed nullableNeed need cellPiece consPiece anyDecFloat rowTexts pieceItem itemIn textOf decimalText sign digits nibbles trimmed fraction
-outcome = refl
-
-used : rowAnswer columnsB rowB bufferB .used ≡ 7
-unfolding columnsB columnList filled rowAnswer answerOf rowDecision bodyDecision walkDecision walkBody walk skipOf columnNeed nullableNeed need cellPiece consPiece anyDecFloat rowTexts pieceItem itemIn textOf decimalText sign digits nibbles trimmed fraction
-used = refl
-
-texts : textsTogether (rowAnswer columnsB rowB bufferB .places) ≡ 6
-unfolding columnsB columnList filled blankValue rowAnswer answerOf rowDecision bodyDecision walkDecision walkBody walk skipOf columnNeed nullableNeed need cellPiece consPiece anyDecFloat rowValues rowTexts pieceValue pieceItem itemIn startOf valueOf textOf textsTogether decimalText sign digits nibbles trimmed fraction
-texts = refl
+-- what case B answers, as far as the hypotheses ask: accepted, seven bytes used, six bytes of text
+answers : (rowAnswer columnsB rowB bufferB .outcome ≡ accepted) × (rowAnswer columnsB rowB bufferB .used ≡ 7) × (textsTogether (rowAnswer columnsB rowB bufferB .places) ≡ 6)
+unfolding columnsB columnList filled blankValue rowAnswer answerOf rowDecision bodyDecision walkDecision walkBody walk skipOf columnNeed nullableNeed need cellPiece consPiece anyDecFloat rowValues rowTexts pieceValue pieceItem itemIn valueOf textOf textsTogether decimalText sign digits nibbles trimmed fraction
+answers = (refl, refl, refl)
 
 accepted-row : AcceptedRow rowAnswer rowText columnsB rowB bufferB
-accepted-row = record { two = omega arith; accepts = outcome; one = omega (arith, used) }
+accepted-row = record { two = omega arith; accepts = answers .0; one = omega (arith, answers .1) }
 
 large : LargeEnough (rowAnswer columnsB rowB bufferB) otherB
-large = omega (arith, texts)
+large = omega (arith, answers .2)
 
 -- the longer input, the first six bytes, and the seven bytes alone, each with the other buffer
 pub longer : Same rowAnswer rowText columnsB longB otherB rowB bufferB
-longer = demand3 .longer columnsB own rowB bufferB accepted-row longB otherB (omega arith) (rw used) large
+longer = demand3 .longer columnsB own rowB bufferB accepted-row longB otherB (omega arith) (rw (answers .1)) large
 
 pub shorter : (expected : ℕ) × (actual : ℕ) × (rowAnswer columnsB (take 6 rowB) otherB ≡ refusedRow 8 (expected ∷ actual ∷ [])) × (rowText columnsB (take 6 rowB) otherB ≡ otherB)
-shorter = demand3 .shorter columnsB own rowB bufferB accepted-row 6 otherB (omega arith) (omega (arith, used))
+shorter = demand3 .shorter columnsB own rowB bufferB accepted-row 6 otherB (omega arith) (omega (arith, answers .1))
 
 pub alone : Same rowAnswer rowText columnsB (take (rowAnswer columnsB rowB bufferB .used) rowB) otherB rowB bufferB
 alone = demand3 .alone columnsB rowB bufferB accepted-row otherB large

@@ -1,27 +1,24 @@
 -- Each exception of document 01's list of columns that carry their own end is needed (specs/Exceptions.antt): one computed test over the table, and a law that
 -- turns it into the statement. Assumes nothing.
-use Prim.Native.Nat.{ℕ, _+_, _≤_}
-use mathlib.Core.Path.{_≡_, refl, sym, ap, _∙_}
-use mathlib.Core.Bool.{Bool, true, false, cond, not, _&&_, _||_, true≢false, false≢true}
-use mathlib.Core.List.{List, [], _∷_, _++_}
-use lib.ListN.{length, getD, take, drop, replicate}
-use lib.Dec.{ltb, leb, eqb}
+use Prim.Native.Nat.{ℕ}
+use mathlib.Core.Path.{_≡_, refl, sym, _∙_}
+use mathlib.Core.Bool.{Bool, true, false, not, _&&_, true≢false, false≢true}
+use mathlib.Core.List.{List, [], _∷_}
+use lib.ListN.{length, take}
+use lib.Dec.{leb, eqb}
 use borrow.Author.Tests.{leb-true, eqb-true, eq-eqb}
 use Rattle.refusal.specs.Refusal.{Told, accepted, refused, inputLimit}
 use Rattle.types.specs.Places.{filled, blankValue, columnList}
 use Rattle.numbers.specs.Number.{number}
-use Rattle.conversion.specs.Conversion.{textIn, characterConversion, characterText, graphicText, graphicConversion}
+use Rattle.conversion.specs.Conversion.{textIn}
 use Rattle.conversion.specs.Hex.{hexText}
-use Rattle.unicode.specs.Unicode.{utf8Text, readFrom, firstOf, firstBy, rowIn, within, fit, value}
-use Rattle.unicode.specs.Likely.{likelyText, allLikely, likelyPiece, isControl, isTabOrLineEnd}
 use Rattle.rules.specs.Extent.{isReference, isHexDigit, hexDigits, isShortReference, saysHeader, lobNeed, need}
-use Rattle.rules.specs.OwnEnd.{carriesOwnEnd}
-use Rattle.rules.specs.Meaning.{allZero, lobEmpty, headerItem, lobReference, lobInline, lobItem, varyingItem, lobBytesItem, lobCharItem, itemIn}
-use Rattle.rules.specs.Walk.{skipOf, nullableNeed, columnNeed, cellPiece, consPiece, cellShort, walk, walkBody}
+use Rattle.rules.specs.OwnEnd.{carriesOwnEnd, allCarryOwnEnd}
+use Rattle.rules.specs.Meaning.{allZero, lobEmpty, headerItem, lobReference, lobItem, varyingItem, lobBytesItem, lobCharItem, itemIn}
+use Rattle.rules.specs.Walk.{skipOf, columnNeed, cellPiece, consPiece, walk, walkBody}
 use Rattle.rules.specs.Value.{textsTogether}
 use Rattle.rules.specs.Row.{RowTold, startOf, valueOf, textOf, pieceItem, pieceValue, rowValues, rowTexts, anyDecFloat, walkDecision, bodyDecision, rowDecision, answerOf}
-use Rattle.rules.specs.Conversions.{rowAnswer, rowText}
-use Rattle.rules.specs.Demand3.{AcceptedRow, Longer}
+use Rattle.rules.specs.Conversions.{rowAnswer}
 use Rattle.rules.specs.Exceptions.{Exception, columnsIn, room, exceptions, Breaks, AllBreak}
 use Rattle.rules.proofs.Tests.{not-true, and-left, and-right}
 
@@ -85,12 +82,16 @@ module _ (x : Exception) where
   abbrev part₁ : Bool
   part₁ = leb 2 (length (x .input)) && part₂
 
+  abbrev part₀ : Bool
+  part₀ = allCarryOwnEnd (x .before) && part₁
+
   abbrev breaks : Bool
-  breaks = not (carriesOwnEnd (x .last)) && part₁
+  breaks = not (carriesOwnEnd (x .last)) && part₀
 
   all-parts : breaks ≡ true → Breaks x
   all-parts e =
-      let p₀ = split (not (carriesOwnEnd (x .last))) part₁ e in
+      let p = split (not (carriesOwnEnd (x .last))) part₀ e in
+      let p₀ = split (allCarryOwnEnd (x .before)) part₁ (p .rest) in
       let p₁ = split (leb 2 (length (x .input))) part₂ (p₀ .rest) in
       let p₂ = split (isAccepted (one .outcome)) part₃ (p₁ .rest) in
       let p₃ = split (leb 1 (one .used)) part₄ (p₂ .rest) in
@@ -98,7 +99,8 @@ module _ (x : Exception) where
       let p₅ = split (sameBytes (take (one .used) (x .longer)) (take (one .used) (x .input))) part₆ (p₄ .rest) in
       let p₆ = split (leb (textsTogether (one .places)) (length room)) part₇ (p₅ .rest) in
       record {
-        lacksEnd = not-true (carriesOwnEnd (x .last)) (p₀ .first);
+        lacksEnd = not-true (carriesOwnEnd (x .last)) (p .first);
+        othersCarry = p₀ .first;
         acceptedRow =
             record {
               two = leb-true 2 (length (x .input)) (p₁ .first);
@@ -122,7 +124,7 @@ from-test [] e = tt
 from-test (x ∷ xs) e = (all-parts x (and-left (breaks x) (allOf xs) e), from-test xs (and-right (breaks x) (allOf xs) e))
 
 computed : allOf exceptions ≡ true
-unfolding exceptions carriesOwnEnd rowAnswer answerOf rowDecision bodyDecision walkDecision walkBody walk skipOf columnNeed nullableNeed cellPiece consPiece cellShort need lobNeed isReference saysHeader isShortReference hexDigits isHexDigit number anyDecFloat columnList filled blankValue rowValues rowTexts pieceValue pieceItem itemIn startOf valueOf textOf textsTogether varyingItem headerItem lobItem lobEmpty lobReference lobInline lobBytesItem lobCharItem allZero textIn hexText characterText characterConversion graphicText graphicConversion utf8Text likelyText allLikely likelyPiece isControl isTabOrLineEnd readFrom firstOf firstBy rowIn within fit value
+unfolding exceptions carriesOwnEnd allCarryOwnEnd rowAnswer answerOf rowDecision bodyDecision walkDecision walkBody walk skipOf columnNeed cellPiece consPiece need lobNeed isReference saysHeader isShortReference hexDigits isHexDigit number anyDecFloat columnList filled blankValue rowValues rowTexts pieceValue pieceItem itemIn startOf valueOf textOf textsTogether varyingItem headerItem lobItem lobEmpty lobReference lobBytesItem lobCharItem allZero textIn hexText
 computed = refl
 
 pub exceptions-break : AllBreak exceptions

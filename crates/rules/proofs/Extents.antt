@@ -2,10 +2,10 @@
 --     Stays    bytes added behind a value that is there change nothing. It holds of an extent that ends itself.
 --     Cuts     bytes taken away behind a value that is there change nothing. It holds of every extent.
 -- Assumes nothing.
-use Prim.Native.Nat.{ℕ, suc, _+_, _*_, _-_, _%_, _≤_, _<_, min}
+use Prim.Native.Nat.{ℕ, _+_, _*_, _-_, _≤_, _<_}
 use mathlib.Core.Path.{_≡_, refl, sym, ap, _∙_}
-use mathlib.Core.Bool.{Bool, true, false, cond, not, _&&_, _||_, true≢false, false≢true}
-use mathlib.Core.List.{List, [], _∷_, _++_}
+use mathlib.Core.Bool.{Bool, true, false, cond, _&&_, _||_, true≢false, false≢true}
+use mathlib.Core.List.{List, _++_}
 use mathlib.Core.Logic.{⊎-elim}
 use native.Mathlib.Omega.{arith}
 use lib.ListN.{length, getD, take, length-append, List·getD-append}
@@ -24,7 +24,7 @@ use Rattle.rules.specs.declared.Extent.{Extent}
 use Rattle.rules.specs.declared.Extent.the-variants.{Fixed, Counted, Header, Inline, Locator, Materialized}
 use Rattle.rules.specs.Extent.{be16, be32, low15, referenceMark, isReference, isShortReference, saysHeader, hexDigits, lobNeed, need, graphicUnit, lobExtent, typeExtent, extentOf}
 use Rattle.rules.specs.OwnEnd.{isAbsent, isLongMaterialized, isLobOfLength0, isTinyHeader, carriesOwnEnd}
-use Rattle.rules.proofs.Tests.{lt-or-le, is-false, not-true, and-left, and-right, or-left, or-right}
+use Rattle.rules.proofs.Tests.{lt-or-le, is-false, not-true, and-left, and-right, or-left}
 
 abbrev pub Stays : (List ℕ → ℕ) → Type 0
 Stays f = (s u : List ℕ) → f s ≤ length s → f (s ++ u) ≡ f s

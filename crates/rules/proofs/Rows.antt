@@ -16,7 +16,7 @@ use lib.Dec.{leb, eqb}
 use borrow.Author.Tests.{le-leb, lt-leb, eq-eqb, ne-eqb, eqb-true, eqb-false}
 use Rattle.types.specs.declared.ColumnDescriptor.{ColumnDescriptor}
 use Rattle.rules.specs.OwnEnd.{allCarryOwnEnd}
-use Rattle.rules.specs.Walk.{Walk, walk, skipOf, walkBody, walkRow}
+use Rattle.rules.specs.Walk.{walk, skipOf, walkBody, walkRow}
 use Rattle.rules.proofs.Tests.{is-false, lt-or-le, and-false}
 use Rattle.rules.proofs.Walks.{isDone, usedOf, walk-used, walk-stays, walk-cuts, drop-take}
 

@@ -1,6 +1,6 @@
 -- Why the columns that document 01 lists have no end of their own: for each exception of specs/OwnEnd.antt a row that a longer input changes. Assumes nothing.
 use Prim.Native.Nat.{ℕ}
-use mathlib.Core.Bool.{Bool, true, false}
+use mathlib.Core.Bool.{true, false}
 use mathlib.Core.Path.{_≡_}
 use mathlib.Core.List.{List, [], _∷_}
 use lib.ListN.{replicate}
@@ -11,7 +11,7 @@ use Rattle.types.specs.declared.ReferenceLength.the-variants.{Absent}
 use Rattle.types.specs.declared.ColumnDescriptor.{ColumnDescriptor}
 use Rattle.types.specs.declared.Columns.{Columns}
 use Rattle.types.specs.Places.{columnList}
-use Rattle.rules.specs.OwnEnd.{carriesOwnEnd}
+use Rattle.rules.specs.OwnEnd.{carriesOwnEnd, allCarryOwnEnd}
 use Rattle.rules.specs.Conversions.{rowAnswer, rowText}
 use Rattle.rules.specs.Demand3.{AcceptedRow, Longer}
 
@@ -31,7 +31,7 @@ column t n =
       «byte_order» = BigEndian;
     }
 
--- a row of one column, behind columns that carry their own end; an input, and one that begins with the bytes that the first uses
+-- a column behind others that carry their own end; an input, and one that begins with the bytes that the first uses
 pub record Exception : Type 0 where
   pub before : List ColumnDescriptor
   pub last : ColumnDescriptor
@@ -80,6 +80,7 @@ exceptions =
 -- the row is accepted, as demand 3 asks, only its last column lacks an end, and yet the longer input gives another answer
 pub record Breaks (x : Exception) : Type 0 where
   pub lacksEnd : carriesOwnEnd (x .last) ≡ false
+  pub othersCarry : allCarryOwnEnd (x .before) ≡ true
   pub acceptedRow : AcceptedRow rowAnswer rowText (columnsIn x) (x .input) room
   pub notLonger : Longer rowAnswer rowText (columnsIn x) (x .input) room → ⊥
 

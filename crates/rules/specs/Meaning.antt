@@ -1,11 +1,11 @@
 -- What a value's bytes mean: a function of the column and of exactly those bytes, `need` of them (document 01, "Rows"; the Rust: decode_column_value,
 -- column_has_extdta_reference). The conversions of single values are a parameter: nothing that is proved of rows rests on which they are.
 -- specs/Conversions.antt has those of the row call. Assumes nothing.
-use Prim.Native.Nat.{ℕ, _+_, _-_, _%_, min}
+use Prim.Native.Nat.{ℕ, _-_, min}
 use mathlib.Core.Bool.{Bool, true, false, cond, not, _&&_, _||_}
 use mathlib.Core.List.{List, [], _∷_}
 use lib.ListN.{length, take, drop}
-use lib.Dec.{leb, eqb}
+use lib.Dec.{eqb}
 use Rattle.types.specs.declared.Db2Type.{Db2Type}
 use Rattle.types.specs.declared.Db2Type.the-variants as type
 use Rattle.types.specs.declared.ByteOrder.{ByteOrder}

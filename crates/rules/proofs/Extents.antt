@@ -11,7 +11,7 @@ use native.Mathlib.Omega.{arith}
 use lib.ListN.{length, getD, take, length-append, List·getD-append}
 use lib.Seq.{getD-take, take-append-le, take-take, length-take-le, take-all}
 use lib.Dec.{ltb, leb, eqb}
-use borrow.Author.Tests.{le-leb, lt-leb, leb-true, leb-false, eqb-true, eq-eqb, ltb-true, lt-ltb}
+use borrow.Author.Tests.{le-leb, lt-leb, leb-true, leb-false, eqb-true, eq-eqb, ltb-true, lt-ltb, le-ltb}
 use Rattle.types.specs.declared.Db2Type.{Db2Type}
 use Rattle.types.specs.declared.Db2Type.the-variants as type
 use Rattle.types.specs.declared.ByteOrder.the-variants.{BigEndian}
@@ -24,7 +24,7 @@ use Rattle.rules.specs.declared.Extent.{Extent}
 use Rattle.rules.specs.declared.Extent.the-variants.{Fixed, Counted, Header, Inline, Locator, Materialized}
 use Rattle.rules.specs.Extent.{be16, be32, low15, referenceMark, isReference, isShortReference, saysHeader, hexDigits, lobNeed, need, graphicUnit, lobExtent, typeExtent, extentOf}
 use Rattle.rules.specs.OwnEnd.{isAbsent, isLongMaterialized, isLobOfLength0, isTinyHeader, carriesOwnEnd}
-use Rattle.rules.proofs.Tests.{lt-or-le, is-false, not-true, and-left, and-right, or-left}
+use Rattle.rules.proofs.Tests.{lt-or-le, is-false, not-true, and-left, and-right, and-false, or-left}
 
 abbrev pub Stays : (List ℕ → ℕ) → Type 0
 Stays f = (s u : List ℕ) → f s ≤ length s → f (s ++ u) ≡ f s
@@ -245,6 +245,64 @@ materialized-cuts n s m h l = go (isShortReference n s) refl
     go false e =
         let k : n ≤ m = rw e at h in
         rw (is-false (isShortReference n (take m s)) (long k), e)
+
+-- The Rust makes its tests on the rest of the row, and specs/Meaning.antt on the value's own bytes: they agree
+pub reference-agrees : (whole : ℕ) (s : List ℕ) → lobNeed whole s ≤ length s → isReference (take (lobNeed whole s) s) ≡ isReference s
+reference-agrees whole s h = go (isReference s) refl
+  where
+    go : (t : Bool) → isReference s ≡ t → isReference (take (lobNeed whole s) s) ≡ t
+    go true e =
+        let n = lob-reference whole s e in
+        take-reference s (lobNeed whole s) h (omega arith) e
+    go false e = is-false (isReference (take (lobNeed whole s) s)) (λ f. true≢false (sym (reference-take s (lobNeed whole s) h f) ∙ e))
+
+says-short : (s : List ℕ) → length s < 2 → saysHeader s ≡ false
+unfolding saysHeader
+says-short s h = rw (lt-leb 2 (length s) h)
+
+says-long : (s : List ℕ) → 2 ≤ length s → saysHeader s ≡ leb 0x8000 (be16 s)
+unfolding saysHeader
+says-long s h = rw (le-leb 2 (length s) h)
+
+header-of : (n : ℕ) (s : List ℕ) (t : Bool) → saysHeader s ≡ t → need (Header n) s ≡ cond t (2 + low15 (be16 s)) n
+unfolding need
+header-of n s t e = rw e
+
+pub header-agrees : (n : ℕ) (s : List ℕ) → need (Header n) s ≤ length s → saysHeader (take (need (Header n) s) s) ≡ saysHeader s
+header-agrees n s h = ⊎-elim cut kept (lt-or-le (need (Header n) s) 2)
+  where
+    -- fewer than two bytes taken: then none said a header
+    none-said : (t : Bool) → saysHeader s ≡ t → need (Header n) s < 2 → false ≡ t
+    none-said true e l = absurd (omega (arith, header-of n s true e))
+    none-said false e l = refl
+
+    cut : need (Header n) s < 2 → saysHeader (take (need (Header n) s) s) ≡ saysHeader s
+    cut l =
+        says-short (take (need (Header n) s) s) (omega (arith, length-take-le (need (Header n) s) s h)) ∙ none-said (saysHeader s) refl l
+
+    kept : 2 ≤ need (Header n) s → saysHeader (take (need (Header n) s) s) ≡ saysHeader s
+    kept l =
+        says-long (take (need (Header n) s) s) (omega (arith, length-take-le (need (Header n) s) s h))
+        ∙ ap (leb 0x8000) (be16-take s (need (Header n) s) l)
+        ∙ sym (says-long s (omega arith))
+
+whole-of : (n : ℕ) (s : List ℕ) (t : Bool) → isShortReference n s ≡ t → need (Materialized n) s ≡ cond t (length s) n
+unfolding need
+whole-of n s t e = rw e
+
+-- as many bytes as declared are no short reference
+not-short : (n : ℕ) (s : List ℕ) → length s ≡ n → isShortReference n s ≡ false
+unfolding isShortReference
+not-short n s e = rw (le-ltb (length s) n (omega arith), and-false (leb 16 (length s)), and-false (leb 1024 n))
+
+pub short-agrees : (n : ℕ) (s : List ℕ) → need (Materialized n) s ≤ length s → isShortReference n (take (need (Materialized n) s) s) ≡ isShortReference n s
+short-agrees n s h = go (isShortReference n s) refl
+  where
+    go : (t : Bool) → isShortReference n s ≡ t → isShortReference n (take (need (Materialized n) s) s) ≡ t
+    go true e = ap (isShortReference n) (take-all (need (Materialized n) s) s (omega (arith, whole-of n s true e))) ∙ e
+    go false e =
+        let w = whole-of n s false e in
+        not-short n (take (need (Materialized n) s) s) (length-take-le (need (Materialized n) s) s h ∙ w)
 
 -- every extent, and those that end themselves
 unfoldable pub endsItself : Extent → Bool

@@ -1,6 +1,7 @@
 -- What a value's bytes mean: a function of the column and of exactly those bytes, `need` of them (document 01, "Rows"; the Rust: decode_column_value,
 -- column_has_extdta_reference). The conversions of single values are a parameter: nothing that is proved of rows rests on which they are.
--- specs/Conversions.antt has those of the row call. Assumes nothing.
+-- specs/Conversions.antt has those of the row call. Where the Rust makes a test on the rest of the row, it is made here on the value's own bytes; proofs/Extents.antt
+-- has the laws that the two agree. Assumes nothing.
 use Prim.Native.Nat.{ℕ, _-_, min}
 use mathlib.Core.Bool.{Bool, true, false, cond, not, _&&_, _||_}
 use mathlib.Core.List.{List, [], _∷_}

@@ -1,0 +1,83 @@
+-- Demand 3 is not empty: case B of document 01 meets every hypothesis, with a longer input, a shorter beginning, the bytes used alone, and another text buffer.
+-- Assumes nothing.
+use Prim.Native.Nat.{ℕ}
+use mathlib.Core.Path.{_≡_, refl}
+use mathlib.Core.Bool.{true}
+use mathlib.Core.List.{List, [], _∷_}
+use native.Mathlib.Omega.{arith}
+use lib.ListN.{length, take, replicate}
+use Rattle.refusal.specs.Refusal.{accepted}
+use Rattle.types.specs.declared.Db2Type.{Db2Type}
+use Rattle.types.specs.declared.Db2Type.the-variants as type
+use Rattle.types.specs.declared.ByteOrder.the-variants.{BigEndian}
+use Rattle.types.specs.declared.ReferenceLength.the-variants.{Absent}
+use Rattle.types.specs.declared.ColumnDescriptor.{ColumnDescriptor}
+use Rattle.types.specs.declared.Columns.{Columns}
+use Rattle.types.specs.Places.{filled, blankValue, columnList}
+use Rattle.packed.specs.Packed.{nibbles, sign, digits, trimmed, fraction, decimalText}
+use Rattle.rules.specs.Extent.{need}
+use Rattle.rules.specs.OwnEnd.{carriesOwnEnd, allCarryOwnEnd}
+use Rattle.rules.specs.Meaning.{itemIn}
+use Rattle.rules.specs.Walk.{skipOf, nullableNeed, columnNeed, cellPiece, consPiece, walk, walkBody}
+use Rattle.rules.specs.Value.{textsTogether}
+use Rattle.rules.specs.Row.{covered, refusedRow, valueOf, textOf, pieceItem, pieceValue, rowValues, rowTexts, anyDecFloat, walkDecision, bodyDecision, rowDecision, answerOf}
+use Rattle.rules.specs.Conversions.{rowAnswer, rowText}
+use Rattle.rules.specs.Demand3.{AcceptedRow, LargeEnough, Same}
+use Rattle.rules.proofs.Demand3.{demand3}
+
+abbrev nullable : Db2Type → ℕ → ColumnDescriptor
+nullable t n =
+    record {
+      «column_index» = 0;
+      «drda_type» = 0;
+      length = n;
+      precision = 0;
+      scale = 0;
+      nullable = true;
+      ccsid = 0;
+      «db2_type» = t;
+      «extdta_reference_length» = Absent;
+      «byte_order» = BigEndian;
+    }
+
+unfoldable pub columnsB : Columns
+columnsB = columnList (nullable type.SmallInt 2 ∷ nullable (type.Decimal 5 2) 3 ∷ [])
+
+-- case B's row; one byte more; another that begins with it
+abbrev rowB : List ℕ
+rowB = 0x00 ∷ 0x00 ∷ 0x2A ∷ 0x00 ∷ 0x12 ∷ 0x34 ∷ 0x5C ∷ 0xEE ∷ []
+
+abbrev longB : List ℕ
+longB = 0x00 ∷ 0x00 ∷ 0x2A ∷ 0x00 ∷ 0x12 ∷ 0x34 ∷ 0x5C ∷ 0xFF ∷ 0xFF ∷ 0x41 ∷ []
+
+-- a text buffer that is just large enough, and another
+abbrev bufferB : List ℕ
+bufferB = replicate 6 0x00
+
+abbrev otherB : List ℕ
+otherB = replicate 9 0x20
+
+own : allCarryOwnEnd (covered columnsB) ≡ true
+unfolding columnsB columnList filled allCarryOwnEnd carriesOwnEnd
+own = refl
+
+-- what case B answers, as far as the hypotheses ask: accepted, seven bytes used, six bytes of text
+answers : (rowAnswer columnsB rowB bufferB .outcome ≡ accepted) × (rowAnswer columnsB rowB bufferB .used ≡ 7) × (textsTogether (rowAnswer columnsB rowB bufferB .places) ≡ 6)
+unfolding columnsB columnList filled blankValue rowAnswer answerOf rowDecision bodyDecision walkDecision walkBody walk skipOf columnNeed nullableNeed need cellPiece consPiece anyDecFloat rowValues rowTexts pieceValue pieceItem itemIn valueOf textOf textsTogether decimalText sign digits nibbles trimmed fraction
+answers = (refl, refl, refl)
+
+accepted-row : AcceptedRow rowAnswer rowText columnsB rowB bufferB
+accepted-row = record { two = omega arith; accepts = answers .0; one = omega (arith, answers .1) }
+
+large : LargeEnough (rowAnswer columnsB rowB bufferB) otherB
+large = omega (arith, answers .2)
+
+-- the longer input, the first six bytes, and the seven bytes alone, each with the other buffer
+pub longer : Same rowAnswer rowText columnsB longB otherB rowB bufferB
+longer = demand3 .longer columnsB own rowB bufferB accepted-row longB otherB (omega arith) (rw (answers .1)) large
+
+pub shorter : (expected : ℕ) × (actual : ℕ) × (rowAnswer columnsB (take 6 rowB) otherB ≡ refusedRow 8 (expected ∷ actual ∷ [])) × (rowText columnsB (take 6 rowB) otherB ≡ otherB)
+shorter = demand3 .shorter columnsB own rowB bufferB accepted-row 6 otherB (omega arith) (omega (arith, answers .1))
+
+pub alone : Same rowAnswer rowText columnsB (take (rowAnswer columnsB rowB bufferB .used) rowB) otherB rowB bufferB
+alone = demand3 .alone columnsB rowB bufferB accepted-row otherB large

@@ -1,0 +1,39 @@
+-- What holds of every answer, and of every accepted one (document 01, "What the call hands back"), as statements about a row call, given as in
+-- specs/Demand3.antt. Assumes nothing.
+use Prim.Native.Nat.{ℕ, _+_, _≤_, _<_}
+use mathlib.Core.Path.{_≡_}
+use mathlib.Core.List.{List}
+use lib.ListN.{length, getD}
+use Rattle.refusal.specs.Refusal.{accepted}
+use Rattle.types.specs.declared.Columns.{Columns}
+use Rattle.types.specs.Places.{maxColumns, blankColumn, blankValue}
+use Rattle.rules.specs.Value.{Holder, nowhere, row, textBuffer, heldBy}
+use Rattle.rules.specs.Row.{RowTold, covered}
+use Rattle.rules.specs.Sorts.{Allows}
+
+-- a value's place lies in the row s, or in the text buffer d
+abbrev pub Fits : Holder → List ℕ → List ℕ → Type 0
+Fits nowhere s d = Unit {0}
+Fits (row p) s d = p .start + p .len ≤ length s
+Fits (textBuffer p) s d = p .start + p .len ≤ length d
+
+module _ (answer : Columns → List ℕ → List ℕ → RowTold) (after : Columns → List ℕ → List ℕ → List ℕ) where
+  -- an answer has as many value places as a list has places for columns
+  abbrev pub AllPlaces : Type 0
+  AllPlaces = (columns : Columns) (s d : List ℕ) → length (answer columns s d .places) ≡ maxColumns
+
+  -- the text buffer stays as long as it was
+  abbrev pub SameLength : Type 0
+  SameLength = (columns : Columns) (s d : List ℕ) → length (after columns s d) ≡ length d
+
+  -- in an accepted answer every place fits
+  abbrev pub PlacesFit : Type 0
+  PlacesFit =
+      (columns : Columns) (s d : List ℕ) → answer columns s d .outcome ≡ accepted
+      → (i : ℕ) → Fits (heldBy (getD (answer columns s d .places) i blankValue .value)) s (after columns s d)
+
+  -- "Every accepted value is Null or of a sort that its column's type allows", and Null only where the column is nullable or of type Null
+  abbrev pub SortsAllowed : Type 0
+  SortsAllowed =
+      (columns : Columns) (s d : List ℕ) → answer columns s d .outcome ≡ accepted
+      → (i : ℕ) → i < length (covered columns) → Allows (getD (covered columns) i blankColumn) (getD (answer columns s d .places) i blankValue .value)

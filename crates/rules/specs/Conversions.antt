@@ -1,0 +1,35 @@
+-- The conversions of the row call (document 01, "Text leaves", "Packed decimal", "Rows"), and the row call with them: what its promise names. Assumes nothing.
+use Prim.Native.Nat.{ℕ}
+use mathlib.Core.List.{List}
+use Rattle.types.specs.declared.Columns.{Columns}
+use Rattle.numbers.specs.Number.{smallIntIn, integerIn, bigIntIn, realIn, doubleIn}
+use Rattle.packed.specs.Packed.{decimalText}
+use Rattle.conversion.specs.Conversion.{characterText, graphicText, locatorText, rowIdText}
+use Rattle.unicode.specs.Unicode.{utf8Text}
+use Rattle.unicode.specs.Likely.{likelyText}
+use Rattle.rules.specs.Meaning.{Conversions}
+use Rattle.rules.specs.Row.{RowTold, answerWith, textWith}
+
+abbrev pub ported : Conversions
+ported =
+    record {
+      smallInt = smallIntIn;
+      integer = integerIn;
+      bigInt = bigIntIn;
+      real = realIn;
+      double = doubleIn;
+      packed = decimalText;
+      characters = characterText;
+      graphics = graphicText;
+      inlineText = utf8Text;
+      isLikely = likelyText;
+      locator = locatorText;
+      rowIdentifier = rowIdText;
+    }
+
+-- what the row call answers for columns, an input s and a text buffer d, and what the text buffer then holds
+unfoldable pub rowAnswer : Columns → List ℕ → List ℕ → RowTold
+rowAnswer columns s d = answerWith ported columns s d
+
+unfoldable pub rowText : Columns → List ℕ → List ℕ → List ℕ
+rowText columns s d = textWith ported columns s d

@@ -1,0 +1,147 @@
+-- The row call (document 01, "Rows" and "What the call hands back"): what it answers, and what it leaves in the text buffer. Assumes nothing.
+use Prim.Native.Nat.{ℕ, _+_}
+use mathlib.Core.Bool.{Bool, false, cond, _||_}
+use mathlib.Core.List.{List, [], _∷_, _++_}
+use lib.ListN.{length, take}
+use lib.Dec.{ltb, eqb}
+use Rattle.refusal.specs.Refusal.{Told, accepted, refused, told, inputLimit}
+use Rattle.buffer.specs.Buffer.{written}
+use Rattle.types.specs.declared.Db2Type.the-variants as type
+use Rattle.types.specs.declared.Db2Value.{Db2Value}
+use Rattle.types.specs.declared.Db2Value.the-variants as value
+use Rattle.types.specs.declared.Place.{Place}
+use Rattle.types.specs.declared.ColumnDescriptor.{ColumnDescriptor}
+use Rattle.types.specs.declared.Columns.{Columns}
+use Rattle.types.specs.declared.ValuePlace.{ValuePlace}
+use Rattle.types.specs.declared.RowAnswer.{RowAnswer}
+use Rattle.types.specs.Names.{namedIn}
+use Rattle.types.specs.Places.{maxColumns, filled, blankValue}
+use Rattle.numbers.specs.Number.{numberValue}
+use Rattle.rules.specs.Meaning.{ByteSort, binary, blob, TextSort, decimal, char, varChar, clob, rowId, date, time, timestamp, xml, Item, nothing, number, boolean, part, text, Conversions, itemIn, refersIn}
+use Rattle.rules.specs.Walk.{Piece, absent, present, Walk, done, short, skipOf, walkBody}
+
+-- ---- an answer by document 01's numbers
+
+pub record RowTold : Type 0 where
+  pub outcome : Told
+  pub places : List ValuePlace
+  pub used : ℕ
+
+abbrev pub toldRow : RowAnswer → RowTold
+toldRow a = record { outcome = told (a .outcome); places = a .places; used = a .used }
+
+-- ---- values with their places
+
+abbrev pub place : ℕ → ℕ → Place
+place at n = record { start = at; len = n }
+
+abbrev pub partValue : ByteSort → Place → Db2Value
+partValue binary p = value.Binary p
+partValue blob p = value.Blob p
+
+abbrev pub textValue : TextSort → Place → Db2Value
+textValue decimal p = value.Decimal p
+textValue char p = value.Char p
+textValue varChar p = value.VarChar p
+textValue clob p = value.Clob p
+textValue rowId p = value.RowId p
+textValue date p = value.Date p
+textValue time p = value.Time p
+textValue timestamp p = value.Timestamp p
+textValue xml p = value.Xml p
+
+-- "an empty one names place 0": where a part of n bytes begins that is found at a place
+unfoldable pub startOf : ℕ → ℕ → ℕ
+startOf n at = cond (eqb n 0) 0 at
+
+-- The value of an item whose bytes begin at place `at` of the input. `next` is the next unwritten byte of the text buffer.
+-- "Binary and Blob values name a place, counted from the input's first byte, and a length in the row; an empty one names place 0. An empty text names the next
+-- unwritten byte."
+unfoldable pub valueOf : Item → ℕ → ℕ → Db2Value
+valueOf nothing at next = value.Null
+valueOf (number x) at next = numberValue x
+valueOf (boolean b) at next = value.Boolean b
+valueOf (part k from n) at next = partValue k (place (startOf n (at + from)) n)
+valueOf (text k t) at next = textValue k (place next (length t))
+
+unfoldable pub textOf : Item → List ℕ
+textOf nothing = []
+textOf (number x) = []
+textOf (boolean b) = []
+textOf (part k from n) = []
+textOf (text k t) = t
+
+module _ (L : Conversions) where
+  unfoldable pub pieceItem : Piece → Item
+  pieceItem absent = nothing
+  pieceItem (present c at s) = itemIn L c s
+
+  unfoldable pub pieceValue : Piece → ℕ → ValuePlace
+  pieceValue absent next = blankValue
+  pieceValue (present c at s) next = record { value = valueOf (itemIn L c s) at next; external = refersIn L c s }
+
+  -- the values in column order, their texts one after the other from byte `next` of the text buffer on
+  unfoldable pub rowValues : List Piece → ℕ → List ValuePlace
+  rowValues [] next = []
+  rowValues (p ∷ ps) next = pieceValue p next ∷ rowValues ps (next + length (textOf (pieceItem p)))
+
+  -- "texts lie in column order"
+  unfoldable pub rowTexts : List Piece → List ℕ
+  rowTexts [] = []
+  rowTexts (p ∷ ps) = textOf (pieceItem p) ++ rowTexts ps
+
+-- ---- what is decided before anything is written
+
+pub data Decision : Type 0 where
+  -- a refusal, by its number and values
+  refusal : ℕ → List ℕ → Decision
+  -- the row's pieces, and how many bytes of the input they used
+  acceptance : List Piece → ℕ → Decision
+
+-- refusal 5: "A column of type DecFloat"
+unfoldable pub anyDecFloat : List ColumnDescriptor → Bool
+anyDecFloat [] = false
+anyDecFloat (c ∷ cs) = namedIn (type.DecFloat 0 ∷ []) (c .«db2_type») || anyDecFloat cs
+
+-- "among those the count covers"
+abbrev pub covered : Columns → List ColumnDescriptor
+covered columns = take (columns .count) (columns .columns)
+
+module _ (L : Conversions) where
+  -- refusal 8: "Too short, with the two numbers". Refusal 9: "Text buffer shorter than the texts together, with the length needed"
+  unfoldable pub walkDecision : Walk → List ℕ → Decision
+  walkDecision (short expected actual) d = refusal 8 (expected ∷ actual ∷ [])
+  walkDecision (done ps n) d = cond (ltb (length d) (length (rowTexts L ps))) (refusal 9 (length (rowTexts L ps) ∷ [])) (acceptance ps n)
+
+  -- the body that begins at a place of the input s, for the text buffer d
+  unfoldable pub bodyDecision : List ColumnDescriptor → ℕ → List ℕ → List ℕ → Decision
+  bodyDecision cs start s d = walkDecision (walkBody cs start s) d
+
+  -- refusals 3, 4 and 5, and then the body after the skip
+  unfoldable pub rowDecision : Columns → List ℕ → List ℕ → Decision
+  rowDecision columns s d =
+      cond (ltb maxColumns (columns .count)) (refusal 3 [])
+      (cond (ltb inputLimit (length s)) (refusal 4 [])
+      (cond (anyDecFloat (covered columns)) (refusal 5 [])
+      (bodyDecision (covered columns) (skipOf s) s d)))
+
+-- "A refusal returns blanks"
+abbrev pub refusedRow : ℕ → List ℕ → RowTold
+refusedRow n vs = record { outcome = refused n vs; places = filled blankValue []; used = 0 }
+
+module _ (L : Conversions) where
+  unfoldable pub answerOf : Decision → RowTold
+  answerOf (refusal n vs) = refusedRow n vs
+  answerOf (acceptance ps n) = record { outcome = accepted; places = filled blankValue (rowValues L ps 0); used = n }
+
+  -- a refusal "changes no buffer"; else "texts lie in column order from the text buffer's first byte; bytes after the last text keep what they had"
+  unfoldable pub textAfter : Decision → List ℕ → List ℕ
+  textAfter (refusal n vs) d = d
+  textAfter (acceptance ps n) d = written (rowTexts L ps) d
+
+  -- the row call at any conversions: its answer, and the text buffer after it
+  abbrev pub answerWith : Columns → List ℕ → List ℕ → RowTold
+  answerWith columns s d = answerOf (rowDecision L columns s d)
+
+  abbrev pub textWith : Columns → List ℕ → List ℕ → List ℕ
+  textWith columns s d = textAfter (rowDecision L columns s d) d

@@ -1,0 +1,69 @@
+-- The walk of a row (document 01, "Rows"; the Rust: decode_row, decode_row_body): each column is given the rest of the row from its first unread byte, and takes
+-- what it needs of it. The walk says which bytes each value has, and never what they mean. Assumes nothing.
+use Prim.Native.Nat.{ℕ, _+_, _-_}
+use mathlib.Core.Bool.{Bool, true, false, cond, _&&_}
+use mathlib.Core.List.{List, [], _∷_}
+use lib.ListN.{length, getD, take, drop}
+use lib.Dec.{leb, eqb}
+use Rattle.types.specs.declared.ColumnDescriptor.{ColumnDescriptor}
+use Rattle.rules.specs.declared.Extent.{Extent}
+use Rattle.rules.specs.Extent.{need, extentOf}
+
+-- "If there are at least two bytes and the first is FF, two are skipped; the second is not looked at."
+unfoldable pub skipOf : List ℕ → ℕ
+skipOf s = cond (leb 2 (length s) && eqb (getD s 0 0) 0xFF) 2 0
+
+-- "A nullable column first takes one indicator byte: FF is Null, any other means a value": the bytes that a column takes of the rest s
+unfoldable pub nullableNeed : Extent → List ℕ → ℕ
+nullableNeed e [] = 1
+nullableNeed e (b ∷ s) = cond (eqb b 0xFF) 1 (1 + need e s)
+
+abbrev pub cellNeed : Bool → Extent → List ℕ → ℕ
+cellNeed true e s = nullableNeed e s
+cellNeed false e s = need e s
+
+unfoldable pub columnNeed : ColumnDescriptor → List ℕ → ℕ
+columnNeed c s = cellNeed (c .nullable) (extentOf c) s
+
+-- what the walk finds for a column: Null, or the column, the place of its value's first byte, counted from the input's first, and exactly the value's bytes
+pub data Piece : Type 0 where
+  absent : Piece
+  present : ColumnDescriptor → ℕ → List ℕ → Piece
+
+-- the piece that the column's bytes make, the first of them at place `at`
+unfoldable pub cellPiece : Bool → ColumnDescriptor → ℕ → List ℕ → Piece
+cellPiece true c at [] = absent
+cellPiece true c at (b ∷ s) = cond (eqb b 0xFF) absent (present c (at + 1) s)
+cellPiece false c at s = present c at s
+
+pub data Walk : Type 0 where
+  -- every column has its bytes; the number is that of the input's bytes used
+  done : List Piece → ℕ → Walk
+  -- too short, with the Rust's `expected` and `actual`
+  short : ℕ → ℕ → Walk
+
+unfoldable pub consPiece : Piece → Walk → Walk
+consPiece p (done ps n) = done (p ∷ ps) n
+consPiece p (short e a) = short e a
+
+-- The Rust's two numbers: a missing indicator is counted from the body's first byte (`offset` bytes of it are read), a value from its own first byte
+unfoldable pub cellShort : Bool → Extent → ℕ → List ℕ → Walk
+cellShort true e offset [] = short (offset + 1) offset
+cellShort true e offset (b ∷ s) = short (need e s) (length s)
+cellShort false e offset s = short (need e s) (length s)
+
+-- "Each column is then given the rest of the row, from its first unread byte": s is that rest, `at` the place of its first byte, and `start` that of the body's
+unfoldable pub walk : ℕ → List ColumnDescriptor → ℕ → List ℕ → Walk
+walk start [] at s = done [] at
+walk start (c ∷ cs) at s =
+    cond (leb (columnNeed c s) (length s))
+    (consPiece (cellPiece (c .nullable) c at (take (columnNeed c s) s)) (walk start cs (at + columnNeed c s) (drop (columnNeed c s) s)))
+    (cellShort (c .nullable) (extentOf c) (at - start) s)
+
+-- the body that begins at a place of the input
+unfoldable pub walkBody : List ColumnDescriptor → ℕ → List ℕ → Walk
+walkBody cs start s = walk start cs start (drop start s)
+
+-- the row: the body after the skip
+abbrev pub walkRow : List ColumnDescriptor → List ℕ → Walk
+walkRow cs s = walkBody cs (skipOf s) s

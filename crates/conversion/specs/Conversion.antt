@@ -5,7 +5,7 @@ use mathlib.Core.List.{List, [], _∷_, _++_}
 use lib.Dec.{eqb}
 use lib.ListN.{length}
 use Rattle.unicode.specs.Unicode.{utf8Text, utf16Text}
-use Rattle.utf.specs.Ascii.{allAscii}
+use Rattle.unicode.specs.Ascii.{allAscii}
 use Rattle.codepage.specs.CodePage.{byteText, same, codePoint037}
 use Rattle.conversion.specs.Hex.{hexText}
 use Rattle.conversion.specs.declared.Conversion.{Conversion}

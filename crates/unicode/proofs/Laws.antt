@@ -1,13 +1,18 @@
 -- The laws of specs/Laws.antt. Assumes nothing.
-use Prim.Native.Nat.{ℕ, zero, suc, _+_}
+use Prim.Native.Nat.{ℕ, zero, suc, _+_, _<_}
+use mathlib.Core.Bool.{Bool, true, false, cond}
 use mathlib.Core.List.{List, [], _∷_, _++_, append-nil, map, flatten}
 use mathlib.Core.Logic.{inl}
 use mathlib.Core.Path.{_≡_, refl, sym, ap, subst, _∙_}
 use native.Mathlib.Omega.{arith}
+use borrow.Author.Tests.{ltb-true, le-leb}
+use lib.Dec.{ltb}
 use lib.ListN.{drop, take-append-drop}
-use Rattle.unicode.specs.Unicode.{Piece, scalar, malformed, utf8, pieceText, textOf, replaced, readFrom, firstOf, utf8Pieces, utf8Text, utf16, bigEndian, units, unitOf, utf16Text}
+use Rattle.unicode.specs.Ascii.{allAscii}
+use Rattle.unicode.specs.Unicode.{Piece, scalar, malformed, isScalarValue, within, utf8, pieceText, textOf, replaced, readFrom, firstOf, utf8Pieces, utf8Text, utf16, bigEndian, units, unitOf, utf16Text}
 use Rattle.unicode.specs.Laws.{WellFormed, Utf8Form, Utf16Form, Texts}
 use Rattle.unicode.proofs.Forms.{nil-well-formed, cons-well-formed, back, back-all, is-maximal, text-well-formed}
+use Rattle.unicode.proofs.ScalarBytes.{utf8-one}
 use Rattle.unicode.proofs.Utf8Bytes as u8
 use Rattle.unicode.proofs.Utf16Units as u16
 
@@ -63,6 +68,19 @@ whole : (us : List ℕ) → units (bigEndian us) ≡ us
 unfolding units
 whole us = ap units (sym (append-nil (bigEndian us))) ∙ u16.units-back us [] ∙ append-nil us
 
+-- ASCII bytes are the code units of the scalar values of their numbers
+ascii-well-formed : (s : List ℕ) → allAscii s ≡ true → WellFormed utf8 s
+unfolding allAscii isScalarValue within
+ascii-well-formed [] e = nil-well-formed utf8
+ascii-well-formed (b ∷ bs) e = go (ltb b 0x80) refl e (ascii-well-formed bs)
+  where
+    go : (x : Bool) → ltb b 0x80 ≡ x → cond x (allAscii bs) false ≡ true → (allAscii bs ≡ true → WellFormed utf8 bs) → WellFormed utf8 (b ∷ bs)
+    go true q h rec =
+        let small : b < 0x80 = ltb-true b 0x80 q in
+        subst (λ (l : List ℕ). WellFormed utf8 (l ++ bs)) (utf8-one b small)
+        (cons-well-formed utf8 b bs (rw (le-leb 0 b (omega arith), le-leb b 0xD7FF (omega arith))) (rec h))
+    go false q h rec = absurd (let z : _≡_ {A = ℕ} 0 1 = cc in omega arith)
+
 pub texts : Texts
 unfolding utf8Text utf16Text
 texts = record {
@@ -71,6 +89,7 @@ texts = record {
   utf16-scalars = λ vs h. rw (whole (flatten (map utf16 vs))) (back-all utf16 unitOf u16.leads vs h);
   nothing-replaced = none-replaced 0;
   unchanged = λ s w. rw (well-formed-pieces s w) (scalars-replaced (w .0), scalars-text (w .0) ∙ w .2);
+  ascii-text = λ s e. let w = ascii-well-formed s e in rw (well-formed-pieces s w) (scalars-text (w .0) ∙ w .2);
   utf8-text = λ s b. text-well-formed firstOf 0x100 (λ u us v h e. u8.first-read u us v e .0) 0 s b;
   utf16-text = λ s b. text-well-formed unitOf 0x10000 (λ u us v h e. u16.unit-read u us v h e .0) 0 (units s) (u16.units-below s b);
 }

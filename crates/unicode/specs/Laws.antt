@@ -7,6 +7,7 @@ use mathlib.Core.List.{List, [], _∷_, _++_, map, flatten, List·Memᴰ}
 use mathlib.Core.Logic.{_⊎_}
 use mathlib.Core.Path.{_≡_}
 use lib.ListN.{length, take, getD}
+use Rattle.unicode.specs.Ascii.{allAscii}
 use Rattle.unicode.specs.Unicode.{Piece, scalar, malformed, isScalarValue, First, readFrom, utf8, replaced, firstOf, utf8Pieces, utf8Text, utf16, bigEndian, unitOf, utf16Pieces, utf16Text}
 
 -- each element of vs is a scalar value (`List·Memᴰ v vs`: v is an element of vs)
@@ -60,6 +61,8 @@ pub record Texts : Type 0 where
   -- bytes are well-formed UTF-8 where nothing is replaced, and there only; then the text is the bytes
   pub nothing-replaced : (s : List ℕ) → replaced (utf8Pieces s) ≡ 0 → WellFormed utf8 s
   pub unchanged : (s : List ℕ) → WellFormed utf8 s → (replaced (utf8Pieces s) ≡ 0) × (utf8Text s ≡ s)
+  -- ASCII is its own UTF-8
+  pub ascii-text : (s : List ℕ) → allAscii s ≡ true → utf8Text s ≡ s
   -- a text is well-formed UTF-8, whatever the bytes that it is read from
   pub utf8-text : (s : List ℕ) → Bytes s → WellFormed utf8 (utf8Text s)
   pub utf16-text : (s : List ℕ) → Bytes s → WellFormed utf8 (utf16Text s)

@@ -1,4 +1,5 @@
 pub mod Unicode
+pub mod Ascii
 pub mod Likely
 pub mod Laws
 pub mod Examples

@@ -10,7 +10,8 @@ use lib.Bits.{bitOr, or-add-and, and-le-l, and-le-r}
 use lib.Dec.{T, ltb, leb}
 use lib.ListN.{length, take, drop, getD, length-drop}
 use lib.Seq.{take-suc, take-add, take-all}
-use Rattle.utf.specs.Ascii.{allAscii, AsciiRun}
+use Rattle.unicode.specs.Ascii.{allAscii}
+use Rattle.utf.specs.Ascii.{AsciiRun}
 
 -- ---- a whole list, read from its first byte on, with the largest byte so far
 

@@ -6,7 +6,8 @@ ghost use Prim.Native.Nat.{_≤_};
 ghost use lib.ListN.{length, take};
 ghost use Rattle.buffer.specs.Buffer.{written};
 ghost use Rattle.unicode.specs.Unicode.{utf8Text};
-ghost use Rattle.utf.specs.Ascii.{allAscii, AsciiRun};
+ghost use Rattle.unicode.specs.Ascii.{allAscii};
+ghost use Rattle.utf.specs.Ascii.{AsciiRun};
 
 // A byte of s is 80 or above. The loop takes the largest byte and has no way out but its end, so that it is compiled to vector code.
 pub fn has_high(s: &[u8]) -> bool

@@ -5,7 +5,7 @@ use mathlib.Core.Logic.{⊎-elim}
 use native.Mathlib.Omega.{arith}
 use denote.Ref.{now}
 use lib.ListN.{length, getD, drop, drop-of-length-le}
-use Rattle.utf.specs.Ascii.{allAscii}
+use Rattle.unicode.specs.Ascii.{allAscii}
 use Rattle.buffer.proofs.Writing.{next}
 use Rattle.utf.proofs.AsciiLaws.{clear, larger, no-larger, found}
 use Rattle.utf.proofs.ascii.has_high.Statement.{statement}

@@ -30,8 +30,8 @@ module _ (answer : Columns → List ℕ → List ℕ → RowTold) (after : Colum
   abbrev pub Same : Columns → List ℕ → List ℕ → List ℕ → List ℕ → Type 0
   Same columns s d t e = SameAnswer (answer columns s d) s (after columns s d) (answer columns t e) t (after columns t e)
 
-  -- An input s of at least two bytes is accepted, with at least one byte used. (Of fewer bytes the skip is not decided: case D of document 01, "At the edges",
-  -- against E. No byte used decides nothing of a first byte FF: case K)
+  -- An input s of at least two bytes is accepted, with at least one byte used. (Where there are fewer, or none is used, bytes that follow can bring the skip about:
+  -- "At the edges", D against E, and K against an input that begins FF)
   pub record AcceptedRow (columns : Columns) (s d : List ℕ) : Type 0 where
     pub two : 2 ≤ length s
     pub accepts : answer columns s d .outcome ≡ accepted

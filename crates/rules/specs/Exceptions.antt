@@ -2,7 +2,7 @@
 use Prim.Native.Nat.{ℕ}
 use mathlib.Core.Bool.{true, false}
 use mathlib.Core.Path.{_≡_}
-use mathlib.Core.List.{List, [], _∷_}
+use mathlib.Core.List.{List, [], _∷_, _++_}
 use lib.ListN.{replicate}
 use Rattle.types.specs.declared.Db2Type.{Db2Type}
 use Rattle.types.specs.declared.Db2Type.the-variants as type
@@ -39,12 +39,8 @@ pub record Exception : Type 0 where
   pub longer : List ℕ
 
 -- the columns, and a text buffer for the rows below
-abbrev pub both : List ColumnDescriptor → ColumnDescriptor → List ColumnDescriptor
-both [] c = c ∷ []
-both (b ∷ bs) c = b ∷ both bs c
-
 abbrev pub columnsIn : Exception → Columns
-columnsIn x = columnList (both (x .before) (x .last))
+columnsIn x = columnList (x .before ++ (x .last ∷ []))
 
 abbrev pub room : List ℕ
 room = replicate 64 0

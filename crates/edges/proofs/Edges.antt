@@ -5,9 +5,9 @@ use Rattle.edges.specs.Edges.{outcomeOf, edges}
 use Rattle.types.specs.Types.{baseTypes, listedOr, fromDrdaType}
 use Rattle.types.specs.Places.{filled, blankValue, columnList}
 use Rattle.column.specs.Column.{field16, referenceLength, sdaNumbers, sdaType, sdaColumn}
-use Rattle.column.specs.Group.{entryOf, noEntry, groupType, undeclaredColumn, declaredColumn, lidColumn}
+use Rattle.column.specs.Group.{entryOf, noEntry, firstEntry, groupType, undeclaredColumn, declaredColumn, lidColumn}
 use Rattle.triplets.specs.Triplets.{readingOf, reading}
-use Rattle.triplets.specs.Descriptors.{lastOf, pendingAfter, noEntries, keepFirst, environmentAfter, sdaColumns, outerSda, lidColumns, groupColumns, tripletColumns, columnsFrom, columnsOf}
+use Rattle.triplets.specs.Descriptors.{lastOf, pendingAfter, noEntries, declare, environmentAfter, sdaColumns, outerSda, lidColumns, groupColumns, tripletColumns, columnsFrom, columnsOf}
 use Rattle.qrydsc.specs.Qrydsc.{numbered, listed, description}
 use Rattle.numbers.specs.Number.{number}
 use Rattle.packed.specs.Packed.{nibbles, sign, digits, trimmed, fraction, decimalText}
@@ -26,5 +26,5 @@ use Rattle.rules.specs.Conversions.{rowAnswer, rowText}
 use Rattle.edges.specs.Edges.{EdgesHold}
 
 pub edges-hold : EdgesHold
-unfolding ascii outcomeOf edges baseTypes listedOr fromDrdaType filled blankValue columnList field16 referenceLength sdaNumbers sdaType sdaColumn entryOf noEntry groupType undeclaredColumn declaredColumn lidColumn readingOf reading lastOf pendingAfter noEntries keepFirst environmentAfter sdaColumns outerSda lidColumns groupColumns tripletColumns columnsFrom columnsOf numbered listed description number nibbles sign digits trimmed fraction decimalText decimalAnswer decimalBuffer textAnswer textBuffer textIn characterConversion characterText hexDigit hexText utf8 pieceText textOf table037 codePoint037 bytePieces byteText isReference saysHeader lobNeed need allZero lobEmpty headerItem lobReference lobItem varyingItem itemIn isEmptyLob refersIn skipOf nullableNeed columnNeed cellPiece consPiece cellShort walk walkBody bytesAt valueBytes startOf valueOf textOf-row pieceItem pieceValue rowValues rowTexts anyDecFloat walkDecision bodyDecision rowDecision answerOf textAfter rowAnswer rowText
+unfolding ascii outcomeOf edges baseTypes listedOr fromDrdaType filled blankValue columnList field16 referenceLength sdaNumbers sdaType sdaColumn entryOf noEntry firstEntry groupType undeclaredColumn declaredColumn lidColumn readingOf reading lastOf pendingAfter noEntries declare environmentAfter sdaColumns outerSda lidColumns groupColumns tripletColumns columnsFrom columnsOf numbered listed description number nibbles sign digits trimmed fraction decimalText decimalAnswer decimalBuffer textAnswer textBuffer textIn characterConversion characterText hexDigit hexText utf8 pieceText textOf table037 codePoint037 bytePieces byteText isReference saysHeader lobNeed need allZero lobEmpty headerItem lobReference lobItem varyingItem itemIn isEmptyLob refersIn skipOf nullableNeed columnNeed cellPiece consPiece cellShort walk walkBody bytesAt valueBytes startOf valueOf textOf-row pieceItem pieceValue rowValues rowTexts anyDecFloat walkDecision bodyDecision rowDecision answerOf textAfter rowAnswer rowText
 edges-hold = refl

@@ -1,0 +1,129 @@
+-- A column as two words of 64 bits, and a type as the low 24 bits of the first: the layout of the calls for C and Rust. Assumes nothing.
+use Prim.Native.Nat.{ℕ, _+_, _*_, _/_, _%_, _^_}
+use mathlib.Core.Bool.{cond, _&&_}
+use mathlib.Core.List.{List, [], _∷_}
+use mathlib.Core.Option.{Option, some, none}
+use lib.Dec.{ltb, eqb}
+use lib.ListN.{getD}
+use Rattle.types.specs.Names.{nameOf}
+use Rattle.types.specs.declared.Db2Type.{Db2Type}
+use Rattle.types.specs.declared.Db2Type.the-variants as type
+use Rattle.types.specs.declared.ByteOrder.{ByteOrder}
+use Rattle.types.specs.declared.ByteOrder.the-variants.{BigEndian, LittleEndian}
+use Rattle.types.specs.declared.ReferenceLength.{ReferenceLength}
+use Rattle.types.specs.declared.ReferenceLength.the-variants.{Absent, Width}
+use Rattle.types.specs.declared.ColumnDescriptor.{ColumnDescriptor}
+
+-- the numbers that a type holds, as one: Decimal's precision is in the low 8 bits and its scale in the high 8
+abbrev pub ownNumbers : Db2Type → ℕ
+ownNumbers type.SmallInt = 0
+ownNumbers type.Integer = 0
+ownNumbers type.BigInt = 0
+ownNumbers type.Real = 0
+ownNumbers type.Double = 0
+ownNumbers (type.Decimal p s) = p + s * 2 ^ 8
+ownNumbers (type.DecFloat d) = d
+ownNumbers (type.Char n) = n
+ownNumbers (type.VarChar n) = n
+ownNumbers type.LongVarChar = 0
+ownNumbers type.Clob = 0
+ownNumbers (type.Binary n) = n
+ownNumbers (type.VarBinary n) = n
+ownNumbers type.Blob = 0
+ownNumbers type.BlobLocator = 0
+ownNumbers type.Date = 0
+ownNumbers type.Time = 0
+ownNumbers type.Timestamp = 0
+ownNumbers (type.Graphic n) = n
+ownNumbers (type.VarGraphic n) = n
+ownNumbers type.DbClob = 0
+ownNumbers type.ClobLocator = 0
+ownNumbers type.DbClobLocator = 0
+ownNumbers (type.LobBytes n) = n
+ownNumbers (type.LobChar n) = n
+ownNumbers (type.RowId n) = n
+ownNumbers type.Boolean = 0
+ownNumbers type.Xml = 0
+ownNumbers type.Null = 0
+
+-- a type word: bits 0 to 7 the place of the type's name, bits 8 to 23 the numbers that it holds
+abbrev pub packType : Db2Type → ℕ
+packType t = nameOf t + ownNumbers t * 2 ^ 8
+
+-- whether the bytes of a number stand in the other order than the usual one, as a bit
+abbrev pub littleEndianBit : ByteOrder → ℕ
+littleEndianBit BigEndian = 0
+littleEndianBit LittleEndian = 1
+
+-- whether a reference length is there, as a bit, and the length, 0 where there is none
+abbrev pub referenceBit : ReferenceLength → ℕ
+referenceBit Absent = 0
+referenceBit (Width n) = 1
+
+abbrev pub referenceWidth : ReferenceLength → ℕ
+referenceWidth Absent = 0
+referenceWidth (Width n) = n
+
+abbrev pub firstWord : ColumnDescriptor → ℕ
+firstWord c =
+    packType (c .«db2_type»)
+    + c .«drda_type» * 2 ^ 24
+    + c .«column_index» * 2 ^ 32
+    + cond (c .nullable) 1 0 * 2 ^ 48
+    + littleEndianBit (c .«byte_order») * 2 ^ 49
+    + referenceBit (c .«extdta_reference_length») * 2 ^ 50
+
+abbrev pub secondWord : ColumnDescriptor → ℕ
+secondWord c =
+    c .length
+    + c .precision * 2 ^ 16
+    + c .scale * 2 ^ 24
+    + c .ccsid * 2 ^ 32
+    + referenceWidth (c .«extdta_reference_length») * 2 ^ 48
+
+-- the words of columns, two for each, in order
+unfoldable pub packColumns : List ColumnDescriptor → List ℕ
+packColumns [] = []
+packColumns (c ∷ cs) = firstWord c ∷ secondWord c ∷ packColumns cs
+
+-- the types with a number in each place for one, in the order of their names
+abbrev pub typesWith : ℕ → List Db2Type
+typesWith n =
+    type.SmallInt
+    ∷ type.Integer
+    ∷ type.BigInt
+    ∷ type.Real
+    ∷ type.Double
+    ∷ type.Decimal (n % 2 ^ 8) (n / 2 ^ 8)
+    ∷ type.DecFloat (n % 2 ^ 8)
+    ∷ type.Char n
+    ∷ type.VarChar n
+    ∷ type.LongVarChar
+    ∷ type.Clob
+    ∷ type.Binary n
+    ∷ type.VarBinary n
+    ∷ type.Blob
+    ∷ type.BlobLocator
+    ∷ type.Date
+    ∷ type.Time
+    ∷ type.Timestamp
+    ∷ type.Graphic n
+    ∷ type.VarGraphic n
+    ∷ type.DbClob
+    ∷ type.ClobLocator
+    ∷ type.DbClobLocator
+    ∷ type.LobBytes n
+    ∷ type.LobChar n
+    ∷ type.RowId n
+    ∷ type.Boolean
+    ∷ type.Xml
+    ∷ []
+
+unfoldable pub typeNamed : ℕ → ℕ → Db2Type
+typeNamed tag n = getD (typesWith n) tag type.Null
+
+-- the type whose word w is, where there is one: below 2^24, and the word of the type that its bits name
+abbrev pub readType : ℕ → Option Db2Type
+readType w =
+    let t = typeNamed (w % 2 ^ 8) (w / 2 ^ 8) in
+    cond (ltb w (2 ^ 24) && eqb (packType t) w) (some t) none

@@ -13,6 +13,8 @@ use Rattle.types.specs.declared.ByteOrder.the-variants.{BigEndian, LittleEndian
 use Rattle.types.specs.declared.ReferenceLength.{ReferenceLength}
 use Rattle.types.specs.declared.ReferenceLength.the-variants.{Absent, Width}
 use Rattle.types.specs.declared.ColumnDescriptor.{ColumnDescriptor}
+use Rattle.words.specs.declared.TypeRead.{TypeRead}
+use Rattle.words.specs.declared.TypeRead.the-variants.{Known, NoType}
 
 -- the numbers that a type holds, as one: Decimal's precision is in the low 8 bits and its scale in the high 8
 abbrev pub ownNumbers : Db2Type → ℕ
@@ -123,7 +125,11 @@ unfoldable pub typeNamed : ℕ → ℕ → Db2Type
 typeNamed tag n = getD (typesWith n) tag type.Null
 
 -- the type whose word w is, where there is one: below 2^24, and the word of the type that its bits name
-abbrev pub readType : ℕ → Option Db2Type
+unfoldable pub readType : ℕ → Option Db2Type
 readType w =
     let t = typeNamed (w % 2 ^ 8) (w / 2 ^ 8) in
     cond (ltb w (2 ^ 24) && eqb (packType t) w) (some t) none
+
+abbrev pub toldType : TypeRead → Option Db2Type
+toldType (Known t) = some t
+toldType NoType = none

@@ -8,12 +8,18 @@ ghost use mathlib.Core.Path.{_≡_};
 ghost use mathlib.Core.Bool.{cond};
 ghost use Prim.Native.Nat.{_<_, _≤_, _^_};
 ghost use Rattle.types.specs.Names.{nameOf};
-ghost use Rattle.words.specs.Words.{ownNumbers, packType, littleEndianBit, referenceBit, referenceWidth, firstWord, secondWord};
+ghost use Rattle.words.specs.Words.{ownNumbers, packType, littleEndianBit, referenceBit, referenceWidth, firstWord, secondWord, typeNamed, toldType, readType};
 
 // The two words of a column.
 pub struct ColumnWords {
     pub first: u64,
     pub second: u64,
+}
+
+// What a word says of a type.
+pub enum TypeRead {
+    Known(Db2Type),
+    NoType,
 }
 
 // The place of a type's name in the enum.
@@ -150,4 +156,59 @@ pub fn column_words(c: ColumnDescriptor) -> ColumnWords
         + (c.ccsid as u64) * 0x1_0000_0000
         + (reference_width(reference) as u64) * 0x1_0000_0000_0000;
     ColumnWords { first, second }
+}
+
+// The type of this name, with these numbers.
+fn type_named(tag: u8, n: u16) -> Db2Type
+    ensures { λ r. ⌜ r ≡ typeNamed tag n ⌝ }
+{
+    match tag {
+        0 => Db2Type::SmallInt,
+        1 => Db2Type::Integer,
+        2 => Db2Type::BigInt,
+        3 => Db2Type::Real,
+        4 => Db2Type::Double,
+        5 => Db2Type::Decimal {
+            precision: (n % 256) as u8,
+            scale: (n / 256) as u8,
+        },
+        6 => Db2Type::DecFloat((n % 256) as u8),
+        7 => Db2Type::Char(n),
+        8 => Db2Type::VarChar(n),
+        9 => Db2Type::LongVarChar,
+        10 => Db2Type::Clob,
+        11 => Db2Type::Binary(n),
+        12 => Db2Type::VarBinary(n),
+        13 => Db2Type::Blob,
+        14 => Db2Type::BlobLocator,
+        15 => Db2Type::Date,
+        16 => Db2Type::Time,
+        17 => Db2Type::Timestamp,
+        18 => Db2Type::Graphic(n),
+        19 => Db2Type::VarGraphic(n),
+        20 => Db2Type::DbClob,
+        21 => Db2Type::ClobLocator,
+        22 => Db2Type::DbClobLocator,
+        23 => Db2Type::LobBytes(n),
+        24 => Db2Type::LobChar(n),
+        25 => Db2Type::RowId(n),
+        26 => Db2Type::Boolean,
+        27 => Db2Type::Xml,
+        _ => Db2Type::Null,
+    }
+}
+
+// The type whose word this is.
+pub fn read_type_word(word: u64) -> TypeRead
+    ensures { λ r. ⌜ toldType r ≡ readType word ⌝ }
+{
+    if 0x100_0000 <= word {
+        return TypeRead::NoType;
+    }
+    let t = type_named((word % 0x100) as u8, (word / 0x100) as u16);
+    if type_word(t) == word {
+        TypeRead::Known(t)
+    } else {
+        TypeRead::NoType
+    }
 }

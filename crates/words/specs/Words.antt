@@ -52,20 +52,23 @@ ownNumbers type.Null = 0
 abbrev pub packType : Db2Type → ℕ
 packType t = nameOf t + ownNumbers t * 2 ^ 8
 
--- whether the bytes of a number stand in the other order than the usual one, as a bit
+-- 1 for little-endian
 abbrev pub littleEndianBit : ByteOrder → ℕ
 littleEndianBit BigEndian = 0
 littleEndianBit LittleEndian = 1
 
--- whether a reference length is there, as a bit, and the length, 0 where there is none
+-- 1 where a reference length is there
 abbrev pub referenceBit : ReferenceLength → ℕ
 referenceBit Absent = 0
 referenceBit (Width n) = 1
 
+-- the reference length, and 0 where there is none
 abbrev pub referenceWidth : ReferenceLength → ℕ
 referenceWidth Absent = 0
 referenceWidth (Width n) = n
 
+-- bits 0 to 23 the type word, 24 to 31 the DRDA type code, 32 to 47 the column's number, 48 nullable, 49 little-endian, 50 whether a reference
+-- length is there; bits 51 to 63 are 0
 abbrev pub firstWord : ColumnDescriptor → ℕ
 firstWord c =
     packType (c .«db2_type»)
@@ -75,6 +78,7 @@ firstWord c =
     + littleEndianBit (c .«byte_order») * 2 ^ 49
     + referenceBit (c .«extdta_reference_length») * 2 ^ 50
 
+-- bits 0 to 15 the length, 16 to 23 the precision, 24 to 31 the scale, 32 to 47 the CCSID, 48 to 63 the reference length
 abbrev pub secondWord : ColumnDescriptor → ℕ
 secondWord c =
     c .length
@@ -88,7 +92,7 @@ unfoldable pub packColumns : List ColumnDescriptor → List ℕ
 packColumns [] = []
 packColumns (c ∷ cs) = firstWord c ∷ secondWord c ∷ packColumns cs
 
--- the types with a number in each place for one, in the order of their names
+-- the types in the order of their names, with n for the numbers that they hold
 abbrev pub typesWith : ℕ → List Db2Type
 typesWith n =
     type.SmallInt
@@ -121,6 +125,7 @@ typesWith n =
     ∷ type.Xml
     ∷ []
 
+-- the type whose name has this place, with n for its numbers
 unfoldable pub typeNamed : ℕ → ℕ → Db2Type
 typeNamed tag n = getD (typesWith n) tag type.Null
 
@@ -130,6 +135,7 @@ readType w =
     let t = typeNamed (w % 2 ^ 8) (w / 2 ^ 8) in
     cond (ltb w (2 ^ 24) && eqb (packType t) w) (some t) none
 
+-- what the code reads, as a type or none
 abbrev pub toldType : TypeRead → Option Db2Type
 toldType (Known t) = some t
 toldType NoType = none

@@ -1,1 +1,3 @@
 mod Reported
+mod Described
+mod TypeLength

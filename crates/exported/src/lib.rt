@@ -1,8 +1,12 @@
 // Face, for C and Rust: the library's calls as functions on numbers and slices of numbers, in a static library. A slice is a pointer and a
 // length; slices do not overlap. Each function answers a refusal's number, or 0, and a length beside it: the bytes written, or with
-// refusal 9 the length needed. It has no rules of its own: each promise cites what the call within promises.
+// refusal 9 the length needed. A column is two words and a type is one: crates/words has the layout. It has no rules of its own: each promise
+// cites what the call within promises, or what the call that it stands for does.
 use buffer::TextAnswer;
 use refusal::Outcome;
+use types::FixedLength;
+use types::MAX_COLUMNS;
+use words::TypeRead;
 ghost use mathlib.Core.Path.{_≡_};
 ghost use mathlib.Core.Bool.{cond};
 ghost use Rattle.buffer.specs.Buffer.{toldText};
@@ -10,7 +14,18 @@ ghost use Rattle.unicode.specs.Likely.{likelyText};
 ghost use Rattle.conversion.specs.Conversion.{characterText, graphicText, locatorText, rowIdText};
 ghost use Rattle.text.specs.Text.{conversionAnswer, conversionBuffer};
 ghost use Rattle.decimal.specs.Decimal.{decimalAnswer, decimalBuffer};
+ghost use Rattle.qrydsc.specs.Qrydsc.{description};
+ghost use Rattle.words.specs.Words.{readType};
 ghost use Rattle.exported.specs.Exported.{numberTold, lengthTold};
+ghost use Rattle.exported.specs.Descriptions.{descriptionNumber, descriptionWords, typeNumber, lengthOf, flagOf, bytesOf};
+
+// How many bytes a description may have.
+const MAX_QRYDSC: usize = 65536;
+
+// What a function answers beside the refusals: the lent words are too few; a word is no type word.
+const TOO_FEW_WORDS: u32 = 101;
+
+const NO_TYPE_WORD: u32 = 102;
 
 // Hands out an answer: its number returned, its length in len.
 fn report(a: TextAnswer, len: &mut u64) -> u32
@@ -110,5 +125,51 @@ pub extern "C" fn vejupa_bytes_are_likely_text(bytes: &[u8]) -> u32
         1
     } else {
         0
+    }
+}
+
+// The columns that a description describes, in order: two words for each, and how many they are. It reads the description twice, to count and
+// to write, and makes no column list.
+#[no_mangle]
+pub extern "C" fn vejupa_parse_qrydsc(data: &[u8], words: &mut [u64], count: &mut u64) -> u32
+    ensures number { λ r. ⌜ r ≡ descriptionNumber (description (now («data» .entry))) (now (words .entry)) ⌝ }
+    ensures count { λ _. ⌜ now (count .exit) ≡ description (now («data» .entry)) .columns .count ⌝ }
+    ensures words { λ _. ⌜ now (words .exit) ≡ descriptionWords (description (now («data» .entry))) (now (words .entry)) ⌝ }
+{
+    *count = 0;
+    if MAX_QRYDSC < data.len() {
+        return 1;
+    }
+    let n = description_words::count_columns(data);
+    if MAX_COLUMNS < n {
+        return 2;
+    }
+    *count = n as u64;
+    if words.len() < 2 * n {
+        return TOO_FEW_WORDS;
+    }
+    description_words::write_columns(data, words);
+    0
+}
+
+// The byte count of a type's values, where the type alone tells it: fixed is 1, and 0 where it varies.
+#[no_mangle]
+pub extern "C" fn vejupa_fixed_length(type_word: u64, fixed: &mut u64, length: &mut u64) -> u32
+    ensures number { λ r. ⌜ r ≡ typeNumber (readType «type_word») ⌝ }
+    ensures fixed { λ _. ⌜ now (fixed .exit) ≡ flagOf (lengthOf (readType «type_word»)) ⌝ }
+    ensures length { λ _. ⌜ now (length .exit) ≡ bytesOf (lengthOf (readType «type_word»)) ⌝ }
+{
+    *fixed = 0;
+    *length = 0;
+    let TypeRead::Known(t) = words::read_type_word(type_word) else {
+        return NO_TYPE_WORD;
+    };
+    match t.fixed_length() {
+        FixedLength::Bytes(n) => {
+            *fixed = 1;
+            *length = n as u64;
+            0
+        }
+        FixedLength::Varies => 0,
     }
 }

@@ -1,0 +1,76 @@
+-- What holds while the words of a description's columns are written: the words of the columns to come are still to be written. Assumes nothing.
+use mathlib.Core.Path.{_≡_, refl, sym, ap, subst, _∙_}
+use mathlib.Core.List.{List, [], _∷_}
+use Prim.Native.Nat.{ℕ, suc, _+_, _*_, _≤_, _<_}
+use native.Mathlib.Omega.{arith}
+use lib.ListN.{length, getD, set}
+use Rattle.buffer.specs.Buffer.{written}
+use Rattle.buffer.proofs.Writing.{Writing, start, stored, fits, end}
+use Rattle.types.specs.declared.ColumnDescriptor.{ColumnDescriptor}
+use Rattle.types.specs.Places.{maxColumns}
+use Rattle.column.specs.declared.EnvEntry.{EnvEntry}
+use Rattle.column.specs.Group.{firstEntry, noEntry}
+use Rattle.triplets.specs.declared.Pending.the-variants as pending
+use Rattle.triplets.specs.declared.Cursor.{Cursor}
+use Rattle.triplets.specs.declared.Cursor.the-variants as cursor
+use Rattle.triplets.specs.declared.Step.the-variants as step
+use Rattle.triplets.specs.Descriptors.{noEntries, declare, columnsOf}
+use Rattle.triplets.specs.Steps.{toCome, Within, Goes, Leads}
+use Rattle.qrydsc.specs.Qrydsc.{number, numbered}
+use Rattle.words.specs.Words.{firstWord, secondWord, packColumns}
+use Rattle.description_words.proofs.Counting.{all-to-come}
+
+-- the words of columns that are numbered from k on
+abbrev pub wordsFrom : ℕ → List ColumnDescriptor → List ℕ
+wordsFrom k cs = packColumns (numbered k cs)
+
+pub length-words : (k : ℕ) (cs : List ColumnDescriptor) → length (wordsFrom k cs) ≡ 2 * length cs
+unfolding packColumns numbered
+length-words k [] = refl
+length-words k (c ∷ cs) = ap (λ (n : ℕ). suc (suc n)) (length-words (k + 1) cs) ∙ omega arith
+
+-- k columns are written into the words d, which are now `out`, with an environment, at a cursor
+pub record Placing (s d out : List ℕ) (k : ℕ) (env : List EnvEntry) (c : Cursor) : Type 0 where
+  pub within : Within s c
+  pub total : k + length (toCome s env c) ≤ maxColumns
+  pub writing : Writing (wordsFrom 0 (columnsOf s)) d (wordsFrom k (toCome s env c)) out (2 * k)
+
+pub placing-start : (s d : List ℕ) → length (columnsOf s) ≤ maxColumns → 2 * length (columnsOf s) ≤ length d → Placing s d d 0 noEntries (cursor.Outer 0 pending.Nothing)
+placing-start s d few room =
+    record {
+      within = omega arith;
+      total = omega (arith, ap length (all-to-come s));
+      writing = rw (all-to-come s) (start (wordsFrom 0 (columnsOf s)) d (omega (arith, length-words 0 (columnsOf s))));
+    }
+
+module _ {s d out : List ℕ} {k : ℕ} {env : List EnvEntry} {c : Cursor} (i : Placing s d out k env c) where
+  pub placing-end : Leads s c step.End → out ≡ written (wordsFrom 0 (columnsOf s)) d
+  unfolding packColumns numbered
+  placing-end h = end (i .writing) (rw (h env))
+
+  -- no column, and another environment
+  pub placing-on : {n : Cursor} (after : List EnvEntry → List EnvEntry) → Goes s c n (λ e. toCome s (after e) n) → Placing s d out k (after env) n
+  placing-on after g =
+      record { within = g .within; total = (rw (g .same env) at (i .total)); writing = (rw (g .same env) at (i .writing)) }
+
+  -- a column more
+  module _ {n : Cursor} (x : List EnvEntry → ColumnDescriptor) (g : Goes s c n (λ e. x e ∷ toCome s e n)) where
+    first : ℕ
+    first = firstWord (number k (x env))
+
+    second : ℕ
+    second = secondWord (number k (x env))
+
+    split : wordsFrom k (toCome s env c) ≡ first ∷ second ∷ wordsFrom (k + 1) (toCome s env n)
+    unfolding packColumns numbered first second
+    split = rw (g .same env)
+
+    pub placing-room : (k < maxColumns) × (2 * k + 1 < length out)
+    placing-room = (omega (arith, i .total, ap length (g .same env)), omega (arith, fits (i .writing), ap length split))
+
+    pub placing-column : Placing s d (set (set out (2 * k) (firstWord (number k (x env)))) (2 * k + 1) (secondWord (number k (x env)))) (k + 1) env n
+    unfolding first second
+    placing-column =
+        let w = stored (stored (i .writing) first (second ∷ wordsFrom (k + 1) (toCome s env n)) split) second (wordsFrom (k + 1) (toCome s env n)) refl in
+        let e : 2 * k + 1 + 1 ≡ 2 * (k + 1) = omega arith in
+        record { within = g .within; total = omega (arith, i .total, ap length (g .same env)); writing = (rw e at w) }

@@ -1,0 +1,141 @@
+-- A column as two words of 64 bits, and a type as the low 24 bits of the first: the layout of the calls for C and Rust. Assumes nothing.
+use Prim.Native.Nat.{ℕ, _+_, _*_, _/_, _%_, _^_}
+use mathlib.Core.Bool.{cond, _&&_}
+use mathlib.Core.List.{List, [], _∷_}
+use mathlib.Core.Option.{Option, some, none}
+use lib.Dec.{ltb, eqb}
+use lib.ListN.{getD}
+use Rattle.types.specs.Names.{nameOf}
+use Rattle.types.specs.declared.Db2Type.{Db2Type}
+use Rattle.types.specs.declared.Db2Type.the-variants as type
+use Rattle.types.specs.declared.ByteOrder.{ByteOrder}
+use Rattle.types.specs.declared.ByteOrder.the-variants.{BigEndian, LittleEndian}
+use Rattle.types.specs.declared.ReferenceLength.{ReferenceLength}
+use Rattle.types.specs.declared.ReferenceLength.the-variants.{Absent, Width}
+use Rattle.types.specs.declared.ColumnDescriptor.{ColumnDescriptor}
+use Rattle.words.specs.declared.TypeRead.{TypeRead}
+use Rattle.words.specs.declared.TypeRead.the-variants.{Known, NoType}
+
+-- the numbers that a type holds, as one: Decimal's precision is in the low 8 bits and its scale in the high 8
+abbrev pub ownNumbers : Db2Type → ℕ
+ownNumbers type.SmallInt = 0
+ownNumbers type.Integer = 0
+ownNumbers type.BigInt = 0
+ownNumbers type.Real = 0
+ownNumbers type.Double = 0
+ownNumbers (type.Decimal p s) = p + s * 2 ^ 8
+ownNumbers (type.DecFloat d) = d
+ownNumbers (type.Char n) = n
+ownNumbers (type.VarChar n) = n
+ownNumbers type.LongVarChar = 0
+ownNumbers type.Clob = 0
+ownNumbers (type.Binary n) = n
+ownNumbers (type.VarBinary n) = n
+ownNumbers type.Blob = 0
+ownNumbers type.BlobLocator = 0
+ownNumbers type.Date = 0
+ownNumbers type.Time = 0
+ownNumbers type.Timestamp = 0
+ownNumbers (type.Graphic n) = n
+ownNumbers (type.VarGraphic n) = n
+ownNumbers type.DbClob = 0
+ownNumbers type.ClobLocator = 0
+ownNumbers type.DbClobLocator = 0
+ownNumbers (type.LobBytes n) = n
+ownNumbers (type.LobChar n) = n
+ownNumbers (type.RowId n) = n
+ownNumbers type.Boolean = 0
+ownNumbers type.Xml = 0
+ownNumbers type.Null = 0
+
+-- a type word: bits 0 to 7 the place of the type's name, bits 8 to 23 the numbers that it holds
+abbrev pub packType : Db2Type → ℕ
+packType t = nameOf t + ownNumbers t * 2 ^ 8
+
+-- 1 for little-endian
+abbrev pub littleEndianBit : ByteOrder → ℕ
+littleEndianBit BigEndian = 0
+littleEndianBit LittleEndian = 1
+
+-- 1 where a reference length is there
+abbrev pub referenceBit : ReferenceLength → ℕ
+referenceBit Absent = 0
+referenceBit (Width n) = 1
+
+-- the reference length, and 0 where there is none
+abbrev pub referenceWidth : ReferenceLength → ℕ
+referenceWidth Absent = 0
+referenceWidth (Width n) = n
+
+-- bits 0 to 23 the type word, 24 to 31 the DRDA type code, 32 to 47 the column's number, 48 nullable, 49 little-endian, 50 whether a reference
+-- length is there; bits 51 to 63 are 0
+abbrev pub firstWord : ColumnDescriptor → ℕ
+firstWord c =
+    packType (c .«db2_type»)
+    + c .«drda_type» * 2 ^ 24
+    + c .«column_index» * 2 ^ 32
+    + cond (c .nullable) 1 0 * 2 ^ 48
+    + littleEndianBit (c .«byte_order») * 2 ^ 49
+    + referenceBit (c .«extdta_reference_length») * 2 ^ 50
+
+-- bits 0 to 15 the length, 16 to 23 the precision, 24 to 31 the scale, 32 to 47 the CCSID, 48 to 63 the reference length
+abbrev pub secondWord : ColumnDescriptor → ℕ
+secondWord c =
+    c .length
+    + c .precision * 2 ^ 16
+    + c .scale * 2 ^ 24
+    + c .ccsid * 2 ^ 32
+    + referenceWidth (c .«extdta_reference_length») * 2 ^ 48
+
+-- the words of columns, two for each, in order
+unfoldable pub packColumns : List ColumnDescriptor → List ℕ
+packColumns [] = []
+packColumns (c ∷ cs) = firstWord c ∷ secondWord c ∷ packColumns cs
+
+-- the types in the order of their names, with n for the numbers that they hold
+abbrev pub typesWith : ℕ → List Db2Type
+typesWith n =
+    type.SmallInt
+    ∷ type.Integer
+    ∷ type.BigInt
+    ∷ type.Real
+    ∷ type.Double
+    ∷ type.Decimal (n % 2 ^ 8) (n / 2 ^ 8)
+    ∷ type.DecFloat (n % 2 ^ 8)
+    ∷ type.Char n
+    ∷ type.VarChar n
+    ∷ type.LongVarChar
+    ∷ type.Clob
+    ∷ type.Binary n
+    ∷ type.VarBinary n
+    ∷ type.Blob
+    ∷ type.BlobLocator
+    ∷ type.Date
+    ∷ type.Time
+    ∷ type.Timestamp
+    ∷ type.Graphic n
+    ∷ type.VarGraphic n
+    ∷ type.DbClob
+    ∷ type.ClobLocator
+    ∷ type.DbClobLocator
+    ∷ type.LobBytes n
+    ∷ type.LobChar n
+    ∷ type.RowId n
+    ∷ type.Boolean
+    ∷ type.Xml
+    ∷ []
+
+-- the type whose name has this place, with n for its numbers
+unfoldable pub typeNamed : ℕ → ℕ → Db2Type
+typeNamed tag n = getD (typesWith n) tag type.Null
+
+-- the type whose word w is, where there is one: below 2^24, and the word of the type that its bits name
+unfoldable pub readType : ℕ → Option Db2Type
+readType w =
+    let t = typeNamed (w % 2 ^ 8) (w / 2 ^ 8) in
+    cond (ltb w (2 ^ 24) && eqb (packType t) w) (some t) none
+
+-- what the code reads, as a type or none
+abbrev pub toldType : TypeRead → Option Db2Type
+toldType (Known t) = some t
+toldType NoType = none

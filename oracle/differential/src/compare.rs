@@ -4,7 +4,7 @@ use crate::inputs::{self, Style, EDGE_BYTES, LIMIT_LENGTHS, LONG_LENGTHS, SEQUEN
 use crate::leaf::{Answer, Leaf, KINDS};
 use crate::port_side::{Library, PortSide};
 use crate::random::Random;
-use crate::request::Request;
+use crate::request::Call;
 use crate::rust_side;
 use std::fmt;
 use std::ops::ControlFlow::{self, Break, Continue};
@@ -26,7 +26,7 @@ pub enum End {
 
 /// Two answers to one request.
 pub struct Difference {
-    pub request: Request,
+    pub request: Call,
     pub rust: Answer<'static>,
     pub port: Answer<'static>,
     /// The length of the input with which the difference was first seen.
@@ -220,7 +220,7 @@ impl<L: Library> Run<L> {
         Difference {
             rust: rust_side::answer(leaf, &smallest),
             port: owned(self.port.answer(leaf, &smallest)),
-            request: Request {
+            request: Call {
                 leaf,
                 data: smallest,
             },

@@ -6,7 +6,9 @@
 //! - `random`, `inputs`: bytes to ask about
 //! - `compare`: the differential run, and the smallest input that differs
 //! - `faults`: wrong libraries, to see that the run notices them
+//! - `descriptions`: all of this for descriptions and types
 pub mod compare;
+pub mod descriptions;
 pub mod faults;
 pub mod inputs;
 pub mod leaf;

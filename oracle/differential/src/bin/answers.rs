@@ -49,7 +49,7 @@ impl Port {
         match request {
             Request::Leaf(Call { leaf, data }) => format!("A {}", self.texts.answer(*leaf, data)),
             Request::Description { data, .. } => self.descriptions.describe(data).to_string(),
-            Request::FixedLength(asked) => self.descriptions.fixed_length(*asked).to_string(),
+            Request::FixedLength(asked) => self.descriptions.fixed_length(asked.word()).to_string(),
         }
     }
 }

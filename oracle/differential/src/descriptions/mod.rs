@@ -2,6 +2,12 @@
 //!
 //! - here: the answers, in one form
 //! - `rust_side`, `port_side`: the two that answer
+//! - `inputs`: descriptions to ask about
+//! - `compare`: the differential run
+//! - `faults`: wrong libraries, to see that the run notices them
+pub mod compare;
+pub mod faults;
+pub mod inputs;
 pub mod port_side;
 pub mod rust_side;
 

@@ -1,7 +1,7 @@
 //! The answers of the port, and the checks of what a line does not show: that every column's number is its place, where 101
 //! comes and with which count, and that every word that is no column's keeps what it had.
 use super::{Description, FixedLength, COLUMN_LIMIT};
-use port::column::{Column, Type};
+use port::column::Column;
 use port::{Described, TOO_FEW_WORDS};
 
 /// What is asked. The archive is one; `faults` has others, which are wrong.
@@ -142,13 +142,9 @@ impl<L: Library> PortSide<L> {
         Description::Refusal(first.number)
     }
 
-    pub fn fixed_length(&self, asked: Type) -> FixedLength {
-        self.fixed_length_of_word(asked.word())
-    }
-
-    /// Of any word, also one that is no type word.
-    pub fn fixed_length_of_word(&self, word: u64) -> FixedLength {
-        let answer = self.library.fixed_length(word);
+    /// Of any word, also one that is no type's.
+    pub fn fixed_length(&self, type_word: u64) -> FixedLength {
+        let answer = self.library.fixed_length(type_word);
         match (answer.number, answer.fixed, answer.length) {
             (0, 1, length) => FixedLength::Bytes(length),
             (0, 0, 0) => FixedLength::Varies,

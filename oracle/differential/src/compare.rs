@@ -4,8 +4,9 @@ use crate::inputs::{self, Style, EDGE_BYTES, LIMIT_LENGTHS, LONG_LENGTHS, SEQUEN
 use crate::leaf::{Answer, Leaf, KINDS};
 use crate::port_side::{Library, PortSide};
 use crate::random::Random;
-use crate::request::Request;
+use crate::request::Call;
 use crate::rust_side;
+use crate::shrink::{cut_line, Shrinking};
 use std::fmt;
 use std::ops::ControlFlow::{self, Break, Continue};
 use std::time::Instant;
@@ -17,6 +18,19 @@ pub enum Until {
     Time(Instant),
 }
 
+impl Until {
+    /// Whether a run ends after so many cases, before one with so many bytes.
+    pub fn reached(self, cases: u64, bytes: usize) -> bool {
+        match self {
+            Until::Cases(most) => cases >= most,
+            // The clock is read seldom where cases are short.
+            Until::Time(end) => {
+                (bytes > 1000 || cases.is_multiple_of(1024)) && Instant::now() >= end
+            }
+        }
+    }
+}
+
 /// Why a run ended.
 pub enum End {
     /// All that was asked for ran, and nothing differed.
@@ -26,7 +40,7 @@ pub enum End {
 
 /// Two answers to one request.
 pub struct Difference {
-    pub request: Request,
+    pub request: Call,
     pub rust: Answer<'static>,
     pub port: Answer<'static>,
     /// The length of the input with which the difference was first seen.
@@ -50,6 +64,9 @@ const STAGES: [Stage; 5] = [
     Stage::Lengths,
     Stage::Any,
 ];
+
+/// How many bytes a pass may ask about that makes an input smaller.
+const BUDGET: usize = 20_000_000;
 
 type Flow = ControlFlow<End>;
 
@@ -94,14 +111,7 @@ impl<L: Library> Run<L> {
 
     /// One case: both sides are asked, and the port with every buffer that port_side has.
     fn case(&mut self, leaf: Leaf, data: &[u8]) -> Flow {
-        let enough = match self.until {
-            Until::Cases(most) => self.cases() >= most,
-            // The clock is read seldom where cases are short.
-            Until::Time(end) => {
-                (data.len() > 1000 || self.cases().is_multiple_of(1024)) && Instant::now() >= end
-            }
-        };
-        if enough {
+        if self.until.reached(self.cases(), data.len()) {
             return Break(End::Enough);
         }
         self.counts[leaf.kind()] += 1;
@@ -209,18 +219,14 @@ impl<L: Library> Run<L> {
     /// The smallest input found that still differs: bytes are cut out, then lowered.
     fn smallest(&mut self, leaf: Leaf, data: &[u8]) -> Difference {
         let leaf = self.plain(leaf, data);
-        let mut shrinking = Shrinking {
-            differs: |data: &[u8]| self.differs(leaf, data),
-            data: data.to_vec(),
-            budget: 0,
-        };
+        let mut shrinking = Shrinking::new(data, BUDGET, |data: &[u8]| self.differs(leaf, data));
         shrinking.cut();
         shrinking.lower();
         let smallest = shrinking.data;
         Difference {
             rust: rust_side::answer(leaf, &smallest),
             port: owned(self.port.answer(leaf, &smallest)),
-            request: Request {
+            request: Call {
                 leaf,
                 data: smallest,
             },
@@ -264,99 +270,13 @@ fn owned(answer: Answer<'_>) -> Answer<'static> {
     }
 }
 
-/// An input that differs, while it is made smaller.
-struct Shrinking<F> {
-    differs: F,
-    data: Vec<u8>,
-    /// How many bytes may still be asked about: it bounds the time that a long input takes.
-    budget: usize,
-}
-
-impl<F: FnMut(&[u8]) -> bool> Shrinking<F> {
-    const BUDGET: usize = 20_000_000;
-
-    /// Takes the input that `smaller` makes, if it differs too.
-    fn try_with(&mut self, smaller: impl FnOnce(&[u8]) -> Vec<u8>) -> bool {
-        let cost = self.data.len() + 100;
-        if self.budget < cost {
-            return false;
-        }
-        self.budget -= cost;
-        let smaller = smaller(&self.data);
-        let taken = (self.differs)(&smaller);
-        if taken {
-            self.data = smaller;
-        }
-        taken
-    }
-
-    /// Cuts out parts, large ones first, until no part of any size can go.
-    fn cut(&mut self) {
-        self.budget = Self::BUDGET;
-        let mut size = self.data.len();
-        while size > 0 {
-            let mut start = 0;
-            let mut went = false;
-            while start < self.data.len() {
-                let end = self.data.len().min(start + size);
-                if self.try_with(|data| [&data[..start], &data[end..]].concat()) {
-                    went = true;
-                } else {
-                    start = end;
-                }
-            }
-            // A part that stayed may go now that others went.
-            size = if went && size < 8 { 2 * size } else { size / 2 };
-            size = size.min(self.data.len());
-        }
-    }
-
-    /// Sets parts to 0, large ones first; then lowers each byte as far as it goes.
-    fn lower(&mut self) {
-        self.budget = Self::BUDGET;
-        let mut size = self.data.len();
-        while size > 0 {
-            for start in (0..self.data.len()).step_by(size) {
-                let end = self.data.len().min(start + size);
-                if self.data[start..end].iter().any(|byte| *byte != 0) {
-                    self.try_with(|data| {
-                        let mut smaller = data.to_vec();
-                        smaller[start..end].fill(0);
-                        smaller
-                    });
-                }
-            }
-            size /= 2;
-        }
-        for place in 0..self.data.len() {
-            let lower = 1..self.data[place];
-            lower.into_iter().any(|byte| {
-                self.try_with(|data| {
-                    let mut smaller = data.to_vec();
-                    smaller[place] = byte;
-                    smaller
-                })
-            });
-        }
-    }
-}
-
-/// The beginning of a line that no one could read whole.
-fn cut_line(line: String) -> String {
-    const MOST: usize = 4000;
-    match line.get(..MOST) {
-        Some(beginning) => format!("{beginning}.. ({} characters)", line.len()),
-        None => line,
-    }
-}
-
 impl fmt::Display for Difference {
     fn fmt(&self, f: &mut fmt::Formatter<'_>) -> fmt::Result {
         let Difference { request, .. } = self;
         let (now, first) = (request.data.len(), self.first_length);
         writeln!(f, "smallest input found has {now} bytes, of {first}:")?;
-        let rust = cut_line(format!("{request} A {}", self.rust));
-        let port = cut_line(format!("{request} A {}", self.port));
+        let rust = cut_line(&format!("{request} A {}", self.rust));
+        let port = cut_line(&format!("{request} A {}", self.port));
         write!(f, "rust: {rust}\nport: {port}")
     }
 }

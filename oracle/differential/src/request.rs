@@ -1,42 +1,81 @@
-//! Requests and answers, line by line. A line is a request, or a request with an answer behind ` A `, which is dropped.
+//! Requests and answers, line by line. A line is a request, or a request with an answer behind ` A `, which is dropped, and with
+//! it the columns of a `Q` line.
 use crate::leaf::{Answer, Leaf, PRECISION};
+use port::column::{Name, Numbers, Type, NAMES};
 use std::fmt;
 
-/// A call with its bytes.
+/// What a line asks.
 #[derive(Debug, Clone, PartialEq, Eq)]
-pub struct Request {
+pub enum Request {
+    Leaf(Call),
+    Description { data: Vec<u8>, row: Vec<u8> },
+    FixedLength(Type),
+}
+
+/// The conversion of a single text, with its bytes.
+#[derive(Debug, Clone, PartialEq, Eq)]
+pub struct Call {
     pub leaf: Leaf,
     pub data: Vec<u8>,
 }
 
 /// Reads a line. The error says why the line is no request.
 pub fn parse(line: &str) -> Result<Request, String> {
-    let asked = line.split(" A ").next().unwrap_or(line);
+    let asked = asked(line);
     let fields: Vec<&str> = asked.split(' ').collect();
     match fields[..] {
-        ["T", ccsid, data] => Ok(Request {
-            leaf: Leaf::Character {
-                ccsid: number(ccsid)?,
-            },
+        ["T", ccsid, data] => {
+            let ccsid = number(ccsid)?;
+            call(Leaf::Character { ccsid }, data)
+        }
+        ["G", ccsid, data] => {
+            let ccsid = number(ccsid)?;
+            call(Leaf::Graphic { ccsid }, data)
+        }
+        ["L", data] => call(Leaf::Likely, data),
+        ["P", scale, data] => call(Leaf::decimal(number(scale)?), data),
+        ["Q", data, "R", row] => Ok(Request::Description {
             data: bytes(data)?,
+            row: bytes(row)?,
         }),
-        ["G", ccsid, data] => Ok(Request {
-            leaf: Leaf::Graphic {
-                ccsid: number(ccsid)?,
-            },
-            data: bytes(data)?,
-        }),
-        ["L", data] => Ok(Request {
-            leaf: Leaf::Likely,
-            data: bytes(data)?,
-        }),
-        ["P", scale, data] => Ok(Request {
-            leaf: Leaf::decimal(number(scale)?),
-            data: bytes(data)?,
-        }),
-        ["T" | "G" | "L" | "P", ..] => Err(format!("wrong number of fields: {}", cut(asked))),
-        ["Q" | "H" | "F", ..] => Err(format!("{} lines are not answered yet", fields[0])),
+        ["F", asked] => Ok(Request::FixedLength(type_of(asked)?)),
+        ["T" | "G" | "L" | "P" | "Q" | "F", ..] => Err(format!("wrong fields: {}", cut(asked))),
+        ["H", ..] => Err("H lines are not answered yet".to_string()),
         _ => Err(format!("no kind of request: {}", cut(asked))),
+    }
+}
+
+/// The part of a line that is the request.
+fn asked(line: &str) -> &str {
+    let before = |text: &'static str, line| str::split(line, text).next().unwrap_or(line);
+    let asked = before(" A ", line);
+    if asked.starts_with("Q ") {
+        before(" C ", asked)
+    } else {
+        asked
+    }
+}
+
+fn call(leaf: Leaf, data: &str) -> Result<Request, String> {
+    let data = bytes(data)?;
+    Ok(Request::Leaf(Call { leaf, data }))
+}
+
+/// A type by its name and, behind points, its numbers.
+fn type_of(field: &str) -> Result<Type, String> {
+    let parts: Vec<&str> = field.split('.').collect();
+    let name = NAMES.iter().find(|name| format!("{name:?}") == parts[0]);
+    let numbers = name.map(|name| name.numbers());
+    match (name, numbers, &parts[1..]) {
+        (Some(name), Some(Numbers::None), []) => Ok(name.plain()),
+        (Some(name), Some(Numbers::Digits), [digits]) => {
+            Ok(name.with(number::<u8>(digits)?.into()))
+        }
+        (Some(name), Some(Numbers::Length), [length]) => Ok(name.with(number(length)?)),
+        (Some(Name::Decimal), _, [precision, scale]) => {
+            Ok(Type::decimal(number(precision)?, number(scale)?))
+        }
+        _ => Err(format!("no type: {}", cut(field))),
     }
 }
 
@@ -102,6 +141,16 @@ impl fmt::Display for Hex<'_> {
 
 impl fmt::Display for Request {
     fn fmt(&self, f: &mut fmt::Formatter<'_>) -> fmt::Result {
+        match self {
+            Request::Leaf(call) => call.fmt(f),
+            Request::Description { data, row } => write!(f, "Q {} R {}", Hex(data), Hex(row)),
+            Request::FixedLength(asked) => write!(f, "F {asked}"),
+        }
+    }
+}
+
+impl fmt::Display for Call {
+    fn fmt(&self, f: &mut fmt::Formatter<'_>) -> fmt::Result {
         let data = Hex(&self.data);
         match self.leaf {
             Leaf::Character { ccsid } => write!(f, "T {ccsid} {data}"),
@@ -145,6 +194,12 @@ mod tests {
             "G 0 -",
             "L -",
             "P 255 1D",
+            "Q 0576D00500 R -",
+            "Q - R 00",
+            "F Xml",
+            "F Char.65535",
+            "F DecFloat.255",
+            "F Decimal.5.2",
         ] {
             assert_eq!(parse(line).unwrap().to_string(), line);
         }
@@ -154,6 +209,15 @@ mod tests {
     fn an_answer_behind_the_request_is_dropped() {
         assert_eq!(parse("T 37 C1 A 41").unwrap().to_string(), "T 37 C1");
         assert_eq!(parse("P 0 - A REFUSE6").unwrap().to_string(), "P 0 -");
+        assert_eq!(parse("F Time A 8").unwrap().to_string(), "F Time");
+        for answer in [
+            "C 0 A ROWLESS",
+            "C - A REFUSE2",
+            "C 1 Xml:DC:0:0:0:0:0:-:L A ROWLESS",
+        ] {
+            let line = format!("Q 0570DC0000 R 00 {answer}");
+            assert_eq!(parse(&line).unwrap().to_string(), "Q 0570DC0000 R 00");
+        }
     }
 
     #[test]
@@ -176,9 +240,20 @@ mod tests {
             "L ",
             "X 00",
             "# comment",
-            "Q - R -",
+            "Q -",
+            "Q - R",
+            "Q - -",
+            "Q - R - R -",
             "H 0 R -",
-            "F Xml",
+            "F",
+            "F xml",
+            "F Xml.0",
+            "F Char",
+            "F Char.65536",
+            "F Char.1.2",
+            "F DecFloat.256",
+            "F Decimal.5",
+            "F Decimal.256.0",
         ] {
             assert!(parse(line).is_err(), "{line}");
         }

@@ -1,6 +1,7 @@
 //! The calls of the static library libexported.a. A lent slice goes over the boundary as a pointer and a length; an empty one
 //! still needs a pointer that is not null, and Rust's own, dangling, is one. Every entry that writes a text answers a number
 //! (0 accepted, else the refusal's) and a length (the bytes written; for refusal 9 the bytes needed; else 0).
+pub mod column;
 
 mod foreign {
     unsafe extern "C" {
@@ -44,6 +45,14 @@ mod foreign {
             text_length: usize,
             length: *mut u64,
         ) -> u32;
+        pub fn vejupa_parse_qrydsc(
+            data: *const u8,
+            data_length: usize,
+            words: *mut u64,
+            words_length: usize,
+            count: *mut u64,
+        ) -> u32;
+        pub fn vejupa_fixed_length(type_word: u64, fixed: *mut u64, length: *mut u64) -> u32;
     }
 }
 
@@ -64,8 +73,8 @@ fn outcome(call: impl FnOnce(*mut u64) -> u32) -> Outcome {
     Outcome { refusal, length }
 }
 
-// SAFETY, for all calls below: both slices are borrowed for the whole call, `text` and `length` for writing and apart from
-// each other and from `data`; the library reads and writes inside of them only, which is proved of it.
+// SAFETY, for all calls below: all slices and numbers are borrowed for the whole call, those that are written apart from each
+// other and from `data`; the library reads and writes inside of them only, which is proved of it.
 
 pub fn decode_character_bytes(data: &[u8], ccsid: u16, text: &mut [u8]) -> Outcome {
     outcome(|length| unsafe {
@@ -134,4 +143,56 @@ pub fn decode_packed_decimal(data: &[u8], precision: u8, scale: u8, text: &mut [
             length,
         )
     })
+}
+
+/// More words are needed than were lent.
+pub const TOO_FEW_WORDS: u32 = 101;
+
+/// A word is no type word.
+pub const NO_TYPE_WORD: u32 = 102;
+
+/// What vejupa_parse_qrydsc answers beside the words.
+#[derive(Debug, Clone, Copy, PartialEq, Eq)]
+pub struct Described {
+    /// 0 accepted, else the refusal's number, or TOO_FEW_WORDS.
+    pub number: u32,
+    /// The columns; after a refusal 0.
+    pub count: u64,
+}
+
+/// Column k takes the words 2 k and 2 k + 1.
+pub fn parse_qrydsc(data: &[u8], words: &mut [u64]) -> Described {
+    let mut count = u64::MAX;
+    let number = unsafe {
+        foreign::vejupa_parse_qrydsc(
+            data.as_ptr(),
+            data.len(),
+            words.as_mut_ptr(),
+            words.len(),
+            &mut count,
+        )
+    };
+    Described { number, count }
+}
+
+/// What vejupa_fixed_length answers.
+#[derive(Debug, Clone, Copy, PartialEq, Eq)]
+pub struct FixedLength {
+    /// 0 accepted, or NO_TYPE_WORD.
+    pub number: u32,
+    /// 1 where the type has a fixed length, else 0.
+    pub fixed: u64,
+    /// That length in bytes, else 0.
+    pub length: u64,
+}
+
+pub fn fixed_length(type_word: u64) -> FixedLength {
+    let mut fixed = u64::MAX;
+    let mut length = u64::MAX;
+    let number = unsafe { foreign::vejupa_fixed_length(type_word, &mut fixed, &mut length) };
+    FixedLength {
+        number,
+        fixed,
+        length,
+    }
 }

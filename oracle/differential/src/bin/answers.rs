@@ -1,22 +1,22 @@
-//! `answers port|rust < requests`: each line of standard input whole, with the answer behind ` A `.
+//! `answers port|rust < requests`: each line of standard input whole, with the answer behind it.
 use differential::port_side::{Archive, PortSide};
-use differential::{request, rust_side};
+use differential::request::{self, Call, Request};
+use differential::{descriptions, rust_side};
 use std::io::{self, BufRead, BufWriter, Write};
 use std::process::ExitCode;
 
 fn main() -> ExitCode {
     let arguments: Vec<String> = std::env::args().skip(1).collect();
     let answered = match arguments.iter().map(String::as_str).collect::<Vec<_>>()[..] {
-        ["rust"] => answer_lines(|request, out| {
-            let answer = rust_side::answer(request.leaf, &request.data);
-            writeln!(out, "{request} A {answer}")
-        }),
+        ["rust"] => answer_lines(rust_answer),
         ["port"] => {
-            let mut port = PortSide::new(Archive);
-            answer_lines(|request, out| {
-                let answer = port.answer(request.leaf, &request.data);
-                writeln!(out, "{request} A {answer}")
-            })
+            let mut port = Port {
+                texts: PortSide::new(Archive),
+                descriptions: descriptions::port_side::PortSide::new(
+                    descriptions::port_side::Archive,
+                ),
+            };
+            answer_lines(|request| port.answer(request))
         }
         _ => Err("usage: answers port|rust < requests".to_string()),
     };
@@ -29,10 +29,33 @@ fn main() -> ExitCode {
     }
 }
 
+/// What stands behind the request.
+fn rust_answer(request: &Request) -> String {
+    match request {
+        Request::Leaf(Call { leaf, data }) => format!("A {}", rust_side::answer(*leaf, data)),
+        Request::Description { data, .. } => descriptions::rust_side::describe(data).to_string(),
+        Request::FixedLength(asked) => descriptions::rust_side::fixed_length(*asked).to_string(),
+    }
+}
+
+struct Port {
+    texts: PortSide<Archive>,
+    descriptions: descriptions::port_side::PortSide<descriptions::port_side::Archive>,
+}
+
+impl Port {
+    /// What stands behind the request.
+    fn answer(&mut self, request: &Request) -> String {
+        match request {
+            Request::Leaf(Call { leaf, data }) => format!("A {}", self.texts.answer(*leaf, data)),
+            Request::Description { data, .. } => self.descriptions.describe(data).to_string(),
+            Request::FixedLength(asked) => self.descriptions.fixed_length(asked.word()).to_string(),
+        }
+    }
+}
+
 /// Answers the lines of standard input up to the first that is no request.
-fn answer_lines(
-    mut answer: impl FnMut(&request::Request, &mut dyn Write) -> io::Result<()>,
-) -> Result<(), String> {
+fn answer_lines(mut answer: impl FnMut(&Request) -> String) -> Result<(), String> {
     let mut out = BufWriter::with_capacity(1 << 16, io::stdout().lock());
     let mut lines = io::stdin().lock().lines();
     let mut number = 0;
@@ -41,7 +64,7 @@ fn answer_lines(
         let at = |message: String| format!("line {number} is no request: {message}");
         let line = line.map_err(|error| at(error.to_string()))?;
         let request = request::parse(&line).map_err(at)?;
-        answer(&request, &mut out).map_err(|error| error.to_string())
+        writeln!(out, "{request} {}", answer(&request)).map_err(|error| error.to_string())
     });
     let flushed = out.flush().map_err(|error| error.to_string());
     answered.and(flushed)

@@ -1,5 +1,7 @@
-//! `bench [WORD]`: the time of each conversion by the Rust and by the port, from one run, as a Markdown table. With a word only
-//! the lines that have it in their name.
+//! `bench [WORD]`: the time of each call by the Rust and by the port, from one run, as a Markdown table. With a word only the
+//! lines that have it in their name.
+use differential::descriptions;
+use differential::descriptions::port_side::AMPLE;
 use differential::leaf::{Leaf, TEXT_LIMIT};
 use differential::port_side::{ample, Archive, Library};
 use differential::random::Random;
@@ -23,11 +25,23 @@ const ROUNDS: usize = 40;
 const MIXED: &str = "Der Flor ist höher: 5 €, 高さ 12 mm \u{1F9F6} — ok. ";
 const CJK: &str = "絨毯の高さは十二ミリです";
 
-/// A line of the table: a call, and texts of one length, each timed as one call.
+/// A line of the table: a call, and inputs of one length, each timed as one call.
 struct Line {
-    name: &'static str,
-    leaf: Leaf,
+    name: String,
+    call: Call,
     texts: Vec<Vec<u8>>,
+}
+
+#[derive(Clone, Copy)]
+enum Call {
+    Leaf(Leaf),
+    Description,
+}
+
+/// What is lent to the port.
+struct Lent {
+    text: Vec<u8>,
+    words: [u64; AMPLE],
 }
 
 impl Line {
@@ -45,17 +59,20 @@ struct Times {
 
 fn main() -> ExitCode {
     let word = std::env::args().nth(1).unwrap_or_default();
-    let mut buffer = vec![0; ample(TEXT_LIMIT)];
+    let mut lent = Lent {
+        text: vec![0; ample(TEXT_LIMIT)],
+        words: [0; AMPLE],
+    };
     println!("{}\n", heading());
     println!("| Call | Bytes | Rust ns | Port ns, any text fits | Ratio | Port ns, buffer exact | Ratio |");
     println!("|---|---:|---:|---:|---:|---:|---:|");
     let mut slowest: Option<(f64, String)> = None;
     for line in lines().iter().filter(|line| line.name.contains(&word)) {
-        if let Err(text) = same(line, &mut buffer) {
+        if let Err(text) = same(line, &mut lent) {
             eprintln!("bench: {}: the answers differ for {text:02X?}", line.name);
             return ExitCode::FAILURE;
         }
-        let times = measure(line, &mut buffer);
+        let times = measure(line, &mut lent);
         println!("{}", row(line, &times));
         let ratio = times.ample.max(times.exact.unwrap_or(0.0)) / times.rust;
         if slowest.as_ref().is_none_or(|(most, _)| ratio > *most) {
@@ -78,7 +95,8 @@ fn heading() -> String {
         "Processor: {processor}. Release builds, processor time of one thread, both from one run: the least of at least {ROUNDS} \
          rounds, the two by turns in each, with {BATCH} bytes of short texts, or one long text, a reading of the clock. The port's buffer is lent \
          by the caller and warm: it is used again for each call, once with 3 n + 14 bytes for n bytes of input (any text fits), \
-         once exactly as long as the text. The Rust's time includes the allocation of its text, and its freeing. Ratio: port / Rust."
+         once exactly as long as the text; for a description with {AMPLE} words (any list fits), and with two a column. The Rust's time \
+         includes the allocation of its text or list, and its freeing. Ratio: port / Rust."
     )
 }
 
@@ -103,16 +121,22 @@ fn shown(time: f64) -> String {
     }
 }
 
-/// Whether the two agree on every text of a line, in a buffer where any text fits.
-fn same<'a>(line: &'a Line, buffer: &mut [u8]) -> Result<(), &'a [u8]> {
+/// Whether the two agree on every input of a line, with a buffer where any text fits.
+fn same<'a>(line: &'a Line, lent: &mut Lent) -> Result<(), &'a [u8]> {
     for text in &line.texts {
-        let agree = if line.leaf == Leaf::Likely {
-            rust_side::likely(text) == (Archive.likely(text) == 1)
-        } else {
-            let rust = rust_side::text(line.leaf, text);
-            let outcome = Archive.write(line.leaf, text, &mut buffer[..ample(text.len())]);
-            let written = &buffer[..outcome.length as usize];
-            outcome.refusal == 0 && rust.as_bytes() == written
+        let agree = match line.call {
+            Call::Leaf(Leaf::Likely) => rust_side::likely(text) == (Archive.likely(text) == 1),
+            Call::Leaf(leaf) => {
+                let rust = rust_side::text(leaf, text);
+                let outcome = Archive.write(leaf, text, &mut lent.text[..ample(text.len())]);
+                let written = &lent.text[..outcome.length as usize];
+                outcome.refusal == 0 && rust.as_bytes() == written
+            }
+            Call::Description => {
+                let archive = descriptions::port_side::Archive;
+                let port = descriptions::port_side::PortSide::new(archive).describe(text);
+                descriptions::rust_side::describe(text) == port
+            }
         };
         if !agree {
             return Err(text);
@@ -121,50 +145,79 @@ fn same<'a>(line: &'a Line, buffer: &mut [u8]) -> Result<(), &'a [u8]> {
     Ok(())
 }
 
-fn measure(line: &Line, buffer: &mut [u8]) -> Times {
-    let Line { leaf, texts, .. } = line;
-    let calls = texts.len() as f64;
-    if *leaf == Leaf::Likely {
-        let [rust, port] = by_turns(
-            buffer,
-            [
-                &|_| batch(texts, |text| u64::from(rust_side::likely(text))),
-                &|_| batch(texts, |text| u64::from(Archive.likely(text))),
-            ],
-        );
-        return Times {
-            rust: rust / calls,
-            ample: port / calls,
-            exact: None,
-        };
-    }
-    let exact: Vec<usize> = texts
-        .iter()
-        .map(|text| rust_side::text(*leaf, text).len())
-        .collect();
-    let any = vec![ample(line.length()); texts.len()];
-    let [rust, any, exact] = by_turns(
-        buffer,
-        [
-            &|_| batch(texts, |text| read(rust_side::text(*leaf, text).as_bytes())),
-            &|buffer| port_batch(line, &any, buffer),
-            &|buffer| port_batch(line, &exact, buffer),
-        ],
-    );
+fn measure(line: &Line, lent: &mut Lent) -> Times {
+    let texts = &line.texts;
+    let times = match line.call {
+        Call::Leaf(Leaf::Likely) => {
+            let [rust, port] = by_turns(
+                lent,
+                [
+                    &|_| batch(texts, |text| u64::from(rust_side::likely(text))),
+                    &|_| batch(texts, |text| u64::from(Archive.likely(text))),
+                ],
+            );
+            [rust, port, f64::NAN]
+        }
+        Call::Leaf(leaf) => measure_leaf(leaf, texts, lent),
+        Call::Description => measure_description(texts, lent),
+    };
+    let [rust, ample, exact] = times.map(|time| time / texts.len() as f64);
     Times {
-        rust: rust / calls,
-        ample: any / calls,
-        exact: Some(exact / calls),
+        rust,
+        ample,
+        exact: Some(exact).filter(|time| !time.is_nan()),
     }
 }
 
+fn measure_leaf(leaf: Leaf, texts: &[Vec<u8>], lent: &mut Lent) -> [f64; 3] {
+    let exact: Vec<usize> = texts
+        .iter()
+        .map(|text| rust_side::text(leaf, text).len())
+        .collect();
+    let any: Vec<usize> = texts.iter().map(|text| ample(text.len())).collect();
+    by_turns(
+        lent,
+        [
+            &|_| batch(texts, |text| read(rust_side::text(leaf, text).as_bytes())),
+            &|lent| port_texts(leaf, texts, &any, &mut lent.text),
+            &|lent| port_texts(leaf, texts, &exact, &mut lent.text),
+        ],
+    )
+}
+
 /// The port's calls for a line, each with the buffer's first bytes, so many of them as `sizes` says.
-fn port_batch(line: &Line, sizes: &[usize], buffer: &mut [u8]) -> u64 {
+fn port_texts(leaf: Leaf, texts: &[Vec<u8>], sizes: &[usize], buffer: &mut [u8]) -> u64 {
     let mut sizes = sizes.iter();
-    batch(&line.texts, |text| {
+    batch(texts, |text| {
         let size = *sizes.next().expect("a size for each text");
-        let outcome = Archive.write(line.leaf, text, &mut buffer[..size]);
+        let outcome = Archive.write(leaf, text, &mut buffer[..size]);
         read(&buffer[..outcome.length as usize])
+    })
+}
+
+/// All descriptions of a line have the same number of columns.
+fn measure_description(texts: &[Vec<u8>], lent: &mut Lent) -> [f64; 3] {
+    let exact = 2 * descriptions::rust_side::parsed(&texts[0]).len();
+    by_turns(
+        lent,
+        [
+            &|_| {
+                batch(texts, |text| {
+                    let columns = black_box(descriptions::rust_side::parsed(text));
+                    columns.last().map_or(0, |last| u64::from(last.length))
+                })
+            },
+            &|lent| port_descriptions(texts, &mut lent.words),
+            &|lent| port_descriptions(texts, &mut lent.words[..exact]),
+        ],
+    )
+}
+
+fn port_descriptions(texts: &[Vec<u8>], words: &mut [u64]) -> u64 {
+    batch(texts, |text| {
+        let count = port::parse_qrydsc(text, words).count as usize;
+        let columns = black_box(&words[..2 * count]);
+        columns.last().map_or(0, |last| last & 0xFFFF)
     })
 }
 
@@ -182,8 +235,8 @@ fn batch(texts: &[Vec<u8>], mut call: impl FnMut(&[u8]) -> u64) -> u64 {
         .fold(0, u64::wrapping_add)
 }
 
-/// What is timed: it may use the buffer, and answers a number that depends on all that it did.
-type Work<'a> = &'a dyn Fn(&mut [u8]) -> u64;
+/// What is timed: it may use what is lent, and answers a number that depends on all that it did.
+type Work<'a> = &'a dyn Fn(&mut Lent) -> u64;
 
 /// The processor time that this thread has used. On a machine that others use too, the time in which they run does not count.
 fn processor_time() -> Duration {
@@ -207,14 +260,14 @@ fn processor_time() -> Duration {
 }
 
 /// The least time of each, in nanoseconds, taken by turns.
-fn by_turns<const N: usize>(buffer: &mut [u8], works: [Work; N]) -> [f64; N] {
+fn by_turns<const N: usize>(lent: &mut Lent, works: [Work; N]) -> [f64; N] {
     let mut least = [Duration::MAX; N];
     let start = Instant::now();
     let mut rounds = 0;
     while rounds < ROUNDS || start.elapsed() < TIME {
         for (work, least) in works.iter().zip(&mut least) {
             let start = processor_time();
-            black_box(work(buffer));
+            black_box(work(lent));
             *least = (processor_time() - start).min(*least);
         }
         rounds += 1;
@@ -222,7 +275,7 @@ fn by_turns<const N: usize>(buffer: &mut [u8], works: [Work; N]) -> [f64; N] {
     least.map(|time| time.as_secs_f64() * 1e9)
 }
 
-/// Makes a text of so many bytes.
+/// Makes a text of so many bytes, or a description of so many columns.
 type Maker = fn(&mut Random, usize) -> Vec<u8>;
 
 fn lines() -> Vec<Line> {
@@ -264,13 +317,81 @@ fn lines() -> Vec<Line> {
         let leaf = Leaf::decimal(2);
         lines.push(line(&mut random, "Packed decimal", leaf, packed, length));
     }
+    lines.extend(description_lines(&mut random));
     lines
 }
 
-fn line(random: &mut Random, name: &'static str, leaf: Leaf, maker: Maker, length: usize) -> Line {
+/// Descriptions of several lengths, by groups, by SDAs and by references to declared LIDs, and one of triplets that say nothing.
+fn description_lines(random: &mut Random) -> Vec<Line> {
+    let forms: [(&str, Maker); 3] = [
+        ("in groups", grouped_columns),
+        ("as SDAs", single_columns),
+        ("in groups, declared", declared_columns),
+    ];
+    let mut lines = Vec::new();
+    for columns in [4, 20, 128] {
+        for (form, maker) in forms {
+            let name = format!("parse_qrydsc, {columns} columns {form}");
+            let count = (BATCH / (7 * columns)).max(1);
+            let texts = (0..count).map(|_| maker(random, columns)).collect();
+            let call = Call::Description;
+            lines.push(Line { name, call, texts });
+        }
+    }
+    lines.push(Line {
+        name: "parse_qrydsc, 1,000 unknown triplets".to_string(),
+        call: Call::Description,
+        texts: vec![[2, 0x99].repeat(1000); BATCH / 2000],
+    });
+    lines
+}
+
+/// Types that columns have most: numbers, texts, decimals, dates.
+const COMMON: [u8; 12] = [
+    0x03, 0x02, 0x05, 0x17, 0x0B, 0x0D, 0x0F, 0x31, 0x33, 0x33, 0x21, 0x25,
+];
+
+/// Groups of as many columns as fit, with the LIDs that `lid` gives.
+fn groups(random: &mut Random, columns: usize, lid: fn(&mut Random) -> u8) -> Vec<u8> {
+    let mut text = Vec::new();
+    let mut left = columns;
+    while left > 0 {
+        let count = left.min(84);
+        text.extend([3 + 3 * count as u8, 0x76, 0xD0]);
+        for _ in 0..count {
+            text.extend([lid(random), 0, 8 + random.byte() % 16]);
+        }
+        left -= count;
+    }
+    text
+}
+
+fn grouped_columns(random: &mut Random, columns: usize) -> Vec<u8> {
+    groups(random, columns, |random| random.pick(&COMMON))
+}
+
+fn single_columns(random: &mut Random, columns: usize) -> Vec<u8> {
+    let column = |random: &mut Random| [7, 0x70, random.pick(&COMMON), 0, 8, 0x04, 0xB8];
+    (0..columns).flat_map(|_| column(random)).collect()
+}
+
+/// Four declarations, as Db2 for z/OS sends them, and groups that refer to them.
+fn declared_columns(random: &mut Random, columns: usize) -> Vec<u8> {
+    let mut text = Vec::new();
+    for (lid, code) in [(0x50, 0x31), (0x51, 0x33), (0x52, 0x30), (0x53, 0x32)] {
+        text.extend([3, 0x78, code, 9, 0x70, lid, 0x7F, 0xFF, 0, 0x00, 0x25, 0x01]);
+    }
+    text.extend(groups(random, columns, |random| 0x50 + random.byte() % 4));
+    text
+}
+
+fn line(random: &mut Random, name: &str, leaf: Leaf, maker: Maker, length: usize) -> Line {
     let count = (BATCH / length).max(1);
-    let texts = (0..count).map(|_| maker(random, length)).collect();
-    Line { name, leaf, texts }
+    Line {
+        name: name.to_string(),
+        call: Call::Leaf(leaf),
+        texts: (0..count).map(|_| maker(random, length)).collect(),
+    }
 }
 
 fn uniform(random: &mut Random, length: usize) -> Vec<u8> {

@@ -19,7 +19,7 @@ use Rattle.triplets.proofs.Slices.{slice-all}
 use Rattle.description_words.specs.Counted.{Counted}
 
 -- at the start all columns are to come
-pub all-to-come : (s : List ℕ) → toCome s noEntries (cursor.Outer 0 pending.Nothing) ≡ columnsOf s
+pub all-to-come : (s : List ℕ) → toCome s noEntries (cursor.Outer pending.Nothing 0) ≡ columnsOf s
 unfolding toCome columnsOf
 all-to-come s = ap (λ (t : List ℕ). columnsFrom pending.Nothing noEntries (reading 2 t .triplets)) (slice-all s)
 
@@ -30,7 +30,7 @@ pub record Counting (s : List ℕ) (k : ℕ) (c : Cursor) : Type 0 where
   pub environment : List EnvEntry
   pub total : k + length (toCome s environment c) ≡ length (columnsOf s)
 
-pub counting-start : (s : List ℕ) → Counting s 0 (cursor.Outer 0 pending.Nothing)
+pub counting-start : (s : List ℕ) → Counting s 0 (cursor.Outer pending.Nothing 0)
 counting-start s = record { within = omega arith; few = omega arith; environment = noEntries; total = omega (arith, ap length (all-to-come s)) }
 
 module _ {s : List ℕ} {k : ℕ} {c : Cursor} (i : Counting s k c) where

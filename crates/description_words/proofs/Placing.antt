@@ -35,7 +35,7 @@ pub record Placing (s d out : List ℕ) (k : ℕ) (env : List EnvEntry) (c : Cur
   pub total : k + length (toCome s env c) ≤ maxColumns
   pub writing : Writing (wordsFrom 0 (columnsOf s)) d (wordsFrom k (toCome s env c)) out (2 * k)
 
-pub placing-start : (s d : List ℕ) → length (columnsOf s) ≤ maxColumns → 2 * length (columnsOf s) ≤ length d → Placing s d d 0 noEntries (cursor.Outer 0 pending.Nothing)
+pub placing-start : (s d : List ℕ) → length (columnsOf s) ≤ maxColumns → 2 * length (columnsOf s) ≤ length d → Placing s d d 0 noEntries (cursor.Outer pending.Nothing 0)
 placing-start s d few room =
     record {
       within = omega arith;

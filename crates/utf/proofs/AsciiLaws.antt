@@ -84,6 +84,12 @@ run-more n m s r q = record {
   ascii = rw (take-add n m s) (ascii-append (take n s) (take m (drop n s)) (r .ascii) (q .ascii));
 }
 
+-- a block more
+pub run-block : (i e : ℕ) (s : List ℕ) → AsciiRun i s → i ≤ e → e ≤ length s → allAscii (take (e - i) (drop i s)) ≡ true → AsciiRun e s
+run-block i e s r h k q =
+    let z : i + (e - i) ≡ e = omega arith in
+    record { fits = k; ascii = rw (← z, take-add i (e - i) s) (ascii-append (take i s) (take (e - i) (drop i s)) (r .ascii) q) }
+
 -- a byte more
 pub run-byte : (i : ℕ) (s : List ℕ) → AsciiRun i s → i < length s → getD s i 0 < 0x80 → AsciiRun (i + 1) s
 unfolding allAscii

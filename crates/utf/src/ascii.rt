@@ -25,6 +25,23 @@ pub fn has_high(s: &[u8]) -> bool
     largest >= 0x80
 }
 
+// The length of a run of ASCII at the beginning of s, in whole blocks of 1,024 bytes: for long texts that are ASCII throughout.
+pub fn ascii_long_blocks(s: &[u8]) -> usize
+    ensures { λ r. ⌜ AsciiRun r (now (s .entry)) ⌝ }
+{
+    let mut i = 0;
+    loop {
+        if s.len() - i < 1024 {
+            return i;
+        }
+        let e = i + 1024;
+        if has_high(&s[i..e]) {
+            return i;
+        }
+        i = e;
+    }
+}
+
 // The first eight bytes of s are ASCII, or nothing is said. Their bitwise or has no branch for each.
 fn ascii_8(s: &[u8]) -> bool
     requires { ⌜ 8 ≤ length (now s) ⌝ }

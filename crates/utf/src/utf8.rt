@@ -1,4 +1,5 @@
 // UTF-8, read with one U+FFFD for each maximal malformed part.
+use super::ascii::ascii_long_blocks;
 use super::ascii::ascii_run;
 use super::ascii::copy_ascii;
 use buffer::copy;
@@ -171,7 +172,7 @@ pub fn run_of(s: &[u8]) -> Run
     ensures good { λ r. ⌜ Good (r .end) (now (s .entry)) ⌝ }
     ensures stop { λ r. ⌜ Stop (r .end) (r .bad) (now (s .entry)) ⌝ }
 {
-    let mut e = 0;
+    let mut e = ascii_long_blocks(s);
     loop {
         e += ascii_run(&s[e..]);
         if s.len() <= e {

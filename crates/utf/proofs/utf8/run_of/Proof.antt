@@ -4,7 +4,7 @@ use mathlib.Core.Path.{sym}
 use denote.Ref.{now}
 use lib.ListN.{length}
 use Rattle.utf.specs.Utf8Code.{Good}
-use Rattle.utf.proofs.Utf8Runs.{good-none, good-more, good-at, stop-at, stop-end, ascii-good-at}
+use Rattle.utf.proofs.Utf8Runs.{ascii-good, good-more, good-at, stop-at, stop-end, ascii-good-at}
 use borrow.Author.Needs.{needs}
 use native.Mathlib.Omega.{arith}
 use Rattle.utf.proofs.utf8.run_of.Statement.{statement}
@@ -16,8 +16,11 @@ Inv-loop s e₀ e = Good e s
 abbrev μ-loop : tie.MeasureT-loop
 μ-loop s e₀ e = length s - e
 
+ascii-long-blocks-requires : tie.Need-ascii-long-blocks-requires Inv-loop μ-loop
+ascii-long-blocks-requires c κs = search needs
+
 loop-holds : tie.Need-loop-holds Inv-loop μ-loop
-loop-holds c = good-none _
+loop-holds c = ascii-good _ _ (c .ascii-long-blocks .ensures)
 
 sub-ascii-run : tie.Need-sub-ascii-run Inv-loop μ-loop
 sub-ascii-run c = omega (arith, c .loop .inv .fits)
@@ -32,8 +35,8 @@ ascii-run-requires : tie.Need-ascii-run-requires Inv-loop μ-loop
 ascii-run-requires c κs = search needs
 
 -- with the run of ASCII
-ascii : (c : tie.After-ascii-run Inv-loop μ-loop) → Good (c .before .before .loop .e + c .ascii-run .result) (now (c .before .before .before .before .args .s))
-ascii c = good-more _ _ _ (c .before .before .loop .inv) (ascii-good-at (now (c .before .before .before .before .args .s)) (c .before .before .loop .e) (c .ascii-run .result) (c .ascii-run .ensures))
+ascii : (c : tie.After-ascii-run Inv-loop μ-loop) → Good (c .before .before .loop .e + c .ascii-run .result) (now (c .before .before .before .before .before .args .s))
+ascii c = good-more _ _ _ (c .before .before .loop .inv) (ascii-good-at (now (c .before .before .before .before .before .args .s)) (c .before .before .loop .e) (c .ascii-run .result) (c .ascii-run .ensures))
 
 add-e : tie.Need-add-e Inv-loop μ-loop
 add-e c = omega (arith, ascii c .fits)
@@ -50,7 +53,7 @@ returns-2 c =
     (ascii (c .before .before .before), stop-at _ _ _ (c .before .before .if1 .left) (p .0) (sym (p .1)))
 
 -- with the sequence after it
-more : (c : tie.Else2 Inv-loop μ-loop) → Good (c .before .before .before .before .before .loop .e + c .before .before .before .ascii-run .result + c .before .step-at .result) (now (c .before .before .before .before .before .before .before .args .s))
+more : (c : tie.Else2 Inv-loop μ-loop) → Good (c .before .before .before .before .before .loop .e + c .before .before .before .ascii-run .result + c .before .step-at .result) (now (c .before .before .before .before .before .before .before .before .args .s))
 more c =
     let p = c .before .step-at .ensures .whole (c .if2 .left) in
     good-more _ _ _ (ascii (c .before .before .before)) (good-at _ _ _ (c .before .before .if1 .left) (p .0) (sym (p .1)))
@@ -70,6 +73,7 @@ run-of-spec =
     (tie.spec
     Inv-loop
     μ-loop
+    ascii-long-blocks-requires
     loop-holds
     sub-ascii-run
     part-ascii-run-start

@@ -1,1 +1,2 @@
 pub mod TypeWords
+pub mod Fields

@@ -8,7 +8,7 @@ use native.Mathlib.Numerals.{add-one}
 use native.Mathlib.Omega.{arith}
 use native.Mathlib.Nat.{sub-zero}
 use lib.ListN.{length, getD, take, drop, length-drop}
-use lib.Seq.{drop-cons, take-all}
+use lib.Seq.{drop-cons, take-all, length-take-le}
 use lib.Dec.{leb, eqb}
 use borrow.Author.Tests.{leb-true, eq-eqb, ne-eqb}
 use Rattle.types.specs.declared.Db2Type.{Db2Type}
@@ -22,6 +22,7 @@ use Rattle.rules.specs.declared.Extent.the-variants.{Fixed, Counted, Inline, Lo
 use Rattle.rules.specs.Extent.{be32, isReference, referenceMark, lobNeed, need, lobExtent, lengthExtent, typeExtent, extentOf}
 use Rattle.rules.specs.Meaning.{ByteSort, Item, allZero, typeItem, itemIn}
 use Rattle.rules.specs.Conversions.{ported}
+use Rattle.rules.proofs.Extents.{cuts}
 use Rattle.cell.specs.declared.CellItem.{CellItem}
 use Rattle.cell.specs.declared.CellItem.the-variants as cell
 use Rattle.cell.specs.Cell.{Holds}
@@ -104,3 +105,7 @@ pub number-holds : (f : List ℕ → RowNumber) (n : ℕ) (s : List ℕ) (v : Db
     → Holds (cell.Number v) s (Item.number (f s))
 unfolding need
 number-holds f n s v h e = (f s, (refl, e ∙ ap (λ (l : List ℕ). numberValue (f l)) (take-all n s (omega arith))))
+
+-- the bytes that a value takes are all that it takes of them
+pub cut-there : (c : ColumnDescriptor) (s : List ℕ) (n : ℕ) → n ≡ need (extentOf c) s → n ≤ length s → need (extentOf c) (take n s) ≡ length (take n s)
+cut-there c s n e h = cuts (extentOf c) s n (omega arith) h ∙ sym e ∙ sym (length-take-le n s h)

@@ -1,5 +1,5 @@
 -- For inner functions; no public promise rests on it. What a column's value, as the code holds it, says of the value's own bytes. Assumes nothing.
-use Prim.Native.Nat.{ℕ, _+_, _≤_}
+use Prim.Native.Nat.{ℕ, _+_, _≤_, _<_}
 use mathlib.Core.Path.{_≡_}
 use mathlib.Core.Bool.{Bool, cond, _||_}
 use mathlib.Core.List.{List, []}
@@ -7,7 +7,9 @@ use lib.ListN.{length, take, drop}
 use Rattle.numbers.specs.Number.{Number as RowNumber, numberValue}
 use Rattle.packed.specs.Packed.{decimalText}
 use Rattle.conversion.specs.Conversion.{textIn}
-use Rattle.rules.specs.Extent.{isReference}
+use Rattle.types.specs.declared.ColumnDescriptor.{ColumnDescriptor}
+use Rattle.rules.specs.Extent.{isReference, need, extentOf}
+use Rattle.rules.specs.Conversions.{ported}
 use Rattle.rules.specs.Meaning as meaning
 use Rattle.cell.specs.declared.ByteSort.{ByteSort}
 use Rattle.cell.specs.declared.ByteSort.the-variants as bytes
@@ -19,6 +21,8 @@ use Rattle.cell.specs.declared.LobKind.{LobKind}
 use Rattle.cell.specs.declared.LobKind.the-variants as kinds
 use Rattle.cell.specs.declared.CellItem.{CellItem}
 use Rattle.cell.specs.declared.CellItem.the-variants.{Nothing, Number, Boolean, Part, Text}
+use Rattle.cell.specs.declared.ColumnAnswer.{ColumnAnswer}
+use Rattle.cell.specs.declared.ColumnAnswer.the-variants.{TooShort, Value}
 
 abbrev pub byteSort : ByteSort → meaning.ByteSort
 byteSort bytes.Binary = meaning.ByteSort.binary
@@ -66,3 +70,8 @@ module _ (L : meaning.Conversions) where
 
   unfoldable pub headerIn : List ℕ → meaning.Item
   headerIn h = cond (meaning.isEmptyHeader h) (meaning.Item.text meaning.TextSort.clob []) (meaning.Item.text meaning.TextSort.clob (L .locator h))
+
+-- the answer for the column c, where s is the rest of the row
+abbrev pub Decodes : ColumnAnswer → ColumnDescriptor → List ℕ → Type 0
+Decodes (TooShort expected actual) c s = (expected ≡ need (extentOf c) s) × ((actual ≡ length s) × (actual < expected))
+Decodes (Value used item) c s = (used ≡ need (extentOf c) s) × ((used ≤ length s) × Holds item (take used s) (meaning.itemIn ported c (take used s)))

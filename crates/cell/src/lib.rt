@@ -5,6 +5,7 @@ mod extents;
 use conversion::Conversion;
 use conversion::character_conversion;
 use conversion::graphic_conversion;
+use extents::column_need;
 use extents::is_reference;
 use extents::is_short_reference;
 use extents::says_header;
@@ -27,7 +28,7 @@ ghost use Rattle.rules.specs.Extent.{need, extentOf};
 ghost use Rattle.types.specs.declared.ReferenceLength.{ReferenceLength};
 ghost use Rattle.rules.specs.Conversions.{ported};
 ghost use Rattle.conversion.specs.Conversion.{characterText, graphicText};
-ghost use Rattle.cell.specs.Cell.{byteSort, textSort, lobOf, textBy, Holds, declaredLob, undeclaredLob, headerIn};
+ghost use Rattle.cell.specs.Cell.{byteSort, textSort, lobOf, textBy, Holds, Decodes, declaredLob, undeclaredLob, headerIn};
 
 // The sorts of value that are a part of the row, and those that are a text.
 pub enum ByteSort {
@@ -364,4 +365,25 @@ fn item_of(bytes: &[u8], column: ColumnDescriptor) -> CellItem
         Db2Type::Xml => lob_item(LobKind::Xmls, reference, false, bytes),
         Db2Type::Null => CellItem::Nothing,
     }
+}
+
+// A column's value: too short, with the Rust's expected and actual; or the bytes that it takes, and what they mean.
+pub enum ColumnAnswer {
+    TooShort { expected: usize, actual: usize },
+    Value { used: usize, item: CellItem },
+}
+
+// The column's value at the beginning of the rest of the row.
+pub fn decode_column_value(rest: &[u8], column: ColumnDescriptor) -> ColumnAnswer
+    ensures { λ r. ⌜ Decodes r column (now (rest .entry)) ⌝ }
+{
+    let n = column_need(rest, column);
+    if rest.len() < n {
+        return ColumnAnswer::TooShort {
+            expected: n,
+            actual: rest.len(),
+        };
+    }
+    let item = item_of(&rest[..n], column);
+    ColumnAnswer::Value { used: n, item }
 }

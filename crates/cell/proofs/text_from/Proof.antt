@@ -1,0 +1,16 @@
+-- `cell::text_from` meets its contract: the bytes from a place on are all that are left there. Assumes nothing.
+use native.Mathlib.Omega.{arith}
+use denote.Ref.{now}
+use Rattle.cell.proofs.ItemLaws.{all-from}
+use borrow.Author.Needs.{needs}
+use Rattle.cell.proofs.text_from.Statement.{statement}
+use Rattle.cell.proofs.text_from.Tie as tie
+
+sub-t6 : tie.Need-sub-t6
+sub-t6 c = search needs
+
+returns : tie.Need-returns
+returns c = (rw (all-from (c .args .from) (now (c .args .bytes))), omega arith)
+
+pub text-from-spec : {M : Type 1} → statement M
+text-from-spec = tie.close (tie.spec sub-t6 returns)

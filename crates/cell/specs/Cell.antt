@@ -1,0 +1,77 @@
+-- For inner functions; no public promise rests on it. What a column's value, as the code holds it, says of the value's own bytes. Assumes nothing.
+use Prim.Native.Nat.{ℕ, _+_, _≤_, _<_}
+use mathlib.Core.Path.{_≡_}
+use mathlib.Core.Bool.{Bool, cond, _||_}
+use mathlib.Core.List.{List, []}
+use lib.ListN.{length, take, drop}
+use Rattle.numbers.specs.Number.{Number as RowNumber, numberValue}
+use Rattle.packed.specs.Packed.{decimalText}
+use Rattle.conversion.specs.Conversion.{textIn}
+use Rattle.types.specs.declared.ColumnDescriptor.{ColumnDescriptor}
+use Rattle.rules.specs.Extent.{isReference, need, extentOf}
+use Rattle.rules.specs.Conversions.{ported}
+use Rattle.rules.specs.Meaning as meaning
+use Rattle.cell.specs.declared.ByteSort.{ByteSort}
+use Rattle.cell.specs.declared.ByteSort.the-variants as bytes
+use Rattle.cell.specs.declared.TextSort.{TextSort}
+use Rattle.cell.specs.declared.TextSort.the-variants as texts
+use Rattle.cell.specs.declared.Reading.{Reading}
+use Rattle.cell.specs.declared.Reading.the-variants.{By, Packed}
+use Rattle.cell.specs.declared.LobKind.{LobKind}
+use Rattle.cell.specs.declared.LobKind.the-variants as kinds
+use Rattle.cell.specs.declared.CellItem.{CellItem}
+use Rattle.cell.specs.declared.CellItem.the-variants.{Nothing, Number, Boolean, Part, Text}
+use Rattle.cell.specs.declared.ColumnAnswer.{ColumnAnswer}
+use Rattle.cell.specs.declared.ColumnAnswer.the-variants.{TooShort, Value}
+
+abbrev pub byteSort : ByteSort → meaning.ByteSort
+byteSort bytes.Binary = meaning.ByteSort.binary
+byteSort bytes.Blob = meaning.ByteSort.blob
+
+abbrev pub textSort : TextSort → meaning.TextSort
+textSort texts.Decimal = meaning.TextSort.decimal
+textSort texts.Char = meaning.TextSort.char
+textSort texts.VarChar = meaning.TextSort.varChar
+textSort texts.Clob = meaning.TextSort.clob
+textSort texts.RowId = meaning.TextSort.rowId
+textSort texts.Date = meaning.TextSort.date
+textSort texts.Time = meaning.TextSort.time
+textSort texts.Timestamp = meaning.TextSort.timestamp
+textSort texts.Xml = meaning.TextSort.xml
+
+abbrev pub lobOf : LobKind → meaning.Lob
+lobOf kinds.Blobs = meaning.Lob.blobs
+lobOf kinds.Clobs = meaning.Lob.clobs
+lobOf kinds.Xmls = meaning.Lob.xmls
+
+-- the text of bytes, as they are to be read
+abbrev pub textBy : Reading → List ℕ → List ℕ
+textBy (By conversion) s = textIn conversion s
+textBy (Packed scale) s = decimalText scale s
+
+-- the code's item says of the value's bytes s what i is: a part lies within s, and a text is that of a part of s
+abbrev pub Holds : CellItem → List ℕ → meaning.Item → Type 0
+Holds Nothing s i = i ≡ meaning.Item.nothing
+Holds (Number v) s i = (x : RowNumber) × ((i ≡ meaning.Item.number x) × (v ≡ numberValue x))
+Holds (Boolean b) s i = i ≡ meaning.Item.boolean b
+Holds (Part k from len) s i = (i ≡ meaning.Item.part (byteSort k) from len) × (from + len ≤ length s)
+Holds (Text k reading from len) s i = (i ≡ meaning.Item.text (textSort k) (textBy reading (take len (drop from s)))) × (from + len ≤ length s)
+
+-- the two cases of a LOB's item, and a header's item by its bytes: what rules' lobItem and headerItem compute to
+module _ (L : meaning.Conversions) where
+  unfoldable pub declaredLob : meaning.Lob → List ℕ → meaning.Item
+  declaredLob k s = cond (meaning.allZero s || meaning.isEmptyReference s) (meaning.lobEmpty k) (meaning.lobReference L k s)
+
+  unfoldable pub undeclaredLob : Bool → meaning.Lob → List ℕ → meaning.Item
+  undeclaredLob located k s =
+      cond (isReference s)
+      (cond (meaning.allZero (drop 1 s)) (meaning.lobEmpty k) (meaning.lobReference L k s))
+      (cond located (meaning.lobReference L k s) (meaning.lobInline L k s))
+
+  unfoldable pub headerIn : List ℕ → meaning.Item
+  headerIn h = cond (meaning.isEmptyHeader h) (meaning.Item.text meaning.TextSort.clob []) (meaning.Item.text meaning.TextSort.clob (L .locator h))
+
+-- the answer for the column c, where s is the rest of the row
+abbrev pub Decodes : ColumnAnswer → ColumnDescriptor → List ℕ → Type 0
+Decodes (TooShort expected actual) c s = (expected ≡ need (extentOf c) s) × ((actual ≡ length s) × (actual < expected))
+Decodes (Value used item) c s = (used ≡ need (extentOf c) s) × ((used ≤ length s) × Holds item (take used s) (meaning.itemIn ported c (take used s)))

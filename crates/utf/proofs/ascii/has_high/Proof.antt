@@ -1,4 +1,4 @@
--- `unicode::ascii::has_high` meets its contract. The loop's invariant: what was found, and what is left, make the answer. Assumes nothing.
+-- `utf::ascii::has_high` meets its contract. The loop's invariant: what was found, and what is left, make the answer. Assumes nothing.
 use Prim.Native.Nat.{ℕ, _+_, _-_, _≤_}
 use mathlib.Core.Path.{_≡_, refl, sym, ap, _∙_}
 use mathlib.Core.Logic.{⊎-elim}

@@ -1,4 +1,4 @@
--- `unicode::likely::bytes_are_likely_text` meets its contract. The loop's invariant: the answer from e on is the answer. Assumes nothing.
+-- `utf::likely::bytes_are_likely_text` meets its contract. The loop's invariant: the answer from e on is the answer. Assumes nothing.
 use Prim.Native.Nat.{ℕ, _+_, _-_, _<_, _≤_}
 use mathlib.Core.Path.{_≡_, refl, sym, _∙_}
 use native.Mathlib.Omega.{arith}

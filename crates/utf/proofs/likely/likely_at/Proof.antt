@@ -1,4 +1,4 @@
--- `unicode::likely::likely_at` meets its contract. Assumes nothing.
+-- `utf::likely::likely_at` meets its contract. Assumes nothing.
 use mathlib.Core.Path.{_≡_, refl, sym, ap, _∙_}
 use native.Mathlib.Omega.{arith}
 use borrow.Author.Needs.{needs}

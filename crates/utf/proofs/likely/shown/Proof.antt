@@ -1,4 +1,4 @@
--- `unicode::likely::shown` meets its contract. Assumes nothing.
+-- `utf::likely::shown` meets its contract. Assumes nothing.
 use native.Mathlib.Omega.{arith}
 use borrow.Author.Needs.{needs}
 use denote.Ref.{now}

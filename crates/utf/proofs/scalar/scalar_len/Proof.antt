@@ -1,4 +1,4 @@
--- `unicode::scalar::scalar_len` meets its contract. Assumes nothing.
+-- `utf::scalar::scalar_len` meets its contract. Assumes nothing.
 use mathlib.Core.Path.{ap, sym}
 use native.Mathlib.Omega.{arith}
 use lib.ListN.{length}

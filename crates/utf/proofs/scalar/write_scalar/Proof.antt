@@ -1,4 +1,4 @@
--- `unicode::scalar::write_scalar` meets its contract: one to four stores from index 0. Assumes nothing.
+-- `utf::scalar::write_scalar` meets its contract: one to four stores from index 0. Assumes nothing.
 use Prim.Native.Nat.{ℕ, _+_, _/_, _%_, _≤_}
 use mathlib.Core.Path.{_≡_, refl, ap}
 use mathlib.Core.List.{[], _∷_}

@@ -1,4 +1,4 @@
--- `unicode::utf16::pair_at` meets its contract: each answer by the unit after the high surrogate. Assumes nothing.
+-- `utf::utf16::pair_at` meets its contract: each answer by the unit after the high surrogate. Assumes nothing.
 use native.Mathlib.Omega.{arith}
 use borrow.Author.Needs.{needs}
 use Rattle.utf.proofs.Utf16Laws.{high-last, high-below, high-above, pair}

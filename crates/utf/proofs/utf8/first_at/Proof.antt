@@ -1,4 +1,4 @@
--- `unicode::utf8::first_at` meets its contract: each answer by the row of Table 3-7 that the byte begins. Assumes nothing.
+-- `utf::utf8::first_at` meets its contract: each answer by the row of Table 3-7 that the byte begins. Assumes nothing.
 use mathlib.Core.Path.{refl}
 use native.Mathlib.Omega.{arith}
 use borrow.Author.Needs.{needs}

@@ -1,4 +1,4 @@
--- `unicode::utf8::step_at` meets its contract. Assumes nothing.
+-- `utf::utf8::step_at` meets its contract. Assumes nothing.
 use native.Mathlib.Omega.{arith}
 use borrow.Author.Needs.{needs}
 use Rattle.utf.proofs.Utf8Laws.{well-formed}

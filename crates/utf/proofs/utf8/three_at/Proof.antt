@@ -1,4 +1,4 @@
--- `unicode::utf8::three_at` meets its contract: each answer by the trail bytes that were found there. Assumes nothing.
+-- `utf::utf8::three_at` meets its contract: each answer by the trail bytes that were found there. Assumes nothing.
 use mathlib.Core.Path.{_≡_, refl, sym, _∙_}
 use mathlib.Core.Bool.{Bool, true}
 use Prim.Native.Nat.{_+_}

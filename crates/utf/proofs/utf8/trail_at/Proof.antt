@@ -1,4 +1,4 @@
--- `unicode::utf8::trail_at` meets its contract: each answer by the tests that led there. Assumes nothing.
+-- `utf::utf8::trail_at` meets its contract: each answer by the tests that led there. Assumes nothing.
 use borrow.Author.Needs.{needs}
 use borrow.Author.Tests.{lt-ltb, le-ltb, le-leb, lt-leb}
 use Rattle.unicode.specs.Unicode.{within}

@@ -1,6 +1,7 @@
 pub mod Tests
 pub mod Extents
 pub mod Walks
+pub mod Progress
 pub mod Rows
 pub mod Items
 pub mod Answers

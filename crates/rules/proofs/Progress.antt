@@ -24,7 +24,7 @@ use Rattle.rules.specs.Extent.{extentOf}
 use Rattle.rules.specs.Meaning.{Conversions}
 use Rattle.rules.specs.Walk.{columnNeed, Piece, absent, present, cellPiece, Walk, done, short, consPiece, cellShort, walk, walkBody}
 use Rattle.rules.specs.Row.{textOf, pieceItem, pieceValue, rowValues, rowTexts}
-use Rattle.rules.proofs.Walks.{isDone, usedOf, piecesOf, walk-step, walk-first}
+use Rattle.rules.proofs.Walks.{isDone, usedOf, piecesOf, walk-step, walk-first, walk-used}
 
 -- ---- what a turn is given
 
@@ -108,6 +108,13 @@ module _ (cs : List ColumnDescriptor) (start : ℕ) (s : List ℕ) where
   -- ---- going through them again
 
   module _ (ps : List Piece) (end : ℕ) where
+    -- where the walk ends
+    pub end-within : start ≤ length s → walkBody cs start s ≡ done ps end → (start ≤ end) × (end ≤ length s)
+    unfolding walkBody
+    end-within h d =
+        let u = walk-used start cs start (drop start s) (ap isDone d) in
+        omega (arith, ap usedOf d, length-drop start s)
+
     pub record Going (i at : ℕ) (passed : List Piece) : Type 0 where
       pub within : at ≤ length s
       pub ahead : List Piece

@@ -1,4 +1,5 @@
 -- The laws of the loops that go through a row's columns: of the columns cs, i are passed, and the next byte is at place `at` of the input s.
+--     Seeking     is there a DecFloat column? None is among the columns passed
 --     Walking     going through the columns for the first time: does each have its bytes?
 --     Going       going through them again, where the walk is done
 --     Measuring   going again, adding the lengths of the texts
@@ -17,13 +18,15 @@ use lib.Dec.{eqb}
 use borrow.Author.Tests.{lt-leb}
 use Rattle.types.specs.declared.ColumnDescriptor.{ColumnDescriptor}
 use Rattle.types.specs.declared.ValuePlace.{ValuePlace}
+use Rattle.types.specs.declared.Db2Type.the-variants as type
+use Rattle.types.specs.Names.{namedIn}
 use Rattle.types.specs.Places.{maxColumns, filled, blankValue}
 use Rattle.buffer.specs.Buffer.{written}
 use Rattle.buffer.proofs.Writing as writing
 use Rattle.rules.specs.Extent.{extentOf}
 use Rattle.rules.specs.Meaning.{Conversions}
 use Rattle.rules.specs.Walk.{columnNeed, Piece, absent, present, cellPiece, Walk, done, short, consPiece, cellShort, walk, walkBody}
-use Rattle.rules.specs.Row.{textOf, pieceItem, pieceValue, rowValues, rowTexts}
+use Rattle.rules.specs.Row.{textOf, pieceItem, pieceValue, rowValues, rowTexts, anyDecFloat}
 use Rattle.rules.proofs.Walks.{isDone, usedOf, piecesOf, walk-step, walk-first, walk-used}
 
 -- ---- what a turn is given
@@ -43,6 +46,28 @@ rest-is s at = take-all (length s - at) (drop at s) (omega (arith, length-drop a
 
 abbrev pub pieceAt : ColumnDescriptor → ℕ → List ℕ → Piece
 pieceAt c at r = cellPiece (c .nullable) c at (take (columnNeed c r) r)
+
+-- ---- looking for a DecFloat column
+
+module _ (cs : List ColumnDescriptor) where
+  pub record Seeking (i : ℕ) : Type 0 where
+    pub same : anyDecFloat cs ≡ anyDecFloat (drop i cs)
+
+  pub seeking-start : Seeking 0
+  seeking-start = record { same = refl }
+
+  module _ {i : ℕ} (g : Seeking i) (c : ColumnDescriptor) (e : drop i cs ≡ c ∷ drop (i + 1) cs) where
+    pub seeking-found : namedIn (type.DecFloat 0 ∷ []) (c .«db2_type») ≡ true → anyDecFloat cs ≡ true
+    unfolding anyDecFloat
+    seeking-found h = g .same ∙ rw (e, h)
+
+    pub seeking-step : namedIn (type.DecFloat 0 ∷ []) (c .«db2_type») ≡ false → Seeking (i + 1)
+    unfolding anyDecFloat
+    seeking-step h = record { same = g .same ∙ rw (e, h) }
+
+  pub seeking-end : {i : ℕ} → Seeking i → length cs ≤ i → anyDecFloat cs ≡ false
+  unfolding anyDecFloat
+  seeking-end g h = g .same ∙ rw (drop-of-length-le cs h)
 
 -- ---- walks and what is put before them
 

@@ -84,7 +84,7 @@ unfolding consPiece
 onto-cons ps p (done qs n) = ap (λ (l : List Piece). done l n) (sym (append-assoc ps (p ∷ []) qs))
 onto-cons ps p (short e a) = refl
 
-cons-inverse : (p : Piece) (w : Walk) (qs : List Piece) (n : ℕ) → consPiece p w ≡ done qs n → (w ≡ done (piecesOf w) n) × (qs ≡ p ∷ piecesOf w)
+pub cons-inverse : (p : Piece) (w : Walk) (qs : List Piece) (n : ℕ) → consPiece p w ≡ done qs n → (w ≡ done (piecesOf w) n) × (qs ≡ p ∷ piecesOf w)
 unfolding consPiece
 cons-inverse p (done ps m) qs n h = (ap (λ (k : ℕ). done ps k) (ap usedOf h), sym (ap piecesOf h))
 cons-inverse p (short e a) qs n h = absurd (false≢true (ap isDone h))

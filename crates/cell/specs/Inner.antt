@@ -19,6 +19,22 @@ unitOf Inline = 0
 unitOf Locator = 0
 unitOf (Materialized n) = 0
 
+-- how many bytes an extent says itself, and the most that one of a column says: a Graphic of 65,535 units of two bytes
+abbrev pub sizeOf : Extent → ℕ
+sizeOf (Fixed n) = n
+sizeOf (Counted unit) = 0
+sizeOf (Header n) = n
+sizeOf Inline = 0
+sizeOf Locator = 0
+sizeOf (Materialized n) = n
+
+abbrev pub mostSize : ℕ
+mostSize = 131070
+
+-- the most bytes that a value takes: four bytes that count FFFFFFFF, and those
+abbrev pub mostNeed : ℕ
+mostNeed = 4294967299
+
 -- whether a LOB's bytes s refer to data outside the row: a reference that is not empty, or a locator
 abbrev pub lobRefers : ReferenceLength → Bool → List ℕ → Bool
 lobRefers (Width w) located s = not (allZero s || isEmptyReference s)

@@ -17,6 +17,7 @@ use Rattle.types.specs.declared.ReferenceLength.{ReferenceLength}
 use Rattle.types.specs.declared.ReferenceLength.the-variants.{Absent}
 use Rattle.types.specs.declared.ColumnDescriptor.{ColumnDescriptor}
 use Rattle.numbers.specs.Number.{Number as RowNumber, numberValue}
+use Rattle.packed.specs.Packed.{packedLength, mostBytes}
 use Rattle.rules.specs.declared.Extent.{Extent}
 use Rattle.rules.specs.declared.Extent.the-variants.{Fixed, Counted, Inline, Locator}
 use Rattle.rules.specs.Extent.{be32, isReference, referenceMark, lobNeed, need, lobExtent, lengthExtent, typeExtent, extentOf}
@@ -64,6 +65,10 @@ module _ (c : ColumnDescriptor) (s : List ℕ) {t : Db2Type} (e : c .«db2_type�
 pub fixed-there : (n : ℕ) (s : List ℕ) → need (Fixed n) s ≡ length s → n ≤ length s
 unfolding need
 fixed-there n s h = omega arith
+
+pub packed-there : (p : ℕ) (s : List ℕ) → p < 256 → need (Fixed (packedLength p)) s ≡ length s → (0 < length s) × (length s ≤ mostBytes)
+unfolding need
+packed-there p s l h = (omega arith, omega arith)
 
 pub counted-there : (u : ℕ) (s : List ℕ) → need (Counted u) s ≡ length s → 2 ≤ length s
 unfolding need

@@ -1,2 +1,3 @@
 pub mod ExtentLaws
 pub mod ItemLaws
+pub mod ReferLaws

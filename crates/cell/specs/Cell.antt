@@ -5,7 +5,7 @@ use mathlib.Core.Bool.{Bool, cond, _||_}
 use mathlib.Core.List.{List, []}
 use lib.ListN.{length, take, drop}
 use Rattle.numbers.specs.Number.{Number as RowNumber, numberValue}
-use Rattle.packed.specs.Packed.{decimalText}
+use Rattle.packed.specs.Packed.{decimalText, mostBytes}
 use Rattle.conversion.specs.Conversion.{textIn}
 use Rattle.types.specs.declared.ColumnDescriptor.{ColumnDescriptor}
 use Rattle.rules.specs.Extent.{isReference, need, extentOf}
@@ -49,13 +49,18 @@ abbrev pub textBy : Reading → List ℕ → List ℕ
 textBy (By conversion) s = textIn conversion s
 textBy (Packed scale) s = decimalText scale s
 
+-- the bytes are as many as the reading takes: a packed decimal has one at least, and no more than one called alone may have
+abbrev pub Readable : Reading → ℕ → Type 0
+Readable (By conversion) n = Unit {0}
+Readable (Packed scale) n = (0 < n) × (n ≤ mostBytes)
+
 -- the code's item says of the value's bytes s what i is: a part lies within s, and a text is that of a part of s
 abbrev pub Holds : CellItem → List ℕ → meaning.Item → Type 0
 Holds Nothing s i = i ≡ meaning.Item.nothing
 Holds (Number v) s i = (x : RowNumber) × ((i ≡ meaning.Item.number x) × (v ≡ numberValue x))
 Holds (Boolean b) s i = i ≡ meaning.Item.boolean b
 Holds (Part k from len) s i = (i ≡ meaning.Item.part (byteSort k) from len) × (from + len ≤ length s)
-Holds (Text k reading from len) s i = (i ≡ meaning.Item.text (textSort k) (textBy reading (take len (drop from s)))) × (from + len ≤ length s)
+Holds (Text k reading from len) s i = (i ≡ meaning.Item.text (textSort k) (textBy reading (take len (drop from s)))) × ((from + len ≤ length s) × Readable reading len)
 
 -- the two cases of a LOB's item, and a header's item by its bytes: what rules' lobItem and headerItem compute to
 module _ (L : meaning.Conversions) where
@@ -74,4 +79,6 @@ module _ (L : meaning.Conversions) where
 -- the answer for the column c, where s is the rest of the row
 abbrev pub Decodes : ColumnAnswer → ColumnDescriptor → List ℕ → Type 0
 Decodes (TooShort expected actual) c s = (expected ≡ need (extentOf c) s) × ((actual ≡ length s) × (actual < expected))
-Decodes (Value used item) c s = (used ≡ need (extentOf c) s) × ((used ≤ length s) × Holds item (take used s) (meaning.itemIn ported c (take used s)))
+Decodes (Value used item external) c s =
+    (used ≡ need (extentOf c) s)
+    × ((used ≤ length s) × (Holds item (take used s) (meaning.itemIn ported c (take used s)) × (external ≡ meaning.refersIn ported c (take used s))))

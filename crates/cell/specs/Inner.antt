@@ -1,7 +1,14 @@
 -- For inner functions; no public promise rests on it. Assumes nothing.
 use Prim.Native.Nat.{ℕ}
+use mathlib.Core.Bool.{Bool, cond, not, _||_}
+use mathlib.Core.List.{List}
+use lib.ListN.{drop}
+use Rattle.types.specs.declared.ReferenceLength.{ReferenceLength}
+use Rattle.types.specs.declared.ReferenceLength.the-variants.{Absent, Width}
 use Rattle.rules.specs.declared.Extent.{Extent}
 use Rattle.rules.specs.declared.Extent.the-variants.{Fixed, Counted, Header, Inline, Locator, Materialized}
+use Rattle.rules.specs.Extent.{isReference}
+use Rattle.rules.specs.Meaning.{allZero, isEmptyReference}
 
 -- how many bytes the units of an extent have, where it counts units
 abbrev pub unitOf : Extent → ℕ
@@ -11,3 +18,24 @@ unitOf (Header n) = 0
 unitOf Inline = 0
 unitOf Locator = 0
 unitOf (Materialized n) = 0
+
+-- how many bytes an extent says itself, and the most that one of a column says: a Graphic of 65,535 units of two bytes
+abbrev pub sizeOf : Extent → ℕ
+sizeOf (Fixed n) = n
+sizeOf (Counted unit) = 0
+sizeOf (Header n) = n
+sizeOf Inline = 0
+sizeOf Locator = 0
+sizeOf (Materialized n) = n
+
+abbrev pub mostSize : ℕ
+mostSize = 131070
+
+-- the most bytes that a value takes: four bytes that count FFFFFFFF, and those
+abbrev pub mostNeed : ℕ
+mostNeed = 4294967299
+
+-- whether a LOB's bytes s refer to data outside the row: a reference that is not empty, or a locator
+abbrev pub lobRefers : ReferenceLength → Bool → List ℕ → Bool
+lobRefers (Width w) located s = not (allZero s || isEmptyReference s)
+lobRefers Absent located s = cond (isReference s) (not (allZero (drop 1 s))) located

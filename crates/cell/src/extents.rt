@@ -8,13 +8,13 @@ use types::Db2Type;
 use types::ReferenceLength;
 ghost use mathlib.Core.Path.{_≡_};
 ghost use mathlib.Core.Bool.{cond};
-ghost use Prim.Native.Nat.{_≤_};
+ghost use Prim.Native.Nat.{_+_, _≤_};
 ghost use lib.ListN.{length};
 ghost use lib.Dec.{eqb};
 ghost use Rattle.rules.specs.declared.Extent.{Extent};
 ghost use Rattle.rules.specs.Extent.{isReference, isHexDigit, hexDigits, isShortReference, saysHeader, lobNeed, need};
 ghost use Rattle.rules.specs.Extent.{graphicUnit, varyingExtent, lobExtent, lengthExtent, extentOf};
-ghost use Rattle.cell.specs.Inner.{unitOf};
+ghost use Rattle.cell.specs.Inner.{unitOf, sizeOf, mostSize, mostNeed};
 
 fn is_hex_digit(b: u8) -> bool
     ensures { λ r. ⌜ r ≡ isHexDigit b ⌝ }
@@ -155,7 +155,7 @@ fn graphic_unit(ccsid: u16, order: ByteOrder) -> usize
 }
 
 fn varying_extent(n: u16, unit: usize) -> Extent
-    ensures { λ r. ⌜ r ≡ varyingExtent n unit ⌝ }
+    ensures { λ r. ⌜ (r ≡ varyingExtent n unit) × (sizeOf r ≤ mostSize) ⌝ }
 {
     if 0x8000 <= n {
         Extent::Header((n % 0x8000) as usize)
@@ -175,7 +175,7 @@ fn length_extent(n: u16) -> Extent
 }
 
 fn lob_extent(reference: ReferenceLength, other: Extent) -> Extent
-    ensures { λ r. ⌜ r ≡ lobExtent reference other ⌝ }
+    ensures { λ r. ⌜ (r ≡ lobExtent reference other) × (sizeOf r ≤ sizeOf other + 65535) ⌝ }
 {
     match reference {
         ReferenceLength::Width(w) => Extent::Fixed(w as usize),
@@ -185,13 +185,13 @@ fn lob_extent(reference: ReferenceLength, other: Extent) -> Extent
 
 // A column's length, or another where it is 0.
 fn length_or(n: u16, other: usize) -> usize
-    ensures { λ r. ⌜ r ≡ cond (eqb n 0) other n ⌝ }
+    ensures { λ r. ⌜ (r ≡ cond (eqb n 0) other n) × (r ≤ other + 65535) ⌝ }
 {
     if n == 0 { other } else { n as usize }
 }
 
 fn extent_of(column: ColumnDescriptor) -> Extent
-    ensures { λ r. ⌜ r ≡ extentOf column ⌝ }
+    ensures { λ r. ⌜ (r ≡ extentOf column) × (sizeOf r ≤ mostSize) ⌝ }
 {
     let t = column.db2_type;
     let length = column.length;
@@ -242,7 +242,7 @@ fn extent_of(column: ColumnDescriptor) -> Extent
 
 // How many bytes the column's value takes of the rest of the row.
 pub fn column_need(rest: &[u8], column: ColumnDescriptor) -> usize
-    ensures { λ r. ⌜ r ≡ need (extentOf column) (now (rest .entry)) ⌝ }
+    ensures { λ r. ⌜ (r ≡ need (extentOf column) (now (rest .entry))) × (r ≤ mostNeed) ⌝ }
 {
     extent_need(extent_of(column), rest)
 }

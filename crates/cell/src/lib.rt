@@ -1,6 +1,7 @@
-// Inner. A column's value from the rest of the row, from its first byte on: how many bytes it takes, and what they mean. The answer depends on that
-// part of the row only. It writes no text, says nothing of external columns, and knows nothing of indicators and of where the part stands.
-mod extents;
+// Inner. A column's value from the rest of the row, from its first byte on: how many bytes it takes, what they mean, and whether they refer to data
+// outside the row. The answer depends on that part of the row only. It writes no text, and knows nothing of indicators and of where the part stands.
+pub mod extents;
+mod refers;
 
 use conversion::Conversion;
 use conversion::character_conversion;
@@ -14,6 +15,10 @@ use numbers::double;
 use numbers::integer;
 use numbers::real;
 use numbers::small_int;
+use refers::all_zero;
+use refers::is_empty_header;
+use refers::is_empty_reference;
+use refers::refers;
 use types::ColumnDescriptor;
 use types::Db2Type;
 use types::Db2Value;
@@ -21,14 +26,15 @@ use types::ReferenceLength;
 use utf::likely::bytes_are_likely_text;
 ghost use mathlib.Core.Path.{_≡_};
 ghost use mathlib.Core.List.{[]};
-ghost use Prim.Native.Nat.{_≤_, _-_};
+ghost use Prim.Native.Nat.{_<_, _≤_, _-_};
 ghost use lib.ListN.{length, drop};
-ghost use Rattle.rules.specs.Meaning.{Item, Lob, allZero, isEmptyReference, isEmptyHeader, lobEmpty, lobReference, lobInline, lobItem, headerItem, lobBytesItem, lobCharItem, itemIn};
+ghost use Rattle.rules.specs.Meaning.{Item, Lob, decimal, lobEmpty, lobReference, lobInline, lobItem, headerItem, lobBytesItem, lobCharItem, itemIn};
 ghost use Rattle.rules.specs.Extent.{need, extentOf};
 ghost use Rattle.types.specs.declared.ReferenceLength.{ReferenceLength};
 ghost use Rattle.rules.specs.Conversions.{ported};
-ghost use Rattle.conversion.specs.Conversion.{characterText, graphicText};
-ghost use Rattle.cell.specs.Cell.{byteSort, textSort, lobOf, textBy, Holds, Decodes, declaredLob, undeclaredLob, headerIn};
+ghost use Rattle.conversion.specs.Conversion.{textIn, characterText, graphicText};
+ghost use Rattle.packed.specs.Packed.{decimalText, mostBytes};
+ghost use Rattle.cell.specs.Cell.{byteSort, textSort, lobOf, Holds, Decodes, declaredLob, undeclaredLob, headerIn};
 
 // The sorts of value that are a part of the row, and those that are a text.
 pub enum ByteSort {
@@ -79,27 +85,14 @@ pub enum CellItem {
     },
 }
 
-fn all_zero(s: &[u8]) -> bool
-    ensures { λ r. ⌜ r ≡ allZero (now (s .entry)) ⌝ }
-{
-    let mut i: usize = 0;
-    while i < s.len() {
-        if s[i] != 0 {
-            return false;
-        }
-        i += 1;
-    }
-    true
-}
-
 // The text, or the part, that all bytes from a place on are.
-fn text_from(sort: TextSort, reading: Reading, bytes: &[u8], from: usize) -> CellItem
+fn text_from(sort: TextSort, conversion: Conversion, bytes: &[u8], from: usize) -> CellItem
     requires { ⌜ from ≤ length (now bytes) ⌝ }
-    ensures { λ r. ⌜ Holds r (now (bytes .entry)) (Item.text (textSort sort) (textBy reading (drop from (now (bytes .entry))))) ⌝ }
+    ensures { λ r. ⌜ Holds r (now (bytes .entry)) (Item.text (textSort sort) (textIn conversion (drop from (now (bytes .entry))))) ⌝ }
 {
     CellItem::Text {
         sort,
-        reading,
+        reading: Reading::By(conversion),
         from,
         len: bytes.len() - from,
     }
@@ -121,7 +114,7 @@ fn characters_from(sort: TextSort, ccsid: u16, bytes: &[u8], from: usize) -> Cel
     ensures { λ r. ⌜ Holds r (now (bytes .entry)) (Item.text (textSort sort) (characterText ccsid (drop from (now (bytes .entry))))) ⌝ }
 {
     let conversion = character_conversion(ccsid, &bytes[from..]);
-    text_from(sort, Reading::By(conversion), bytes, from)
+    text_from(sort, conversion, bytes, from)
 }
 
 fn graphics_from(sort: TextSort, ccsid: u16, bytes: &[u8], from: usize) -> CellItem
@@ -129,7 +122,20 @@ fn graphics_from(sort: TextSort, ccsid: u16, bytes: &[u8], from: usize) -> CellI
     ensures { λ r. ⌜ Holds r (now (bytes .entry)) (Item.text (textSort sort) (graphicText ccsid (drop from (now (bytes .entry))))) ⌝ }
 {
     let conversion = graphic_conversion(ccsid, &bytes[from..]);
-    text_from(sort, Reading::By(conversion), bytes, from)
+    text_from(sort, conversion, bytes, from)
+}
+
+// A packed decimal, of all bytes.
+fn packed_text(scale: u8, bytes: &[u8]) -> CellItem
+    requires { ⌜ (0 < length (now bytes)) × (length (now bytes) ≤ mostBytes) ⌝ }
+    ensures { λ r. ⌜ Holds r (now (bytes .entry)) (Item.text decimal (decimalText scale (now (bytes .entry)))) ⌝ }
+{
+    CellItem::Text {
+        sort: TextSort::Decimal,
+        reading: Reading::Packed(scale),
+        from: 0,
+        len: bytes.len(),
+    }
 }
 
 // An empty text, whatever the bytes.
@@ -183,8 +189,8 @@ fn lob_reference(kind: LobKind, bytes: &[u8]) -> CellItem
 {
     match kind {
         LobKind::Blobs => first_four(bytes),
-        LobKind::Clobs => text_from(TextSort::Clob, Reading::By(Conversion::Locator), bytes, 0),
-        LobKind::Xmls => text_from(TextSort::Xml, Reading::By(Conversion::Locator), bytes, 0),
+        LobKind::Clobs => text_from(TextSort::Clob, Conversion::Locator, bytes, 0),
+        LobKind::Xmls => text_from(TextSort::Xml, Conversion::Locator, bytes, 0),
     }
 }
 
@@ -195,18 +201,8 @@ fn lob_inline(kind: LobKind, bytes: &[u8]) -> CellItem
 {
     match kind {
         LobKind::Blobs => part_from(ByteSort::Blob, bytes, 4),
-        LobKind::Clobs => text_from(TextSort::Clob, Reading::By(Conversion::Utf8), bytes, 4),
-        LobKind::Xmls => text_from(TextSort::Xml, Reading::By(Conversion::Utf8), bytes, 4),
-    }
-}
-
-fn is_empty_reference(bytes: &[u8]) -> bool
-    ensures { λ r. ⌜ r ≡ isEmptyReference (now (bytes .entry)) ⌝ }
-{
-    if is_reference(bytes) {
-        all_zero(&bytes[1..])
-    } else {
-        false
+        LobKind::Clobs => text_from(TextSort::Clob, Conversion::Utf8, bytes, 4),
+        LobKind::Xmls => text_from(TextSort::Xml, Conversion::Utf8, bytes, 4),
     }
 }
 
@@ -240,17 +236,6 @@ fn undeclared_lob(kind: LobKind, located: bool, bytes: &[u8]) -> CellItem
     lob_inline(kind, bytes)
 }
 
-// Only the eight bytes after 02 are looked at.
-fn is_empty_header(header: &[u8]) -> bool
-    ensures { λ r. ⌜ r ≡ isEmptyHeader (now (header .entry)) ⌝ }
-{
-    if is_reference(header) {
-        all_zero(&header[1..9])
-    } else {
-        false
-    }
-}
-
 fn header_from(bytes: &[u8], from: usize) -> CellItem
     requires { ⌜ from ≤ length (now bytes) ⌝ }
     ensures { λ r. ⌜ Holds r (now (bytes .entry)) (headerIn ported (drop from (now (bytes .entry)))) ⌝ }
@@ -258,12 +243,7 @@ fn header_from(bytes: &[u8], from: usize) -> CellItem
     if is_empty_header(&bytes[from..]) {
         return empty_text(TextSort::Clob, bytes);
     }
-    text_from(
-        TextSort::Clob,
-        Reading::By(Conversion::Locator),
-        bytes,
-        from,
-    )
+    text_from(TextSort::Clob, Conversion::Locator, bytes, from)
 }
 
 // The Rust: decode_externalized_lob_header.
@@ -293,7 +273,7 @@ fn lob_char_item(declared: usize, ccsid: u16, bytes: &[u8]) -> CellItem
     ensures { λ r. ⌜ Holds r (now (bytes .entry)) (lobCharItem ported declared ccsid (now (bytes .entry))) ⌝ }
 {
     if is_short_reference(declared, bytes) {
-        return text_from(TextSort::Clob, Reading::By(Conversion::Locator), bytes, 0);
+        return text_from(TextSort::Clob, Conversion::Locator, bytes, 0);
     }
     characters_from(TextSort::Clob, ccsid, bytes, 0)
 }
@@ -328,7 +308,7 @@ fn item_of(bytes: &[u8], column: ColumnDescriptor) -> CellItem
         Db2Type::Decimal {
             precision: _,
             scale,
-        } => text_from(TextSort::Decimal, Reading::Packed(scale), bytes, 0),
+        } => packed_text(scale, bytes),
         Db2Type::DecFloat(_) => CellItem::Nothing,
         Db2Type::Char(_) => characters_from(TextSort::Char, ccsid, bytes, 0),
         Db2Type::VarChar(n) => {
@@ -360,17 +340,25 @@ fn item_of(bytes: &[u8], column: ColumnDescriptor) -> CellItem
         Db2Type::DbClobLocator => lob_reference(LobKind::Clobs, bytes),
         Db2Type::LobBytes(n) => lob_bytes_item((n % 0x8000) as usize, ccsid, bytes),
         Db2Type::LobChar(n) => lob_char_item((n % 0x8000) as usize, ccsid, bytes),
-        Db2Type::RowId(_) => text_from(TextSort::RowId, Reading::By(Conversion::RowId), bytes, 0),
+        Db2Type::RowId(_) => text_from(TextSort::RowId, Conversion::RowId, bytes, 0),
         Db2Type::Boolean => CellItem::Boolean(!all_zero(bytes)),
         Db2Type::Xml => lob_item(LobKind::Xmls, reference, false, bytes),
         Db2Type::Null => CellItem::Nothing,
     }
 }
 
-// A column's value: too short, with the Rust's expected and actual; or the bytes that it takes, and what they mean.
+// A column's value: too short, with the Rust's expected and actual; or the bytes that it takes, what they mean, and whether they refer to data
+// outside the row.
 pub enum ColumnAnswer {
-    TooShort { expected: usize, actual: usize },
-    Value { used: usize, item: CellItem },
+    TooShort {
+        expected: usize,
+        actual: usize,
+    },
+    Value {
+        used: usize,
+        item: CellItem,
+        external: bool,
+    },
 }
 
 // The column's value at the beginning of the rest of the row.
@@ -385,5 +373,10 @@ pub fn decode_column_value(rest: &[u8], column: ColumnDescriptor) -> ColumnAnswe
         };
     }
     let item = item_of(&rest[..n], column);
-    ColumnAnswer::Value { used: n, item }
+    let external = refers(&rest[..n], column);
+    ColumnAnswer::Value {
+        used: n,
+        item,
+        external,
+    }
 }

@@ -7,7 +7,7 @@ use Rattle.numbers.specs.Number.{smallIntIn, integerIn, bigIntIn, realIn, doubl
 use Rattle.rules.specs.Extent.{graphicUnit}
 use Rattle.rules.specs.Meaning.{ByteSort, Item, varyingItem}
 use Rattle.cell.specs.declared.CellItem.the-variants as cell
-use Rattle.cell.proofs.ItemLaws.{whole-part, holds-by, need-by, fixed-there, counted-there, absent-there, absent-xml, number-holds}
+use Rattle.cell.proofs.ItemLaws.{whole-part, holds-by, need-by, fixed-there, packed-there, counted-there, absent-there, absent-xml, number-holds}
 use borrow.Author.Needs.{needs}
 use Rattle.cell.proofs.item_of.Statement.{statement}
 use Rattle.cell.proofs.item_of.Tie as tie
@@ -45,8 +45,8 @@ double-requires c κs = fixed-there 8 _ (need-by (c .before .before .before .arg
 enum-known-t : tie.Need-enum-known-t
 enum-known-t c = search needs
 
-text-from-requires : tie.Need-text-from-requires
-text-from-requires c κs = search needs
+packed-text-requires : tie.Need-packed-text-requires
+packed-text-requires c κs = packed-there (c .before .t .given .0 .0) (now (c .before .before .before .before .args .bytes)) (c .known-told .given .0 .1) (need-by (c .before .before .before .before .args .column) (now (c .before .before .before .before .args .bytes)) (c .before .t .given .1) (c .before .before .before .before .pre))
 
 enum-told-6 : tie.Need-enum-told-6
 enum-told-6 c = search needs
@@ -174,8 +174,8 @@ lob-char-item-requires c κs = search needs
 enum-told-21 : tie.Need-enum-told-21
 enum-told-21 c = search needs
 
-text-from-requires-2 : tie.Need-text-from-requires-2
-text-from-requires-2 c κs = search needs
+text-from-requires : tie.Need-text-from-requires
+text-from-requires c κs = search needs
 
 enum-told-22 : tie.Need-enum-told-22
 enum-told-22 c = search needs
@@ -208,7 +208,7 @@ returns-5 : tie.Need-returns-5
 returns-5 c = holds-by (c .before .before .before .before .args .column) (now (c .before .before .before .before .args .bytes)) (c .before .enum-told5 .given .1) (cell.Number (c .double .result)) (number-holds (doubleIn (c .before .before .before .before .args .column .«byte_order»)) 8 (now (c .before .before .before .before .args .bytes)) (c .double .result) (need-by (c .before .before .before .before .args .column) (now (c .before .before .before .before .args .bytes)) (c .before .enum-told5 .given .1) (c .before .before .before .before .pre)) (c .double .ensures))
 
 returns-6 : tie.Need-returns-6
-returns-6 c = holds-by (c .before .before .before .before .before .args .column) (now (c .before .before .before .before .before .args .bytes)) (c .before .before .t .given .1) (c .text-from .result) (c .text-from .ensures)
+returns-6 c = holds-by (c .before .before .before .before .before .args .column) (now (c .before .before .before .before .before .args .bytes)) (c .before .before .t .given .1) (c .packed-text .result) (c .packed-text .ensures)
 
 returns-7 : tie.Need-returns-7
 returns-7 c = holds-by (c .before .before .before .args .column) (now (c .before .before .before .args .bytes)) (c .enum-told6 .given .1) cell.Nothing (refl)
@@ -278,7 +278,7 @@ returns-27 : tie.Need-returns-27
 returns-27 c = holds-by (c .before .before .before .before .before .args .column) (now (c .before .before .before .before .before .args .bytes)) (c .before .before .t5 .given .1) (c .lob-char-item .result) (c .lob-char-item .ensures)
 
 returns-28 : tie.Need-returns-28
-returns-28 c = holds-by (c .before .before .before .before .args .column) (now (c .before .before .before .before .args .bytes)) (c .before .enum-told21 .given .1) (c .text-from2 .result) (c .text-from2 .ensures)
+returns-28 c = holds-by (c .before .before .before .before .args .column) (now (c .before .before .before .before .args .bytes)) (c .before .enum-told21 .given .1) (c .text-from .result) (c .text-from .ensures)
 
 returns-29 : tie.Need-returns-29
 returns-29 c = holds-by (c .before .before .before .before .args .column) (now (c .before .before .before .before .args .bytes)) (c .before .enum-told22 .given .1) (cell.Boolean (not (c .all-zero .result))) (ap (λ (z : Bool). Item.boolean (not z)) (sym (c .all-zero .ensures)))
@@ -304,7 +304,7 @@ item-of-spec =
     enum-told-5
     double-requires
     enum-known-t
-    text-from-requires
+    packed-text-requires
     enum-told-6
     enum-told-7
     characters-from-requires
@@ -347,7 +347,7 @@ item-of-spec =
     cast-lob-char-item
     lob-char-item-requires
     enum-told-21
-    text-from-requires-2
+    text-from-requires
     enum-told-22
     all-zero-requires
     enum-told-23

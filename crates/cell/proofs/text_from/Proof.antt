@@ -6,11 +6,11 @@ use borrow.Author.Needs.{needs}
 use Rattle.cell.proofs.text_from.Statement.{statement}
 use Rattle.cell.proofs.text_from.Tie as tie
 
-sub-t6 : tie.Need-sub-t6
-sub-t6 c = search needs
+sub-t7 : tie.Need-sub-t7
+sub-t7 c = search needs
 
 returns : tie.Need-returns
-returns c = (rw (all-from (c .args .from) (now (c .args .bytes))), omega arith)
+returns c = (rw (all-from (c .args .from) (now (c .args .bytes))), (omega arith, tt))
 
 pub text-from-spec : {M : Type 1} → statement M
-text-from-spec = tie.close (tie.spec sub-t6 returns)
+text-from-spec = tie.close (tie.spec sub-t7 returns)

@@ -3,7 +3,7 @@ use Prim.Native.Nat.{_≤_}
 use native.Mathlib.Omega.{arith}
 use native.Mathlib.Nat.{mul-le-mul-right}
 use borrow.Author.Tests.{le-leb, lt-leb}
-use Rattle.cell.proofs.ExtentLaws.{unit-two}
+use Rattle.cell.proofs.ExtentLaws.{unit-two, length-result}
 use borrow.Author.Needs.{needs}
 use Rattle.cell.proofs.extents.extent_of.Statement.{statement}
 use Rattle.cell.proofs.extents.extent_of.Tie as tie
@@ -166,94 +166,98 @@ enum-told-19 : tie.Need-enum-told-19
 enum-told-19 c = search needs
 
 returns : tie.Need-returns
-returns c = rw (c .enum-told .given .1)
+returns c = (rw (c .enum-told .given .1), omega arith)
 
 returns-2 : tie.Need-returns-2
-returns-2 c = rw (c .enum-told2 .given .1)
+returns-2 c = (rw (c .enum-told2 .given .1), omega arith)
 
 returns-3 : tie.Need-returns-3
-returns-3 c = rw (c .enum-told3 .given .1)
+returns-3 c = (rw (c .enum-told3 .given .1), omega arith)
 
 returns-4 : tie.Need-returns-4
-returns-4 c = rw (c .enum-told4 .given .1)
+returns-4 c = (rw (c .enum-told4 .given .1), omega arith)
 
 returns-5 : tie.Need-returns-5
-returns-5 c = rw (c .enum-told5 .given .1)
+returns-5 c = (rw (c .enum-told5 .given .1), omega arith)
 
 returns-6 : tie.Need-returns-6
-returns-6 c = rw (c .before .t .given .1)
+returns-6 c = (rw (c .before .t .given .1), omega (arith, c .known-told .given .0 .1))
 
 returns-7 : tie.Need-returns-7
-returns-7 c = rw (c .before .before .t2 .given .1, le-leb 34 _ (c .if1 .taken))
+returns-7 c = (rw (c .before .before .t2 .given .1, le-leb 34 _ (c .if1 .taken)), omega arith)
 
 returns-8 : tie.Need-returns-8
-returns-8 c = rw (c .before .before .t2 .given .1, lt-leb 34 _ (c .if1 .left))
+returns-8 c = (rw (c .before .before .t2 .given .1, lt-leb 34 _ (c .if1 .left)), omega arith)
 
 returns-9 : tie.Need-returns-9
-returns-9 c = rw (c .before .t3 .given .1)
+returns-9 c = (rw (c .before .t3 .given .1), omega (arith, c .known-told3 .given .0 .1))
 
 returns-10 : tie.Need-returns-10
-returns-10 c = rw (c .before .before .t4 .given .1) (c .varying-extent .ensures)
+returns-10 c = (rw (c .before .before .t4 .given .1) (c .varying-extent .ensures .0), c .varying-extent .ensures .1)
 
 returns-11 : tie.Need-returns-11
-returns-11 c = rw (c .enum-told6 .given .1)
+returns-11 c = (rw (c .enum-told6 .given .1), omega arith)
 
 returns-12 : tie.Need-returns-12
-returns-12 c = rw (c .before .before .enum-told7 .given .1, ← c .before .length-extent .ensures) (c .lob-extent .ensures)
+returns-12 c = (rw (c .before .before .enum-told7 .given .1, ← c .before .length-extent .ensures) (c .lob-extent .ensures .0), omega (arith, c .lob-extent .ensures .1, length-result _ (c .before .before .before .before .args .column .length) (c .before .length-extent .ensures)))
 
 returns-13 : tie.Need-returns-13
-returns-13 c = rw (c .before .t5 .given .1)
+returns-13 c = (rw (c .before .t5 .given .1), omega (arith, c .known-told5 .given .0 .1))
 
 returns-14 : tie.Need-returns-14
-returns-14 c = rw (c .enum-told8 .given .1)
+returns-14 c = (rw (c .enum-told8 .given .1), omega arith)
 
 returns-15 : tie.Need-returns-15
-returns-15 c = rw (c .before .before .enum-told9 .given .1, ← c .before .length-extent2 .ensures) (c .lob-extent2 .ensures)
+returns-15 c = (rw (c .before .before .enum-told9 .given .1, ← c .before .length-extent2 .ensures) (c .lob-extent2 .ensures .0), omega (arith, c .lob-extent2 .ensures .1, length-result _ (c .before .before .before .before .args .column .length) (c .before .length-extent2 .ensures)))
 
 returns-16 : tie.Need-returns-16
-returns-16 c = rw (c .enum-told10 .given .1)
+returns-16 c = (rw (c .enum-told10 .given .1), omega arith)
 
 returns-17 : tie.Need-returns-17
-returns-17 c = rw (c .enum-told11 .given .1)
+returns-17 c = (rw (c .enum-told11 .given .1), omega arith)
 
 returns-18 : tie.Need-returns-18
-returns-18 c = rw (c .enum-told12 .given .1)
+returns-18 c = (rw (c .enum-told12 .given .1), omega arith)
 
 returns-19 : tie.Need-returns-19
-returns-19 c = rw (c .before .enum-told13 .given .1, c .length-or .ensures)
+returns-19 c = (rw (c .before .enum-told13 .given .1, c .length-or .ensures .0), omega (arith, c .length-or .ensures .1))
 
 returns-20 : tie.Need-returns-20
-returns-20 c = rw (c .before .before .t6 .given .1, c .graphic-unit .ensures)
+returns-20 c =
+    let column = c .before .before .before .before .args .column in
+    let two = unit-two (column .ccsid) (column .«byte_order») in
+    let u : c .graphic-unit .result ≤ 2 = rw (c .graphic-unit .ensures) two in
+    (rw (c .before .before .t6 .given .1, c .graphic-unit .ensures), omega (arith, c .before .known-told6 .given .0 .1, mul-le-mul-right (c .before .before .t6 .given .0 .0) u))
 
 returns-21 : tie.Need-returns-21
-returns-21 c = rw (c .before .before .before .t7 .given .1, c .varying-extent2 .ensures, c .before .graphic-unit2 .ensures)
+returns-21 c = (rw (c .before .before .before .t7 .given .1, c .varying-extent2 .ensures .0, c .before .graphic-unit2 .ensures), c .varying-extent2 .ensures .1)
 
 returns-22 : tie.Need-returns-22
-returns-22 c = rw (c .before .before .enum-told14 .given .1, ← c .before .length-extent3 .ensures) (c .lob-extent3 .ensures)
+returns-22 c = (rw (c .before .before .enum-told14 .given .1, ← c .before .length-extent3 .ensures) (c .lob-extent3 .ensures .0), omega (arith, c .lob-extent3 .ensures .1, length-result _ (c .before .before .before .before .args .column .length) (c .before .length-extent3 .ensures)))
 
 returns-23 : tie.Need-returns-23
-returns-23 c = rw (c .enum-told15 .given .1)
+returns-23 c = (rw (c .enum-told15 .given .1), omega arith)
 
 returns-24 : tie.Need-returns-24
-returns-24 c = rw (c .enum-told16 .given .1)
+returns-24 c = (rw (c .enum-told16 .given .1), omega arith)
 
 returns-25 : tie.Need-returns-25
-returns-25 c = rw (c .before .t8 .given .1)
+returns-25 c = (rw (c .before .t8 .given .1), omega (arith, c .known-told8 .given .0 .1))
 
 returns-26 : tie.Need-returns-26
-returns-26 c = rw (c .before .t9 .given .1)
+returns-26 c = (rw (c .before .t9 .given .1), omega (arith, c .known-told9 .given .0 .1))
 
 returns-27 : tie.Need-returns-27
-returns-27 c = rw (c .before .t10 .given .1)
+returns-27 c = (rw (c .before .t10 .given .1), omega (arith, c .known-told10 .given .0 .1))
 
 returns-28 : tie.Need-returns-28
-returns-28 c = rw (c .before .enum-told17 .given .1, c .length-or2 .ensures)
+returns-28 c = (rw (c .before .enum-told17 .given .1, c .length-or2 .ensures .0), omega (arith, c .length-or2 .ensures .1))
 
 returns-29 : tie.Need-returns-29
-returns-29 c = rw (c .before .enum-told18 .given .1) (c .lob-extent4 .ensures)
+returns-29 c = (rw (c .before .enum-told18 .given .1) (c .lob-extent4 .ensures .0), omega (arith, c .lob-extent4 .ensures .1))
 
 returns-30 : tie.Need-returns-30
-returns-30 c = rw (c .enum-told19 .given .1)
+returns-30 c = (rw (c .enum-told19 .given .1), omega arith)
 
 pub extent-of-spec : {M : Type 1} → statement M
 extent-of-spec =

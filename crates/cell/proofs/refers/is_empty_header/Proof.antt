@@ -1,10 +1,10 @@
--- `cell::is_empty_header` meets its contract: a reference has the eight bytes after its first. Assumes nothing.
+-- `cell::refers::is_empty_header` meets its contract: a reference has the eight bytes after its first. Assumes nothing.
 use mathlib.Core.Path.{sym, _∙_}
 use native.Mathlib.Omega.{arith}
 use Rattle.cell.proofs.ItemLaws.{reference-nine}
 use borrow.Author.Needs.{needs}
-use Rattle.cell.proofs.is_empty_header.Statement.{statement}
-use Rattle.cell.proofs.is_empty_header.Tie as tie
+use Rattle.cell.proofs.refers.is_empty_header.Statement.{statement}
+use Rattle.cell.proofs.refers.is_empty_header.Tie as tie
 
 is-reference-requires : tie.Need-is-reference-requires
 is-reference-requires c κs = search needs

@@ -1,4 +1,4 @@
--- `cell::all_zero` meets its contract: whether all are zero is decided by those that are left. Assumes nothing.
+-- `cell::refers::all_zero` meets its contract: whether all are zero is decided by those that are left. Assumes nothing.
 use Prim.Native.Nat.{_-_, _≤_}
 use mathlib.Core.Path.{_≡_, refl, sym, _∙_}
 use native.Mathlib.Omega.{arith}
@@ -6,8 +6,8 @@ use lib.ListN.{length, drop, drop-of-length-le}
 use denote.Ref.{now}
 use Rattle.rules.specs.Meaning.{allZero}
 use Rattle.cell.proofs.ItemLaws.{zero-step, nonzero-step}
-use Rattle.cell.proofs.all_zero.Statement.{statement}
-use Rattle.cell.proofs.all_zero.Tie as tie
+use Rattle.cell.proofs.refers.all_zero.Statement.{statement}
+use Rattle.cell.proofs.refers.all_zero.Tie as tie
 
 abbrev Inv-loop : tie.InvT-loop
 Inv-loop s i₀ i = (i ≤ length s) × (allZero s ≡ allZero (drop i s))

@@ -1,0 +1,33 @@
+-- `piece::items::reading_len` meets its contract: in each arm the reading is known. Assumes nothing.
+use borrow.Author.Needs.{needs}
+use Rattle.piece.proofs.items.reading_len.Statement.{statement}
+use Rattle.piece.proofs.items.reading_len.Tie as tie
+
+enum-known-reading : tie.Need-enum-known-reading
+enum-known-reading c = search needs
+
+text-measure-requires : tie.Need-text-measure-requires
+text-measure-requires c κs = search needs
+
+enum-known-reading-2 : tie.Need-enum-known-reading-2
+enum-known-reading-2 c = search needs
+
+decimal-len-requires : tie.Need-decimal-len-requires
+decimal-len-requires c κs = rw (c .before .reading2 .given .1) at (c .before .before .before .before .pre .1)
+
+returns : tie.Need-returns
+returns c = rw (c .before .before .reading .given .1) (c .text-measure .ensures .counts)
+
+returns-2 : tie.Need-returns-2
+returns-2 c = rw (c .before .before .reading2 .given .1) (c .decimal-len .ensures)
+
+pub reading-len-spec : {M : Type 1} → statement M
+reading-len-spec =
+    tie.close
+    (tie.spec
+    enum-known-reading
+    text-measure-requires
+    enum-known-reading-2
+    decimal-len-requires
+    returns
+    returns-2)

@@ -1,0 +1,41 @@
+-- `piece::items::reading_write` meets its contract: in each arm the reading is known. Assumes nothing.
+use borrow.Author.Needs.{needs}
+use Rattle.piece.proofs.items.reading_write.Statement.{statement}
+use Rattle.piece.proofs.items.reading_write.Tie as tie
+
+enum-known-reading : tie.Need-enum-known-reading
+enum-known-reading c = search needs
+
+text-write-requires : tie.Need-text-write-requires
+text-write-requires c κs = rw (c .before .before .reading .given .1) at (c .before .before .before .before .before .before .pre .1)
+
+enum-known-reading-2 : tie.Need-enum-known-reading-2
+enum-known-reading-2 c = search needs
+
+decimal-write-requires : tie.Need-decimal-write-requires
+decimal-write-requires c κs = let h = rw (c .before .before .reading2 .given .1) at (c .before .before .before .before .before .before .pre) in (h .0 .0, (h .0 .1, h .1))
+
+same-length : tie.Need-same-length
+same-length c = search needs
+
+returns : tie.Need-returns
+returns c = rw (c .before .before .before .before .before .reading .given .1) (c .before .before .text-write .ensures)
+
+same-length-2 : tie.Need-same-length-2
+same-length-2 c = search needs
+
+returns-2 : tie.Need-returns-2
+returns-2 c = rw (c .before .before .before .before .before .reading2 .given .1) (c .before .before .decimal-write .ensures)
+
+pub reading-write-spec : {M : Type 1} → statement M
+reading-write-spec =
+    tie.close
+    (tie.spec
+    enum-known-reading
+    text-write-requires
+    enum-known-reading-2
+    decimal-write-requires
+    same-length
+    returns
+    same-length-2
+    returns-2)

@@ -1,0 +1,51 @@
+-- For inner functions; no public promise rests on it. The piece of a row that a column makes of the rest of the row, and its text. Assumes nothing.
+use Prim.Native.Nat.{ℕ, _+_, _≤_}
+use mathlib.Core.List.{List, []}
+use lib.ListN.{length, take, drop}
+use Rattle.types.specs.declared.ColumnDescriptor.{ColumnDescriptor}
+use Rattle.types.specs.declared.Db2Value.{Db2Value}
+use Rattle.types.specs.declared.Db2Value.the-variants as value
+use Rattle.rules.specs.Extent.{need, extentOf}
+use Rattle.rules.specs.Walk.{Piece, present, columnNeed, cellPiece}
+use Rattle.rules.specs.Row.{place, partValue, textValue, startOf, textOf, pieceItem}
+use Rattle.rules.specs.Conversions.{ported}
+use Rattle.cell.specs.declared.CellItem.{CellItem}
+use Rattle.cell.specs.declared.CellItem.the-variants.{Nothing, Number, Boolean, Part, Text}
+use Rattle.cell.specs.Cell.{byteSort, textSort, textBy, Readable}
+
+-- as the walk has it, where s is the rest of the row and `at` the place of its first byte
+abbrev pub pieceIn : ColumnDescriptor → ℕ → List ℕ → Piece
+pieceIn c at s = cellPiece (c .nullable) c at (take (columnNeed c s) s)
+
+-- the piece of a value that is there, behind its indicator where the column has one; s is the rest from the value's first byte on
+abbrev pub valueIn : ColumnDescriptor → ℕ → List ℕ → Piece
+valueIn c at s = present c at (take (need (extentOf c) s) s)
+
+abbrev pub valueText : ColumnDescriptor → List ℕ → List ℕ
+valueText c s = textOf (pieceItem ported (valueIn c 0 s))
+
+-- a piece's text does not depend on where the piece is
+abbrev pub pieceText : ColumnDescriptor → List ℕ → List ℕ
+pieceText c s = textOf (pieceItem ported (pieceIn c 0 s))
+
+-- an item as the column decoder holds it, of the value's bytes s: it lies within them, its text, and its value where s begins at place `at`
+abbrev pub Within : CellItem → List ℕ → Type 0
+Within Nothing s = Unit {0}
+Within (Number v) s = Unit {0}
+Within (Boolean b) s = Unit {0}
+Within (Part k from len) s = from + len ≤ length s
+Within (Text k reading from len) s = (from + len ≤ length s) × Readable reading len
+
+abbrev pub itemText : CellItem → List ℕ → List ℕ
+itemText Nothing s = []
+itemText (Number v) s = []
+itemText (Boolean b) s = []
+itemText (Part k from len) s = []
+itemText (Text k reading from len) s = textBy reading (take len (drop from s))
+
+abbrev pub itemValue : CellItem → List ℕ → ℕ → ℕ → Db2Value
+itemValue Nothing s at next = value.Null
+itemValue (Number v) s at next = v
+itemValue (Boolean b) s at next = value.Boolean b
+itemValue (Part k from len) s at next = partValue (byteSort k) (place (startOf len (at + from)) len)
+itemValue (Text k reading from len) s at next = textValue (textSort k) (place next (length (itemText (Text k reading from len) s)))

@@ -8,3 +8,4 @@ pub mod Demand3
 pub mod Accepted
 pub mod Exceptions
 pub mod Example
+pub mod Utf8Texts

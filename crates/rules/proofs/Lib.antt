@@ -10,3 +10,4 @@ pub mod Accepted
 pub mod Exceptions
 pub mod Example
 pub mod Utf8Texts
+pub mod FixedLengths

@@ -1,69 +1,48 @@
 //! `descriptions SECONDS [SEED]` or `descriptions --cases N [--seed S]`: the port's reading of descriptions and types against the
 //! Rust's. With a number of cases a run is the same every time. `--fault NAME` puts a fault into the port's answers.
-use differential::compare::Until;
-use differential::descriptions::compare::{Counts, End, Run, Stage};
-use differential::descriptions::faults::{Fault, Faulty};
+use differential::command::{self, grouped, Report};
+use differential::descriptions::compare::{Counts, Run, Stage};
+use differential::descriptions::faults::{Faulty, FAULTS};
 use differential::descriptions::port_side::{Archive, Library};
-use differential::options::{grouped, options, Options};
+use differential::run::Until;
 use port::column::NAMES;
 use std::process::ExitCode;
-use std::time::Instant;
 
 fn main() -> ExitCode {
-    match options("descriptions", std::env::args().skip(1), Fault::named) {
-        Ok(Options {
-            until,
-            seed,
-            fault: None,
-        }) => run(Archive, until, seed),
-        Ok(Options {
-            until,
-            seed,
-            fault: Some(fault),
-        }) => run(Faulty(fault), until, seed),
-        Err(message) => {
-            eprintln!("descriptions: {message}");
-            ExitCode::FAILURE
-        }
-    }
+    let named = |name: &str| command::named(&FAULTS, name);
+    command::main("descriptions", named, |until, seed, fault| match fault {
+        None => run(Archive, until, seed),
+        Some(fault) => run(Faulty(fault), until, seed),
+    })
 }
 
-fn run<L: Library>(library: L, until: Until, seed: u64) -> ExitCode {
-    let start = Instant::now();
+fn run<L: Library>(library: L, until: Until, seed: u64) -> Report {
     let mut run = Run::new(library, seed, until);
     let end = run.from(Stage::Types);
-    let seconds = start.elapsed().as_secs_f64();
-    print_counts(&run.counts);
     let descriptions = grouped(run.counts.descriptions());
     let types = grouped(run.counts.types());
-    let cases = format!("{descriptions:>15} descriptions and {types} types");
-    match end {
-        End::Enough => {
-            println!("{cases}, none different (seed {seed}, {seconds:.1} s)");
-            ExitCode::SUCCESS
-        }
-        End::Different(difference) => {
-            println!("{cases}, the last different (seed {seed}, {seconds:.1} s)");
-            println!("{difference}");
-            ExitCode::FAILURE
-        }
+    Report {
+        counts: counted(&run.counts),
+        cases: format!("{descriptions} descriptions and {types} types"),
+        end,
     }
 }
 
-fn print_counts(counts: &Counts) {
-    for (answer, count) in [
-        ("fixed length", counts.fixed),
-        ("length varies", counts.varies),
-        ("no type", counts.no_type),
-        ("without a column", counts.no_column),
-        ("with columns", counts.columns),
-        ("refusal 1", counts.refused_1),
-        ("refusal 2", counts.refused_2),
-    ] {
-        println!("{:>15} {answer}", grouped(count));
-    }
+fn counted(counts: &Counts) -> Vec<(u64, String)> {
+    let answers = [
+        (counts.fixed, "fixed length"),
+        (counts.varies, "length varies"),
+        (counts.no_type, "no type"),
+        (counts.no_column, "without a column"),
+        (counts.columns, "with columns"),
+        (counts.refused_1, "refusal 1"),
+        (counts.refused_2, "refusal 2"),
+    ];
     // No description has a column of type Null.
-    for (name, count) in NAMES.iter().zip(counts.by_name) {
-        println!("{:>15} columns {name:?}", grouped(count));
-    }
+    let columns = counts.by_name.iter().zip(NAMES);
+    answers
+        .map(|(count, answer)| (count, answer.to_string()))
+        .into_iter()
+        .chain(columns.map(|(count, name)| (*count, format!("columns {name:?}"))))
+        .collect()
 }

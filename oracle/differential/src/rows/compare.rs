@@ -147,8 +147,9 @@ impl<L: Library> Run<L> {
     /// A row, and the row cut at every byte.
     fn every_cut(&mut self, list: &List, data: &[u8]) -> Flow {
         self.row_and_beginnings(list, data)?;
-        let places =
-            (0..data.len()).filter(|place| *place < 40 || data.len() < 300 || place % 97 == 0);
+        // Of a long row the beginnings and the ends: the Rust takes its time for long hex.
+        let near = |place: &usize| *place < 40 || place + 3 > data.len();
+        let places = (0..data.len()).filter(|place| data.len() < 300 || near(place));
         for place in places {
             self.row(list, &data[..place])?;
         }
@@ -261,7 +262,7 @@ impl<L: Library> Run<L> {
             List::of(&[clob]),
             List::of(&[blob]),
             List::numbered(vec![plain(Name::Char.with(0xFFFF)); 16]),
-            List::numbered(vec![plain(Name::RowId.with(0xFFFF)); 16]),
+            List::numbered(vec![plain(Name::RowId.with(0xFFFF)); 2]),
             List::of(&[plain(Name::DecFloat.with(34))]),
             List::of_words(vec![1 << 63, 0]),
             List::of_words(vec![0; 3]),

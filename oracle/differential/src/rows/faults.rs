@@ -150,8 +150,6 @@ faults! {
     HeaderWithLength,
     /// A Blob shows the whole reference.
     BlobShowsAll,
-    /// An empty Blob names a place.
-    EmptyBlobAtEnd,
     /// A reference of zeros is not empty.
     ReferenceOfZeros,
     /// A reference is empty whatever follows its first nine bytes.
@@ -231,4 +229,67 @@ faults! {
     TextsCountedWrong,
     /// The words change with refusal 8.
     ShortWritesValues,
+}
+
+#[cfg(test)]
+mod tests {
+    use super::*;
+    use crate::rows::compare::{Run, Stage};
+    use crate::rows::model::Model;
+    use crate::run::{End, Until};
+    use std::thread;
+
+    /// The first stage that can notice a fault. Random rows show most of them soonest.
+    fn stage(fault: Fault) -> Stage {
+        match fault {
+            Fault::RowEarly | Fault::RowLate | Fault::LongFirst | Fault::DecFloatFirst => {
+                Stage::Long
+            }
+            Fault::ColumnsEarly
+            | Fault::OddWordTaken
+            | Fault::SpareBitTaken
+            | Fault::WidthWithoutBitTaken
+            | Fault::LargeNumberTaken
+            | Fault::NoColumnFirst
+            | Fault::TooFewFirst => Stage::Words,
+            _ => Stage::Any,
+        }
+    }
+
+    /// A fault, after how many rows it was noticed, and the smallest row that shows it, as the wrong library answers it.
+    fn noticed(fault: Fault) -> String {
+        let mut run = Run::new(Model(Some(fault)), 1, Until::Cases(2_000_000));
+        match run.from(stage(fault)) {
+            End::Different(difference) => {
+                let rows = run.counts.rows();
+                format!("{fault:?} {rows} {}", shown(&difference.port))
+            }
+            End::Enough => panic!("{fault:?} was not noticed"),
+        }
+    }
+
+    /// A line, of which the middle is left out where no one could read it.
+    fn shown(line: &str) -> String {
+        match line.len() {
+            0..=300 => line.to_string(),
+            length => format!("{}..{}", &line[..80], &line[length - 20..]),
+        }
+    }
+
+    /// faults.txt has what each fault is noticed by. Where it is out of date the test says where the new one lies.
+    #[test]
+    fn every_fault_is_noticed_and_its_row_made_small() {
+        let (first, second) = FAULTS.split_at(FAULTS.len() / 2);
+        let all = |faults: &[Fault]| faults.iter().map(|fault| noticed(*fault) + "\n").collect();
+        let noticed: String = thread::scope(|scope| {
+            let first = scope.spawn(|| -> String { all(first) });
+            let second: String = all(second);
+            first.join().expect("each is noticed") + &second
+        });
+        if noticed != include_str!("faults.txt") {
+            let file = std::env::temp_dir().join("faults.txt");
+            std::fs::write(&file, noticed).expect("a file for what was noticed");
+            panic!("faults.txt is out of date; a new one is {}", file.display());
+        }
+    }
 }

@@ -149,7 +149,7 @@ pub enum Bad {
     TooFew,
     /// A word or byte has changed that must keep what it had, or other lengths of the buffers get another answer.
     Rest,
-    /// Three words are no value's, or name a place that is not there.
+    /// Three words are no value's, or name a place that is not theirs.
     Word,
 }
 
@@ -181,30 +181,34 @@ impl Answer {
 
     fn accepted(&self, used: u64, data: &[u8]) -> String {
         let (words, _) = self.values.as_chunks::<VALUE_WORDS>();
-        let values: Option<Vec<Value>> = words.iter().copied().map(Value::from_words).collect();
-        let shown = |values: Vec<Value>| -> Option<String> {
-            values
-                .iter()
-                .map(|value| Some(format!(" {}", self.value(value, data)?)))
-                .collect()
-        };
-        let external = |values: &[Value]| {
-            let places = values
-                .iter()
-                .enumerate()
-                .filter(|(_, value)| value.external);
-            let places: Vec<String> = places.map(|(place, _)| place.to_string()).collect();
-            if places.is_empty() {
-                "-".to_string()
-            } else {
-                places.join(",")
-            }
-        };
-        let written = values.and_then(|values| Some((external(&values), shown(values)?)));
-        match written {
-            Some((external, values)) => format!("OK {used} {external} {}{values}", self.text.len()),
-            None => Bad::Word.to_string(),
+        let mut external = Vec::new();
+        let mut values = String::new();
+        let mut texts = 0;
+        for (place, words) in words.iter().enumerate() {
+            let shown = Value::from_words(*words).and_then(|value| {
+                if value.external {
+                    external.push(place.to_string());
+                }
+                // Texts lie one behind the other, in the order of the columns.
+                if value.sort.held() == Held::Text {
+                    let next = texts;
+                    texts += value.length;
+                    (value.number == next).then_some(())?;
+                }
+                self.value(&value, data)
+            });
+            let Some(shown) = shown else {
+                return Bad::Word.to_string();
+            };
+            values = values + " " + &shown;
         }
+        if texts != self.text.len() as u64 {
+            return Bad::Word.to_string();
+        }
+        if external.is_empty() {
+            external.push("-".to_string());
+        }
+        format!("OK {used} {} {texts}{values}", external.join(","))
     }
 
     /// None where a place is not there, or a number is none of its sort.

@@ -84,6 +84,15 @@ fn told(number: u32, first: usize, second: usize) -> Decoded {
     }
 }
 
+/// The empty value of a LOB.
+fn empty_lob(column: &Column) -> Found {
+    match column.db2_type.name {
+        Name::Blob => part(Sort::Blob, 0, 0),
+        Name::Xml => text(Sort::Xml, String::new()),
+        _ => text(Sort::Clob, String::new()),
+    }
+}
+
 impl Model {
     fn has(&self, fault: Fault) -> bool {
         self.0 == Some(fault)
@@ -533,22 +542,6 @@ impl Model {
         .external(true)
     }
 
-    fn empty(&self, column: &Column, used: usize) -> Found {
-        match column.db2_type.name {
-            Name::Blob => part(
-                Sort::Blob,
-                if self.has(Fault::EmptyBlobAtEnd) {
-                    used
-                } else {
-                    0
-                },
-                0,
-            ),
-            Name::Xml => text(Sort::Xml, String::new()),
-            _ => text(Sort::Clob, String::new()),
-        }
-    }
-
     /// A LOB with a reference length.
     fn reference(&self, rest: &[u8], column: &Column, width: usize) -> Decision {
         let bytes = need(rest, width)?;
@@ -560,7 +553,7 @@ impl Model {
         };
         let empty = empty || width == 0;
         if empty {
-            return Ok((self.empty(column, width), width));
+            return Ok((empty_lob(column), width));
         }
         let external = !self.has(Fault::ReferenceNotExternal);
         Ok((self.locator(column, bytes, width).external(external), width))
@@ -580,14 +573,14 @@ impl Model {
         if rest.len() >= least && rest[0] == 0x02 && looked {
             let bytes = &rest[..9];
             if all_zero(&bytes[1..]) {
-                return Ok((self.empty(column, 9), 9));
+                return Ok((empty_lob(column), 9));
             }
             return Ok((self.locator(column, bytes, 9), 9));
         }
         if column.length == 0 && (!is_xml || self.has(Fault::XmlLocator)) {
             let bytes = &rest[..4];
             if self.has(Fault::LocatorOfZeros) && all_zero(bytes) {
-                return Ok((self.empty(column, 4), 4));
+                return Ok((empty_lob(column), 4));
             }
             return Ok((self.locator(column, bytes, 4), 4));
         }

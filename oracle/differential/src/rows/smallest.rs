@@ -1,7 +1,7 @@
 //! The smallest row that still differs, and the plainest columns for it.
 use super::columns::plain;
 use super::port_side::{Library, PortSide};
-use super::{request, rust_side, List};
+use super::{request, rust_side, Answer, List};
 use crate::run::Difference;
 use crate::shrink::Shrinking;
 use port::column::{Column, Numbers, Order, Type};
@@ -24,9 +24,11 @@ pub fn smallest<L: Library>(port: &mut PortSide<L>, list: &List, data: &[u8]) ->
         ..
     } = found;
     let asked = request(&list, &left);
+    let rust = rust_side::answer(&list, &left);
+    let port = differing(port, &list, &left, &rust).unwrap_or(rust.clone());
     Difference {
-        rust: format!("{asked} A {}", rust_side::answer(&list, &left).shown(&left)),
-        port: format!("{asked} A {}", port.answer(&list.words, &left).shown(&left)),
+        rust: format!("{asked} A {}", rust.shown(&left)),
+        port: format!("{asked} A {}", port.shown(&left)),
         lengths: Some((left.len(), data.len())),
     }
 }
@@ -39,11 +41,23 @@ struct Smallest<'a, L> {
     asked: usize,
 }
 
-/// Whether the two sides differ. Which lengths of buffers the port's side tries goes by turns: more than one is taken.
-fn differs<L: Library>(port: &mut PortSide<L>, list: &List, data: &[u8]) -> bool {
-    let rust = rust_side::answer(list, data);
+/// The port's answer, where it is not the Rust's. Which lengths of buffers the port's side tries goes by turns: it is asked more than
+/// once.
+fn differing<L: Library>(
+    port: &mut PortSide<L>,
+    list: &List,
+    data: &[u8],
+    rust: &Answer,
+) -> Option<Answer> {
     let turns = if data.len() < 10_000 { 12 } else { 1 };
-    (0..turns).any(|_| *port.answer(&list.words, data) != rust)
+    (0..turns).find_map(|_| {
+        let answer = port.answer(&list.words, data);
+        (answer != rust).then(|| answer.clone())
+    })
+}
+
+fn differs<L: Library>(port: &mut PortSide<L>, list: &List, data: &[u8]) -> bool {
+    differing(port, list, data, &rust_side::answer(list, data)).is_some()
 }
 
 impl<L: Library> Smallest<'_, L> {
@@ -116,12 +130,29 @@ impl<L: Library> Smallest<'_, L> {
     }
 
     fn cut_bytes(&mut self) {
+        self.cut_counted();
         let (port, list) = (&mut *self.port, &self.list);
-        let mut shrinking =
-            Shrinking::new(&self.data, BUDGET, |data: &[u8]| differs(port, list, data));
+        let differs = |data: &[u8]| differs(port, list, data);
+        let mut shrinking = Shrinking::new(&self.data, BUDGET, differs);
         shrinking.cut();
         shrinking.lower();
         self.data = shrinking.data;
+    }
+
+    /// Takes out bytes that a byte before them may count, and counts fewer.
+    fn cut_counted(&mut self) {
+        for place in 0..self.data.len().min(200) {
+            let counted = self.data.get(place).copied().unwrap_or(0);
+            for fewer in [counted, counted / 2, 1] {
+                let end = place + 1 + usize::from(fewer);
+                if fewer == 0 || end > self.data.len() || fewer > self.data[place] {
+                    continue;
+                }
+                let mut data = [&self.data[..=place], &self.data[end..]].concat();
+                data[place] -= fewer;
+                self.take(self.list.clone(), data);
+            }
+        }
     }
 
     /// Makes each column plain, field by field, and its numbers small.
@@ -138,15 +169,16 @@ impl<L: Library> Smallest<'_, L> {
                 |column| column.precision = 0,
                 |column| column.scale = 0,
             ];
-            self.change(place, &|column| *column = plain(own));
+            self.change(place, 0, &|column| *column = plain(own));
             for field in fields {
-                self.change(place, &field);
+                self.change(place, 0, &field);
             }
             self.lower_numbers(place);
         }
     }
 
-    fn change(&mut self, place: usize, field: &dyn Fn(&mut Column)) -> bool {
+    /// Takes the list with a column changed, and with it the row as it is or so many bytes shorter.
+    fn change(&mut self, place: usize, shorter: usize, field: &dyn Fn(&mut Column)) -> bool {
         let mut columns = self.list.columns.clone();
         let before = columns[place];
         field(&mut columns[place]);
@@ -154,50 +186,57 @@ impl<L: Library> Smallest<'_, L> {
         if columns[place] == before {
             return false;
         }
-        self.take(List::of(&columns), self.data.clone())
+        let list = List::of(&columns);
+        // Fewer bytes at the end, or behind the first, which may say what the bytes are.
+        let end = self.data.len().saturating_sub(shorter);
+        if shorter > 0 && end > 0 {
+            let cut = self.data[..end].to_vec();
+            let behind = [&self.data[..1], &self.data[1 + shorter..]].concat();
+            if self.take(list.clone(), cut) || self.take(list.clone(), behind) {
+                return true;
+            }
+        }
+        self.take(list, self.data.clone())
+    }
+
+    /// Tries smaller numbers for one that stands in a column, the smallest first.
+    fn lower_number(&mut self, place: usize, number: u16, put: fn(&mut Column, u16)) {
+        for lower in lower(number) {
+            let shorter = usize::from(number & 0x7FFF).saturating_sub(usize::from(lower & 0x7FFF));
+            if self.change(place, shorter, &|column| put(column, lower)) {
+                return;
+            }
+        }
     }
 
     fn lower_numbers(&mut self, place: usize) {
         let column = self.list.columns[place];
-        if column.db2_type.name.numbers() == Numbers::PrecisionAndScale {
-            let [precision, scale] = column.db2_type.precision_and_scale();
-            for lower in lower(precision.into()) {
-                let own = Type::decimal(lower as u8, scale);
-                if self.change(place, &|column| column.db2_type = own) {
-                    break;
-                }
+        let own = column.db2_type;
+        let [precision, scale] = own.precision_and_scale();
+        match own.name.numbers() {
+            Numbers::None => {}
+            Numbers::PrecisionAndScale => {
+                self.lower_number(place, precision.into(), |column, lower| {
+                    let [_, scale] = column.db2_type.precision_and_scale();
+                    column.db2_type = Type::decimal(lower as u8, scale);
+                });
+                self.lower_number(place, scale.into(), |column, lower| {
+                    let [precision, _] = column.db2_type.precision_and_scale();
+                    column.db2_type = Type::decimal(precision, lower as u8);
+                });
             }
-            let [precision, _] = self.list.columns[place].db2_type.precision_and_scale();
-            for lower in lower(scale.into()) {
-                let own = Type::decimal(precision, lower as u8);
-                if self.change(place, &|column| column.db2_type = own) {
-                    break;
-                }
-            }
-        } else if column.db2_type.name.numbers() != Numbers::None {
-            for lower in lower(column.db2_type.numbers) {
-                if self.change(place, &|column| column.db2_type.numbers = lower) {
-                    break;
-                }
-            }
+            _ => self.lower_number(place, own.numbers, |column, lower| {
+                column.db2_type.numbers = lower;
+            }),
         }
-        for lower in lower(column.length) {
-            if self.change(place, &|column| column.length = lower) {
-                break;
-            }
-        }
-        for lower in lower(column.reference.unwrap_or(0)) {
-            if self.change(place, &|column| {
-                column.reference = column.reference.map(|_| lower)
-            }) {
-                break;
-            }
-        }
+        self.lower_number(place, column.length, |column, lower| column.length = lower);
+        self.lower_number(place, column.reference.unwrap_or(0), |column, lower| {
+            column.reference = column.reference.map(|_| lower);
+        });
         for ccsid in [0, 37, 500, 819, 1200, 1208, 13488] {
-            if ccsid >= self.list.columns[place].ccsid
-                || self.change(place, &|column| column.ccsid = ccsid)
-            {
-                break;
+            let now = self.list.columns[place].ccsid;
+            if ccsid >= now || self.change(place, 0, &|column| column.ccsid = ccsid) {
+                return;
             }
         }
     }

@@ -1,7 +1,9 @@
 //! `answers port|rust < requests`: each line of standard input whole, with the answer behind it.
+use differential::descriptions::Description;
 use differential::port_side::{Archive, PortSide};
 use differential::request::{self, Call, Request};
-use differential::{descriptions, rust_side};
+use differential::rows::List;
+use differential::{descriptions, rows, rust_side};
 use std::io::{self, BufRead, BufWriter, Write};
 use std::process::ExitCode;
 
@@ -15,6 +17,7 @@ fn main() -> ExitCode {
                 descriptions: descriptions::port_side::PortSide::new(
                     descriptions::port_side::Archive,
                 ),
+                rows: rows::port_side::PortSide::new(rows::port_side::Archive),
             };
             answer_lines(|request| port.answer(request))
         }
@@ -33,7 +36,16 @@ fn main() -> ExitCode {
 fn rust_answer(request: &Request) -> String {
     match request {
         Request::Leaf(Call { leaf, data }) => format!("A {}", rust_side::answer(*leaf, data)),
-        Request::Description { data, .. } => descriptions::rust_side::describe(data).to_string(),
+        Request::Description { data, row } => {
+            let description = descriptions::rust_side::describe(data);
+            described(&description, |list| {
+                rows::rust_side::answer(list, row).shown(row)
+            })
+        }
+        Request::Row { columns, data } => {
+            let list = List::of(columns);
+            format!("A {}", rows::rust_side::answer(&list, data).shown(data))
+        }
         Request::FixedLength(asked) => descriptions::rust_side::fixed_length(*asked).to_string(),
     }
 }
@@ -41,6 +53,7 @@ fn rust_answer(request: &Request) -> String {
 struct Port {
     texts: PortSide<Archive>,
     descriptions: descriptions::port_side::PortSide<descriptions::port_side::Archive>,
+    rows: rows::port_side::PortSide<rows::port_side::Archive>,
 }
 
 impl Port {
@@ -48,9 +61,26 @@ impl Port {
     fn answer(&mut self, request: &Request) -> String {
         match request {
             Request::Leaf(Call { leaf, data }) => format!("A {}", self.texts.answer(*leaf, data)),
-            Request::Description { data, .. } => self.descriptions.describe(data).to_string(),
+            Request::Description { data, row } => {
+                let description = self.descriptions.describe(data);
+                described(&description, |list| {
+                    self.rows.answer(&list.words, row).shown(row)
+                })
+            }
+            Request::Row { columns, data } => {
+                let list = List::of(columns);
+                format!("A {}", self.rows.answer(&list.words, data).shown(data))
+            }
             Request::FixedLength(asked) => self.descriptions.fixed_length(asked.word()).to_string(),
         }
+    }
+}
+
+/// The answer to a description and, where there are columns, the row's answer with them.
+fn described(description: &Description, row: impl FnOnce(&List) -> String) -> String {
+    match description {
+        Description::Columns(columns) => format!("{description} A {}", row(&List::of(columns))),
+        _ => description.to_string(),
     }
 }
 

@@ -123,7 +123,7 @@ pub fn random_leaf(random: &mut Random) -> Leaf {
     }
 }
 
-fn random_ccsid(random: &mut Random) -> u16 {
+pub fn random_ccsid(random: &mut Random) -> u16 {
     match random.below(16) {
         0..=4 => 1208,
         5..=12 => random.pick(&CCSIDS),
@@ -132,7 +132,7 @@ fn random_ccsid(random: &mut Random) -> u16 {
     }
 }
 
-fn random_scale(random: &mut Random) -> u8 {
+pub fn random_scale(random: &mut Random) -> u8 {
     match random.below(4) {
         0..=1 => random.below(20) as u8,
         2 => random.pick(&SCALES),

@@ -1,14 +1,22 @@
 //! Requests and answers, line by line. A line is a request, or a request with an answer behind ` A `, which is dropped, and with
 //! it the columns of a `Q` line.
 use crate::leaf::{Answer, Leaf, PRECISION};
-use port::column::{Name, Numbers, Type, NAMES};
+use port::column::{Column, Name, Numbers, Order, Type, NAMES};
 use std::fmt;
 
 /// What a line asks.
 #[derive(Debug, Clone, PartialEq, Eq)]
 pub enum Request {
     Leaf(Call),
-    Description { data: Vec<u8>, row: Vec<u8> },
+    Description {
+        data: Vec<u8>,
+        row: Vec<u8>,
+    },
+    /// A row with a caller's own columns.
+    Row {
+        columns: Vec<Column>,
+        data: Vec<u8>,
+    },
     FixedLength(Type),
 }
 
@@ -38,9 +46,21 @@ pub fn parse(line: &str) -> Result<Request, String> {
             data: bytes(data)?,
             row: bytes(row)?,
         }),
+        ["H", count, ref columns @ .., "R", data] if number::<usize>(count)? == columns.len() => {
+            let columns: Result<Vec<Column>, String> = columns
+                .iter()
+                .enumerate()
+                .map(|(place, field)| column(place, field))
+                .collect();
+            Ok(Request::Row {
+                columns: columns?,
+                data: bytes(data)?,
+            })
+        }
         ["F", asked] => Ok(Request::FixedLength(type_of(asked)?)),
-        ["T" | "G" | "L" | "P" | "Q" | "F", ..] => Err(format!("wrong fields: {}", cut(asked))),
-        ["H", ..] => Err("H lines are not answered yet".to_string()),
+        ["T" | "G" | "L" | "P" | "Q" | "H" | "F", ..] => {
+            Err(format!("wrong fields: {}", cut(asked)))
+        }
         _ => Err(format!("no kind of request: {}", cut(asked))),
     }
 }
@@ -59,6 +79,42 @@ fn asked(line: &str) -> &str {
 fn call(leaf: Leaf, data: &str) -> Result<Request, String> {
     let data = bytes(data)?;
     Ok(Request::Leaf(Call { leaf, data }))
+}
+
+/// A column by its fields; its number is its place.
+fn column(place: usize, field: &str) -> Result<Column, String> {
+    let none = || format!("no column: {}", cut(field));
+    let fields: Vec<&str> = field.split(':').collect();
+    let [db2_type, code, length, precision, scale, nullable, ccsid, reference, order] = fields[..]
+    else {
+        return Err(none());
+    };
+    let &[code] = &bytes(code)?[..] else {
+        return Err(none());
+    };
+    Ok(Column {
+        index: u16::try_from(place).map_err(|_| "too many columns".to_string())?,
+        db2_type: type_of(db2_type)?,
+        code,
+        length: number(length)?,
+        precision: number(precision)?,
+        scale: number(scale)?,
+        nullable: match nullable {
+            "0" => false,
+            "1" => true,
+            _ => return Err(none()),
+        },
+        ccsid: number(ccsid)?,
+        reference: match reference {
+            "-" => None,
+            _ => Some(number(reference)?),
+        },
+        order: match order {
+            "B" => Order::Big,
+            "L" => Order::Little,
+            _ => return Err(none()),
+        },
+    })
 }
 
 /// A type by its name and, behind points, its numbers.
@@ -121,7 +177,7 @@ fn cut(text: &str) -> String {
 }
 
 /// Bytes as the format writes them.
-struct Hex<'a>(&'a [u8]);
+pub struct Hex<'a>(pub &'a [u8]);
 
 impl fmt::Display for Hex<'_> {
     fn fmt(&self, f: &mut fmt::Formatter<'_>) -> fmt::Result {
@@ -144,6 +200,13 @@ impl fmt::Display for Request {
         match self {
             Request::Leaf(call) => call.fmt(f),
             Request::Description { data, row } => write!(f, "Q {} R {}", Hex(data), Hex(row)),
+            Request::Row { columns, data } => {
+                write!(f, "H {}", columns.len())?;
+                for column in columns {
+                    write!(f, " {column}")?;
+                }
+                write!(f, " R {}", Hex(data))
+            }
             Request::FixedLength(asked) => write!(f, "F {asked}"),
         }
     }
@@ -196,6 +259,9 @@ mod tests {
             "P 255 1D",
             "Q 0576D00500 R -",
             "Q - R 00",
+            "H 0 R -",
+            "H 1 Blob:C8:32768:0:0:0:0:0:L R -",
+            "H 2 Decimal.5.2:0F:3:5:2:1:0:-:B Char.3:31:3:0:0:1:37:65535:L R 0012345C00C1C2C3",
             "F Xml",
             "F Char.65535",
             "F DecFloat.255",
@@ -210,10 +276,14 @@ mod tests {
         assert_eq!(parse("T 37 C1 A 41").unwrap().to_string(), "T 37 C1");
         assert_eq!(parse("P 0 - A REFUSE6").unwrap().to_string(), "P 0 -");
         assert_eq!(parse("F Time A 8").unwrap().to_string(), "F Time");
+        assert_eq!(
+            parse("H 0 R 00 A OK 0 - 0").unwrap().to_string(),
+            "H 0 R 00"
+        );
         for answer in [
-            "C 0 A ROWLESS",
+            "C 0 A OK 0 - 0",
             "C - A REFUSE2",
-            "C 1 Xml:DC:0:0:0:0:0:-:L A ROWLESS",
+            "C 1 Xml:DC:0:0:0:0:0:-:L A SHORT 4 0",
         ] {
             let line = format!("Q 0570DC0000 R 00 {answer}");
             assert_eq!(parse(&line).unwrap().to_string(), "Q 0570DC0000 R 00");
@@ -244,7 +314,16 @@ mod tests {
             "Q - R",
             "Q - -",
             "Q - R - R -",
-            "H 0 R -",
+            "H 0 -",
+            "H R -",
+            "H 1 R -",
+            "H 0 Xml:DC:0:0:0:0:0:-:L R -",
+            "H 1 Xml:DC:0:0:0:0:0:-:X R -",
+            "H 1 Xml:DC:0:0:0:2:0:-:L R -",
+            "H 1 Xml:DC:0:0:0:0:0:L R -",
+            "H 1 Xml:DCDC:0:0:0:0:0:-:L R -",
+            "H 1 Xml:-:0:0:0:0:0:-:L R -",
+            "H 1 Xml:DC:65536:0:0:0:0:-:L R -",
             "F",
             "F xml",
             "F Xml.0",

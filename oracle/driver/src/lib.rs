@@ -9,14 +9,16 @@
 //! - `faults`: wrong libraries, to see that the run notices them
 //! - `descriptions`: all of this for descriptions and types
 //! - `options`: the options of the programs that compare
+pub mod command;
 pub mod compare;
 pub mod descriptions;
 pub mod faults;
 pub mod inputs;
 pub mod leaf;
-pub mod options;
 pub mod port_side;
 pub mod random;
 pub mod request;
+pub mod rows;
+pub mod run;
 pub mod rust_side;
 pub mod shrink;

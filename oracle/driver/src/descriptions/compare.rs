@@ -3,29 +3,13 @@
 use super::inputs::{self, KINDS};
 use super::port_side::{Library, PortSide};
 use super::{rust_side, Description, FixedLength};
-use crate::compare::Until;
 use crate::random::Random;
 use crate::request::Request;
-use crate::shrink::{cut_line, Shrinking};
+use crate::run::{Difference, End, Flow, Until};
+use crate::shrink::Shrinking;
 use port::column::{Name, Numbers, Type, NAMES};
 use port::NO_TYPE_WORD;
-use std::fmt;
-use std::ops::ControlFlow::{self, Break, Continue};
-
-/// Why a run ended.
-pub enum End {
-    /// All that was asked for ran, and nothing differed.
-    Enough,
-    Different(Difference),
-}
-
-/// Two answers to one request, as lines.
-pub struct Difference {
-    pub rust: String,
-    pub port: String,
-    /// The bytes of the description that is left, and of that with which the difference was first seen; None for a type.
-    pub lengths: Option<(usize, usize)>,
-}
+use std::ops::ControlFlow::{Break, Continue};
 
 /// The parts of a run. The last has no end of its own.
 #[derive(Debug, Clone, Copy, PartialEq, Eq, PartialOrd, Ord)]
@@ -96,8 +80,6 @@ impl Counts {
 /// How many bytes a pass may ask about that makes a description smaller.
 const BUDGET: usize = 4_000_000;
 
-type Flow = ControlFlow<End>;
-
 pub struct Run<L> {
     port: PortSide<L>,
     random: Random,
@@ -146,7 +128,7 @@ impl<L: Library> Run<L> {
         if rust == self.port.describe(data) {
             return Continue(());
         }
-        Break(End::Different(self.smallest(data)))
+        Break(End::Different(Box::new(smallest(&mut self.port, data))))
     }
 
     /// One word as a type word. The Rust has no answer for one that is none.
@@ -169,11 +151,11 @@ impl<L: Library> Run<L> {
             Some(asked) => Request::FixedLength(asked).to_string(),
             None => format!("vejupa_fixed_length(0x{word:X})"),
         };
-        Break(End::Different(Difference {
+        Break(End::Different(Box::new(Difference {
             rust: format!("{request} {rust}"),
             port: format!("{request} {port}"),
             lengths: None,
-        }))
+        })))
     }
 
     /// Every type with every number that it can hold, and words that are no type's.
@@ -239,35 +221,35 @@ impl<L: Library> Run<L> {
             self.description(&data)?;
         }
     }
+}
 
-    /// The smallest description found that still differs: triplets and parts of them are cut out, then bytes lowered.
-    fn smallest(&mut self, data: &[u8]) -> Difference {
-        let differs = |data: &[u8]| rust_side::describe(data) != self.port.describe(data);
-        let mut shrinking = Shrinking::new(data, BUDGET, differs);
-        // A byte that was lowered may let others go.
-        loop {
-            let before = shrinking.data.clone();
-            cut_triplets(&mut shrinking);
-            cut_in_triplets(&mut shrinking);
-            shrinking.cut();
-            shrinking.lower();
-            if shrinking.data == before {
-                break;
-            }
+/// The smallest description found that still differs: triplets and parts of them are cut out, then bytes lowered.
+pub fn smallest<L: Library>(port: &mut PortSide<L>, data: &[u8]) -> Difference {
+    let differs = |data: &[u8]| rust_side::describe(data) != port.describe(data);
+    let mut shrinking = Shrinking::new(data, BUDGET, differs);
+    // A byte that was lowered may let others go.
+    loop {
+        let before = shrinking.data.clone();
+        cut_triplets(&mut shrinking);
+        cut_in_triplets(&mut shrinking);
+        shrinking.cut();
+        shrinking.lower();
+        if shrinking.data == before {
+            break;
         }
-        let smallest = shrinking.data;
-        let rust = rust_side::describe(&smallest);
-        let port = self.port.describe(&smallest);
-        let lengths = Some((smallest.len(), data.len()));
-        let request = Request::Description {
-            data: smallest,
-            row: Vec::new(),
-        };
-        Difference {
-            rust: format!("{request} {rust}"),
-            port: format!("{request} {port}"),
-            lengths,
-        }
+    }
+    let smallest = shrinking.data;
+    let rust = rust_side::describe(&smallest);
+    let port = port.describe(&smallest);
+    let lengths = Some((smallest.len(), data.len()));
+    let request = Request::Description {
+        data: smallest,
+        row: Vec::new(),
+    };
+    Difference {
+        rust: format!("{request} {rust}"),
+        port: format!("{request} {port}"),
+        lengths,
     }
 }
 
@@ -321,15 +303,5 @@ fn cut_in_triplets<F: FnMut(&[u8]) -> bool>(shrinking: &mut Shrinking<F>) {
                 }
             }
         }
-    }
-}
-
-impl fmt::Display for Difference {
-    fn fmt(&self, f: &mut fmt::Formatter<'_>) -> fmt::Result {
-        if let Some((now, first)) = self.lengths {
-            writeln!(f, "smallest description found has {now} bytes, of {first}:")?;
-        }
-        let Difference { rust, port, .. } = self;
-        write!(f, "rust: {}\nport: {}", cut_line(rust), cut_line(port))
     }
 }

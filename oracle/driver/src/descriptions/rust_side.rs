@@ -21,7 +21,7 @@ pub fn parsed(data: &[u8]) -> Vec<ColumnDescriptor> {
 }
 
 pub fn fixed_length(asked: Type) -> FixedLength {
-    match published(asked).fixed_length() {
+    match published_type(asked).fixed_length() {
         Some(length) => FixedLength::Bytes(length as u64),
         None => FixedLength::Varies,
     }
@@ -81,7 +81,7 @@ fn named(published: &Db2Type) -> Type {
 }
 
 /// The Rust's type of a name and its numbers.
-fn published(asked: Type) -> Db2Type {
+pub fn published_type(asked: Type) -> Db2Type {
     let length = asked.numbers;
     let [precision, scale] = asked.precision_and_scale();
     match asked.name {
@@ -128,8 +128,9 @@ mod tests {
         for name in NAMES {
             for numbers in [0, 5, 34, 0x0205, 0x8000, 0xFFFF] {
                 if let Some(asked) = Type::from_word(name.with(numbers).word()) {
-                    assert_eq!(named(&published(asked)), asked);
-                    assert!(format!("{:?}", published(asked)).starts_with(&format!("{name:?}")));
+                    assert_eq!(named(&published_type(asked)), asked);
+                    let shown = format!("{:?}", published_type(asked));
+                    assert!(shown.starts_with(&format!("{name:?}")));
                 }
             }
         }
@@ -155,14 +156,14 @@ mod tests {
     #[test]
     fn known_answers() {
         let shown = |data: &[u8]| describe(data).to_string();
-        assert_eq!(shown(&[]), "C 0 A ROWLESS");
+        assert_eq!(shown(&[]), "C 0");
         assert_eq!(
             shown(&[9, 0x76, 0xD0, 5, 0, 2, 0x0F, 5, 2]),
-            "C 2 SmallInt:05:2:0:0:1:0:-:B Decimal.5.2:0F:3:5:2:1:0:-:B A ROWLESS"
+            "C 2 SmallInt:05:2:0:0:1:0:-:B Decimal.5.2:0F:3:5:2:1:0:-:B"
         );
         assert_eq!(
             shown(&[5, 0x70, 0xC8, 0x80, 0]),
-            "C 1 Blob:C8:32768:0:0:0:0:0:L A ROWLESS"
+            "C 1 Blob:C8:32768:0:0:0:0:0:L"
         );
         assert_eq!(fixed_length(Name::Graphic.with(3)), FixedLength::Bytes(6));
         assert_eq!(fixed_length(Name::Xml.plain()), FixedLength::Varies);

@@ -87,13 +87,6 @@ pub const FAULTS: [Fault; 25] = [
     Fault::HighBitTaken,
 ];
 
-impl Fault {
-    pub fn named(name: &str) -> Result<Fault, String> {
-        let found = FAULTS.iter().find(|fault| format!("{fault:?}") == name);
-        found.copied().ok_or(format!("the faults are {FAULTS:?}"))
-    }
-}
-
 /// The archive with a fault.
 pub struct Faulty(pub Fault);
 
@@ -259,8 +252,8 @@ impl Library for Faulty {
 #[cfg(test)]
 mod tests {
     use super::*;
-    use crate::compare::Until;
-    use crate::descriptions::compare::{Difference, End, Run, Stage};
+    use crate::descriptions::compare::{Run, Stage};
+    use crate::run::{Difference, End, Until};
 
     /// The first stage that can notice a fault: those before it would cost time.
     fn stage(fault: Fault) -> Stage {
@@ -279,7 +272,7 @@ mod tests {
     fn found(fault: Fault) -> Difference {
         let mut run = Run::new(Faulty(fault), 1, Until::Cases(10_000_000));
         match run.from(stage(fault)) {
-            End::Different(difference) => difference,
+            End::Different(difference) => *difference,
             End::Enough => panic!("{fault:?} was not noticed"),
         }
     }
@@ -288,24 +281,22 @@ mod tests {
     fn smallest(fault: Fault) -> String {
         let line = match fault {
             Fault::LaterEntry => {
-                "Q 0378000370440378010370440676D0440000 R - C 1 VarChar.0:01:0:0:0:1:0:-:B A ROWLESS"
+                "Q 0378000370440378010370440676D0440000 R - C 1 VarChar.0:01:0:0:0:1:0:-:B"
             }
-            Fault::GroupReal => "Q 0676D00A0000 R - C 1 Real:0A:0:0:0:0:0:-:B A ROWLESS",
-            Fault::GroupVarChar => "Q 0676D0CE0000 R - C 1 VarChar.0:CE:0:0:0:0:1208:-:B A ROWLESS",
-            Fault::PendingKept => "Q 0378000200037000 R - C 0 A ROWLESS",
-            Fault::EmptyMddIgnored => "Q 0378000278037000 R - C 0 A ROWLESS",
-            Fault::EmptySdaIgnored => "Q 0378000270037000 R - C 0 A ROWLESS",
+            Fault::GroupReal => "Q 0676D00A0000 R - C 1 Real:0A:0:0:0:0:0:-:B",
+            Fault::GroupVarChar => "Q 0676D0CE0000 R - C 1 VarChar.0:CE:0:0:0:0:1208:-:B",
+            Fault::PendingKept => "Q 0378000200037000 R - C 0",
+            Fault::EmptyMddIgnored => "Q 0378000278037000 R - C 0",
+            Fault::EmptySdaIgnored => "Q 0378000270037000 R - C 0",
             Fault::DeclaredNullable => {
-                "Q 0378510370510676D0510000 R - C 1 LobChar.0:51:0:0:0:1:0:-:B A ROWLESS"
+                "Q 0378510370510676D0510000 R - C 1 LobChar.0:51:0:0:0:1:0:-:B"
             }
-            Fault::DeclaredBinary => {
-                "Q 0378300370300676D0300000 R - C 1 Binary.0:30:0:0:0:0:0:-:B A ROWLESS"
-            }
+            Fault::DeclaredBinary => "Q 0378300370300676D0300000 R - C 1 Binary.0:30:0:0:0:0:0:-:B",
             Fault::IndexFromOne => "Q 037000 R - C - A BADINDEX",
             Fault::ReferenceLost | Fault::ReferenceZero => {
-                "Q 0570C88000 R - C 1 Blob:C8:32768:0:0:0:0:-:L A ROWLESS"
+                "Q 0570C88000 R - C 1 Blob:C8:32768:0:0:0:0:-:L"
             }
-            Fault::ReferenceBit => "Q 0570C88000 R - C 1 Blob:C8:32768:0:0:0:0:32768:L A ROWLESS",
+            Fault::ReferenceBit => "Q 0570C88000 R - C 1 Blob:C8:32768:0:0:0:0:32768:L",
             Fault::SpareBit => "Q 037000 R - C - A BADWORD",
             Fault::AfterColumns => "Q 037000 R - C - A BADREST",
             Fault::ChangedOn101 | Fault::TooFewTaken | Fault::CountOn101 => {
@@ -313,7 +304,7 @@ mod tests {
             }
             Fault::TooFewFirst => &repeated("037000", 129, "C - A BAD101"),
             Fault::BytesEarly => &repeated("00", 65_536, "C - A REFUSE1"),
-            Fault::BytesLate => &repeated("00", 65_537, "C 0 A ROWLESS"),
+            Fault::BytesLate => &repeated("00", 65_537, "C 0"),
             Fault::ColumnsEarly => &repeated("037000", 128, "C - A REFUSE2"),
             // So many bytes with columns in them take longer to make small than a test may.
             Fault::ColumnsFirst => "",

@@ -1,51 +1,14 @@
 //! The differential run: first inputs by rule, then random ones, each asked of both sides. It ends at the first difference,
 //! with the smallest input that it finds.
 use crate::inputs::{self, Style, EDGE_BYTES, LIMIT_LENGTHS, LONG_LENGTHS, SEQUENCES};
-use crate::leaf::{Answer, Leaf, KINDS};
+use crate::leaf::{Leaf, KINDS};
 use crate::port_side::{Library, PortSide};
 use crate::random::Random;
 use crate::request::Call;
+use crate::run::{Difference, End, Flow, Until};
 use crate::rust_side;
-use crate::shrink::{cut_line, Shrinking};
-use std::fmt;
-use std::ops::ControlFlow::{self, Break, Continue};
-use std::time::Instant;
-
-/// When a run without a difference ends.
-#[derive(Clone, Copy)]
-pub enum Until {
-    Cases(u64),
-    Time(Instant),
-}
-
-impl Until {
-    /// Whether a run ends after so many cases, before one with so many bytes.
-    pub fn reached(self, cases: u64, bytes: usize) -> bool {
-        match self {
-            Until::Cases(most) => cases >= most,
-            // The clock is read seldom where cases are short.
-            Until::Time(end) => {
-                (bytes > 1000 || cases.is_multiple_of(1024)) && Instant::now() >= end
-            }
-        }
-    }
-}
-
-/// Why a run ended.
-pub enum End {
-    /// All that was asked for ran, and nothing differed.
-    Enough,
-    Different(Box<Difference>),
-}
-
-/// Two answers to one request.
-pub struct Difference {
-    pub request: Call,
-    pub rust: Answer<'static>,
-    pub port: Answer<'static>,
-    /// The length of the input with which the difference was first seen.
-    pub first_length: usize,
-}
+use crate::shrink::Shrinking;
+use std::ops::ControlFlow::{Break, Continue};
 
 /// The parts of a run, the cheap ones first. The last has no end of its own.
 #[derive(Debug, Clone, Copy, PartialEq, Eq, PartialOrd, Ord)]
@@ -67,8 +30,6 @@ const STAGES: [Stage; 5] = [
 
 /// How many bytes a pass may ask about that makes an input smaller.
 const BUDGET: usize = 20_000_000;
-
-type Flow = ControlFlow<End>;
 
 pub struct Run<L> {
     port: PortSide<L>,
@@ -223,14 +184,17 @@ impl<L: Library> Run<L> {
         shrinking.cut();
         shrinking.lower();
         let smallest = shrinking.data;
+        let rust = rust_side::answer(leaf, &smallest);
+        let port = self.port.answer(leaf, &smallest);
+        let lengths = Some((smallest.len(), data.len()));
+        let request = Call {
+            leaf,
+            data: smallest.clone(),
+        };
         Difference {
-            rust: rust_side::answer(leaf, &smallest),
-            port: owned(self.port.answer(leaf, &smallest)),
-            request: Call {
-                leaf,
-                data: smallest,
-            },
-            first_length: data.len(),
+            rust: format!("{request} A {rust}"),
+            port: format!("{request} A {port}"),
+            lengths,
         }
     }
 
@@ -258,25 +222,4 @@ fn tuples<const N: usize>() -> Vec<[u8; N]> {
             })
         })
         .collect()
-}
-
-fn owned(answer: Answer<'_>) -> Answer<'static> {
-    match answer {
-        Answer::Text(text) => Answer::Text(text.into_owned().into()),
-        Answer::Truth(likely) => Answer::Truth(likely),
-        Answer::Refusal(number) => Answer::Refusal(number),
-        Answer::Bad9 => Answer::Bad9,
-        Answer::BadRest => Answer::BadRest,
-    }
-}
-
-impl fmt::Display for Difference {
-    fn fmt(&self, f: &mut fmt::Formatter<'_>) -> fmt::Result {
-        let Difference { request, .. } = self;
-        let (now, first) = (request.data.len(), self.first_length);
-        writeln!(f, "smallest input found has {now} bytes, of {first}:")?;
-        let rust = cut_line(&format!("{request} A {}", self.rust));
-        let port = cut_line(&format!("{request} A {}", self.port));
-        write!(f, "rust: {rust}\nport: {port}")
-    }
 }

@@ -73,13 +73,6 @@ pub const FAULTS: [Fault; 21] = [
     Fault::LocatorBeginning,
 ];
 
-impl Fault {
-    pub fn named(name: &str) -> Result<Fault, String> {
-        let found = FAULTS.iter().find(|fault| format!("{fault:?}") == name);
-        found.copied().ok_or(format!("the faults are {FAULTS:?}"))
-    }
-}
-
 /// The archive with a fault.
 pub struct Faulty(pub Fault);
 
@@ -229,7 +222,8 @@ impl Library for Faulty {
 #[cfg(test)]
 mod tests {
     use super::*;
-    use crate::compare::{Difference, End, Run, Stage, Until};
+    use crate::compare::{Run, Stage};
+    use crate::run::{Difference, End, Until};
 
     /// The first stage that can notice a fault: those before it would cost time.
     fn stage(fault: Fault) -> Stage {
@@ -278,17 +272,17 @@ mod tests {
     #[test]
     fn every_fault_is_noticed_and_its_input_made_small() {
         for fault in FAULTS {
-            let Difference { request, port, .. } = found(fault);
-            let line = format!("{request} A {port}");
-            let shown = &line[..line.len().min(60)];
-            assert!(line.starts_with(smallest(fault)), "{fault:?}: {shown}");
+            let Difference { port, lengths, .. } = found(fault);
+            let shown = &port[..port.len().min(60)];
+            assert!(port.starts_with(smallest(fault)), "{fault:?}: {shown}");
             let length = match fault {
                 Fault::LimitEarly => TEXT_LIMIT,
                 Fault::LimitLate => TEXT_LIMIT + 1,
                 Fault::DecimalLimitEarly => 128,
                 _ => continue,
             };
-            assert_eq!(request.data, vec![0; length], "{fault:?}");
+            assert_eq!(lengths.map(|(now, _)| now), Some(length), "{fault:?}");
+            assert!(port.contains(&"00".repeat(length)), "{fault:?}");
         }
     }
 }

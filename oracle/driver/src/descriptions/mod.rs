@@ -48,7 +48,7 @@ pub enum FixedLength {
     BadFixed,
 }
 
-/// The answer of a `Q` line, from ` C ` on. Rows are not asked for yet: ROWLESS stands in for their answer.
+/// The answer of a `Q` line, from ` C ` on; where there are columns the row's answer is to follow.
 impl fmt::Display for Description {
     fn fmt(&self, f: &mut fmt::Formatter<'_>) -> fmt::Result {
         match self {
@@ -57,7 +57,7 @@ impl fmt::Display for Description {
                 for column in columns {
                     write!(f, " {column}")?;
                 }
-                f.write_str(" A ROWLESS")
+                Ok(())
             }
             Description::Refusal(number) => write!(f, "C - A REFUSE{number}"),
             Description::BadIndex => f.write_str("C - A BADINDEX"),

@@ -26,15 +26,16 @@ static uint64_t first, second;
 
 /* The fields of a column's words, each unlike its neighbours. */
 static void fields_of_a_column(void) {
-    const uint64_t column[] = {UINT64_C(0x000700FAC9123407), UINT64_C(0x000404B802058003)};
+    const uint64_t column[] = {UINT64_C(0x000500FAC9123407), UINT64_C(0x000404B802058003)};
+    const uint64_t little[] = {UINT64_C(0x0002000000000000), 0};
     CHECK(vejupa_column_type(column) == VEJUPA_TYPE_CHAR);
     CHECK(vejupa_column_type_numbers(column) == 0x1234);
     CHECK(vejupa_column_type_word(column) == 0x123407);
     CHECK(vejupa_column_drda_type(column) == 0xC9);
     CHECK(vejupa_column_number(column) == 0xFA);
-    CHECK(vejupa_column_nullable(column));
-    CHECK(vejupa_column_little_endian(column));
-    CHECK(vejupa_column_has_reference_length(column));
+    CHECK(vejupa_column_nullable(column) && !vejupa_column_nullable(little));
+    CHECK(!vejupa_column_little_endian(column) && vejupa_column_little_endian(little));
+    CHECK(vejupa_column_has_reference_length(column) && !vejupa_column_has_reference_length(little));
     CHECK(vejupa_column_length(column) == 0x8003);
     CHECK(vejupa_column_precision(column) == 5);
     CHECK(vejupa_column_scale(column) == 2);

@@ -1,0 +1,57 @@
+-- The writing loop over columns by value: the texts in the buffer, and the values in their places. Assumes nothing.
+use Prim.Native.Nat.{ℕ, _+_, _-_, _≤_, _<_}
+use mathlib.Core.Path.{_≡_, refl, sym, ap, _∙_}
+use mathlib.Core.List.{List, [], _∷_, _++_}
+use native.Mathlib.Omega.{arith}
+use lib.ListN.{length, take, drop, set, replicate}
+use Rattle.types.specs.declared.ColumnDescriptor.{ColumnDescriptor}
+use Rattle.types.specs.declared.ValuePlace.{ValuePlace}
+use Rattle.types.specs.Places.{maxColumns, filled, blankValue}
+use Rattle.buffer.specs.Buffer.{written}
+use Rattle.buffer.proofs.Writing.{Writing, fits}
+use Rattle.rules.specs.Walk.{columnNeed, Piece, done, walkBody}
+use Rattle.rules.specs.Row.{pieceValue, rowValues, rowTexts}
+use Rattle.rules.specs.Conversions.{ported}
+use Rattle.rules.proofs.Walks.{piecesOf}
+use Rattle.rules.proofs.Progress.{pieceAt, textIn, Placing, placing-start, placing-step, placing-end, placed-start, placed-step}
+
+-- the next unwritten byte is within the buffer
+pub next-within : {T d l out : List ℕ} {o : ℕ} → Writing T d l out o → o ≤ length out
+next-within w = omega (arith, fits w)
+
+-- the columns cs of the input s, whose walk ends at `end`; d is the text buffer as it was
+module _ (cs : List ColumnDescriptor) (start : ℕ) (s : List ℕ) (end : ℕ) (d : List ℕ) where
+  abbrev pub pieces : List Piece
+  pieces = piecesOf (walkBody cs start s)
+
+  pub record Filling (places : List ValuePlace) (i at next : ℕ) (out : List ℕ) : Type 0 where
+    pub passed : List Piece
+    pub placing : Placing ported cs start s pieces end d passed i at next out
+    pub placed : places ≡ filled blankValue (rowValues ported passed 0)
+
+  pub filling-start : start ≤ length s → walkBody cs start s ≡ done pieces end → length (rowTexts ported pieces) ≤ length d
+      → (b : ValuePlace) → b ≡ blankValue → Filling (replicate maxColumns b) 0 start 0 d
+  filling-start h w k b e =
+      record {
+        passed = [];
+        placing = placing-start ported cs start s pieces end d h w k;
+        placed = rw e (placed-start ported);
+      }
+
+  pub filling-step : {places : List ValuePlace} {i at next : ℕ} {out : List ℕ} → (f : Filling places i at next out)
+      → (c : ColumnDescriptor) → drop i cs ≡ c ∷ drop (i + 1) cs → (r : List ℕ) → r ≡ drop at s → i < maxColumns
+      → (v : ValuePlace) → v ≡ pieceValue ported (pieceAt c at r) next → (n k : ℕ) → n ≡ columnNeed c r → k ≡ length (textIn ported c r)
+      → (ys : List ℕ) → ys ≡ written (textIn ported c r) (take (length out - next) (drop next out))
+      → Filling (set places i v) (i + 1) (at + n) (next + k) (take next out ++ (ys ++ drop (length out - next) (drop next out)))
+  filling-step {places} {i} {at} {next} {out} f c e r q h v g n k y z ys w =
+      record {
+        passed = f .passed ++ (pieceAt c at r ∷ []);
+        placing = placing-step ported cs start s pieces end d (f .placing) c e r q n k y z ys w;
+        placed = placed-step ported (f .passed) places (f .placed) i next (f .placing .count) h (f .placing .sum) (pieceAt c at r) v g;
+      }
+
+  pub filling-end : {places : List ValuePlace} {i at next : ℕ} {out : List ℕ} → Filling places i at next out → length cs ≤ i
+      → (places ≡ filled blankValue (rowValues ported pieces 0)) × (at ≡ end) × (out ≡ written (rowTexts ported pieces) d)
+  filling-end f h =
+      let e = placing-end ported cs start s pieces end d (f .placing) h in
+      (f .placed ∙ ap (λ (l : List Piece). filled blankValue (rowValues ported l 0)) (sym (e .0)), sym (e .1), e .2)

@@ -1,0 +1,3 @@
+pub mod Wholes
+pub mod Filling
+pub mod Scales

@@ -67,12 +67,12 @@ Fitting type.Xml = Unit {0}
 Fitting type.Null = Unit {0}
 
 -- its place and its numbers have their widths, and they name it
-record Named (t : Db2Type) : Type 0 where
-  place : nameOf t < 256
-  numbers : ownNumbers t < 65536
-  back : typeNamed (nameOf t) (ownNumbers t) ≡ t
+pub record Named (t : Db2Type) : Type 0 where
+  pub place : nameOf t < 256
+  pub numbers : ownNumbers t < 65536
+  pub back : typeNamed (nameOf t) (ownNumbers t) ≡ t
 
-named : (t : Db2Type) → Fitting t → Named t
+pub named : (t : Db2Type) → Fitting t → Named t
 unfolding typeNamed
 named type.SmallInt h = record { place = omega arith; numbers = omega arith; back = refl }
 named type.Integer h = record { place = omega arith; numbers = omega arith; back = refl }

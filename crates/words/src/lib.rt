@@ -1,19 +1,34 @@
-// Inner. Types and columns as plain words of 64 bits, for the calls of C and Rust: specs/Words.antt has the layout. It reads no description
-// and no row.
+// Inner. Types, columns and values as plain words of 64 bits, for the calls of C and Rust: specs/Words.antt and specs/Values.antt have the
+// layout. It reads no description and no row.
 use types::ByteOrder;
 use types::ColumnDescriptor;
 use types::Db2Type;
+use types::Db2Value;
 use types::ReferenceLength;
+use types::ValuePlace;
 ghost use mathlib.Core.Path.{_≡_};
 ghost use mathlib.Core.Bool.{cond};
-ghost use Prim.Native.Nat.{_<_, _≤_, _^_};
+ghost use Prim.Native.Nat.{_+_, _*_, _<_, _≤_, _^_};
+ghost use lib.Dec.{eqb};
+ghost use lib.Ieee.{binary32, binary64};
+ghost use mir.Syntax.{w64};
+ghost use mir.Val.{ofZ};
 ghost use Rattle.types.specs.Names.{nameOf};
 ghost use Rattle.words.specs.Words.{ownNumbers, packType, littleEndianBit, referenceBit, referenceWidth, firstWord, secondWord, typeNamed, toldType, readType};
+ghost use Rattle.words.specs.Reading.{orderNamed, referenceNamed, columnNamed, isColumn};
+ghost use Rattle.words.specs.Values.{sortWord, bitsOf, numberWord, lengthWord, kindWord};
 
 // The two words of a column.
 pub struct ColumnWords {
     pub first: u64,
     pub second: u64,
+}
+
+// The three words of a value.
+pub struct ValueWords {
+    pub kind: u64,
+    pub number: u64,
+    pub len: u64,
 }
 
 // What a word says of a type.
@@ -105,10 +120,10 @@ pub fn type_word(t: Db2Type) -> u64
     (tag(t) as u64) + (own_numbers(t) as u64) * 0x100
 }
 
-fn nullable_bit(nullable: bool) -> u64
-    ensures { λ r. ⌜ (r ≡ cond nullable 1 0) × (r ≤ 1) ⌝ }
+fn flag_bit(flag: bool) -> u64
+    ensures { λ r. ⌜ (r ≡ cond flag 1 0) × (r ≤ 1) ⌝ }
 {
-    if nullable { 1 } else { 0 }
+    if flag { 1 } else { 0 }
 }
 
 fn little_endian_bit(order: ByteOrder) -> u64
@@ -147,7 +162,7 @@ pub fn column_words(c: ColumnDescriptor) -> ColumnWords
     let first = type_word(db2_type)
         + (c.drda_type as u64) * 0x100_0000
         + (c.column_index as u64) * 0x1_0000_0000
-        + nullable_bit(c.nullable) * 0x1_0000_0000_0000
+        + flag_bit(c.nullable) * 0x1_0000_0000_0000
         + little_endian_bit(order) * 0x2_0000_0000_0000
         + reference_bit(reference) * 0x4_0000_0000_0000;
     let second = (c.length as u64)
@@ -211,4 +226,219 @@ pub fn read_type_word(word: u64) -> TypeRead
     } else {
         TypeRead::NoType
     }
+}
+
+fn order_named(bit: u64) -> ByteOrder
+    ensures { λ r. ⌜ r ≡ orderNamed bit ⌝ }
+{
+    if bit == 1 {
+        return ByteOrder::LittleEndian;
+    }
+    ByteOrder::BigEndian
+}
+
+fn reference_named(bit: u64, n: u16) -> ReferenceLength
+    ensures { λ r. ⌜ r ≡ referenceNamed bit n ⌝ }
+{
+    if bit == 1 {
+        return ReferenceLength::Width(n);
+    }
+    ReferenceLength::Absent
+}
+
+// The column that the bits of two words name. They are its words where is_column says so.
+pub fn column_named(first: u64, second: u64) -> ColumnDescriptor
+    ensures { λ r. ⌜ r ≡ columnNamed first second ⌝ }
+{
+    let db2_type = type_named((first % 0x100) as u8, (first / 0x100 % 0x1_0000) as u16);
+    let width = (second / 0x1_0000_0000_0000 % 0x1_0000) as u16;
+    let extdta_reference_length = reference_named(first / 0x4_0000_0000_0000 % 2, width);
+    let byte_order = order_named(first / 0x2_0000_0000_0000 % 2);
+    ColumnDescriptor {
+        column_index: (first / 0x1_0000_0000 % 0x100) as u8,
+        drda_type: (first / 0x100_0000 % 0x100) as u8,
+        length: (second % 0x1_0000) as u16,
+        precision: (second / 0x1_0000 % 0x100) as u8,
+        scale: (second / 0x100_0000 % 0x100) as u8,
+        nullable: first / 0x1_0000_0000_0000 % 2 == 1,
+        ccsid: (second / 0x1_0000_0000 % 0x1_0000) as u16,
+        db2_type,
+        extdta_reference_length,
+        byte_order,
+    }
+}
+
+// Whether the type of this name holds these numbers, and there is such a type.
+fn holds(tag: u8, n: u16) -> bool
+    ensures { λ r. ⌜ r ≡ eqb (packType (typeNamed tag n)) (tag + n * 2 ^ 8) ⌝ }
+{
+    match tag {
+        0 => n == 0,
+        1 => n == 0,
+        2 => n == 0,
+        3 => n == 0,
+        4 => n == 0,
+        5 => true,
+        6 => n < 0x100,
+        7 => true,
+        8 => true,
+        9 => n == 0,
+        10 => n == 0,
+        11 => true,
+        12 => true,
+        13 => n == 0,
+        14 => n == 0,
+        15 => n == 0,
+        16 => n == 0,
+        17 => n == 0,
+        18 => true,
+        19 => true,
+        20 => n == 0,
+        21 => n == 0,
+        22 => n == 0,
+        23 => true,
+        24 => true,
+        25 => true,
+        26 => n == 0,
+        27 => n == 0,
+        28 => n == 0,
+        _ => false,
+    }
+}
+
+// Whether two words are a column's. A column's number has 8 bits of its 16, nothing stands above its bits, and a reference length is 0 where
+// there is none.
+pub fn is_column(first: u64, second: u64) -> bool
+    ensures { λ r. ⌜ r ≡ isColumn first second ⌝ }
+{
+    if first / 0x100_0000_0000 % 0x100 != 0 {
+        return false;
+    }
+    if 0x8_0000_0000_0000 <= first {
+        return false;
+    }
+    if first / 0x4_0000_0000_0000 * 0xFFFF < second / 0x1_0000_0000_0000 {
+        return false;
+    }
+    holds((first % 0x100) as u8, (first / 0x100 % 0x1_0000) as u16)
+}
+
+// The bits of a signed number.
+fn signed_bits(z: i64) -> u64
+    ensures { λ r. ⌜ r ≡ ofZ w64 z ⌝ }
+{
+    if z < 0 {
+        return 0xFFFF_FFFF_FFFF_FFFF - ((-1 - z) as u64);
+    }
+    z as u64
+}
+
+fn real_bits(x: f32) -> u32
+    ensures { λ r. ⌜ r ≡ bitsOf binary32 x ⌝ }
+{
+    if x == x {
+        return f32::to_bits(x);
+    }
+    0
+}
+
+fn double_bits(x: f64) -> u64
+    ensures { λ r. ⌜ r ≡ bitsOf binary64 x ⌝ }
+{
+    if x == x {
+        return f64::to_bits(x);
+    }
+    0
+}
+
+fn sort_word(value: Db2Value) -> u64
+    ensures { λ r. ⌜ (r ≡ sortWord value) × (r < 2 ^ 8) ⌝ }
+{
+    match value {
+        Db2Value::Null => 0,
+        Db2Value::SmallInt(_) => 1,
+        Db2Value::Integer(_) => 2,
+        Db2Value::BigInt(_) => 3,
+        Db2Value::Real(_) => 4,
+        Db2Value::RealNan(_) => 5,
+        Db2Value::Double(_) => 6,
+        Db2Value::DoubleNan(_) => 7,
+        Db2Value::Decimal(_) => 8,
+        Db2Value::Char(_) => 9,
+        Db2Value::VarChar(_) => 10,
+        Db2Value::Binary(_) => 11,
+        Db2Value::Blob(_) => 12,
+        Db2Value::Clob(_) => 13,
+        Db2Value::RowId(_) => 14,
+        Db2Value::Date(_) => 15,
+        Db2Value::Time(_) => 16,
+        Db2Value::Timestamp(_) => 17,
+        Db2Value::Boolean(_) => 18,
+        Db2Value::Xml(_) => 19,
+    }
+}
+
+fn number_word(value: Db2Value) -> u64
+    ensures { λ r. ⌜ r ≡ numberWord value ⌝ }
+{
+    match value {
+        Db2Value::Null => 0,
+        Db2Value::SmallInt(z) => signed_bits(z as i64),
+        Db2Value::Integer(z) => signed_bits(z as i64),
+        Db2Value::BigInt(z) => signed_bits(z),
+        Db2Value::Real(x) => real_bits(x) as u64,
+        Db2Value::RealNan(n) => n as u64,
+        Db2Value::Double(x) => double_bits(x),
+        Db2Value::DoubleNan(n) => n,
+        Db2Value::Decimal(p) => p.start as u64,
+        Db2Value::Char(p) => p.start as u64,
+        Db2Value::VarChar(p) => p.start as u64,
+        Db2Value::Binary(p) => p.start as u64,
+        Db2Value::Blob(p) => p.start as u64,
+        Db2Value::Clob(p) => p.start as u64,
+        Db2Value::RowId(p) => p.start as u64,
+        Db2Value::Date(p) => p.start as u64,
+        Db2Value::Time(p) => p.start as u64,
+        Db2Value::Timestamp(p) => p.start as u64,
+        Db2Value::Boolean(b) => flag_bit(b),
+        Db2Value::Xml(p) => p.start as u64,
+    }
+}
+
+fn length_word(value: Db2Value) -> u64
+    ensures { λ r. ⌜ r ≡ lengthWord value ⌝ }
+{
+    match value {
+        Db2Value::Null => 0,
+        Db2Value::SmallInt(_) => 0,
+        Db2Value::Integer(_) => 0,
+        Db2Value::BigInt(_) => 0,
+        Db2Value::Real(_) => 0,
+        Db2Value::RealNan(_) => 0,
+        Db2Value::Double(_) => 0,
+        Db2Value::DoubleNan(_) => 0,
+        Db2Value::Decimal(p) => p.len as u64,
+        Db2Value::Char(p) => p.len as u64,
+        Db2Value::VarChar(p) => p.len as u64,
+        Db2Value::Binary(p) => p.len as u64,
+        Db2Value::Blob(p) => p.len as u64,
+        Db2Value::Clob(p) => p.len as u64,
+        Db2Value::RowId(p) => p.len as u64,
+        Db2Value::Date(p) => p.len as u64,
+        Db2Value::Time(p) => p.len as u64,
+        Db2Value::Timestamp(p) => p.len as u64,
+        Db2Value::Boolean(_) => 0,
+        Db2Value::Xml(p) => p.len as u64,
+    }
+}
+
+// The three words of a value.
+pub fn value_words(place: ValuePlace) -> ValueWords
+    ensures { λ r. ⌜ (r .kind ≡ kindWord place) × ((r .number ≡ numberWord (place .value)) × (r .len ≡ lengthWord (place .value))) ⌝ }
+{
+    let value = place.value;
+    let kind = sort_word(value) + flag_bit(place.external) * 0x100;
+    let number = number_word(value);
+    let len = length_word(value);
+    ValueWords { kind, number, len }
 }

@@ -1,0 +1,177 @@
+-- When two words are a column's: the tests of `is_column`, as the definition has them. Assumes nothing.
+use Prim.Native.Nat.{ℕ, zero, suc, _+_, _*_, _/_, _%_, _≤_, _<_, _^_}
+use mathlib.Core.Path.{_≡_, refl, sym, ap, _∙_}
+use mathlib.Core.Bool.{Bool, true, false, cond, _&&_}
+use mathlib.Core.List.{List, [], _∷_}
+use native.Mathlib.Omega.{arith}
+use borrow.Author.Needs.{needs}
+use borrow.Author.Tests.{eq-eqb, ne-eqb, eqb-true, eqb-false}
+use lib.Dec.{eqb}
+use lib.ListN.{getD}
+use Rattle.types.specs.declared.Db2Type.{Db2Type}
+use Rattle.types.specs.declared.Db2Type.the-variants as type
+use Rattle.words.specs.Words.{packType, littleEndianBit, referenceBit, referenceWidth, firstWord, secondWord, typesWith, typeNamed}
+use Rattle.words.specs.Reading.{orderNamed, referenceNamed, columnNamed, isColumn}
+
+-- ---- the word of a type that bits name has 24 bits
+abbrev Small : List Db2Type → Type 0
+Small [] = Unit {0}
+Small (t ∷ ts) = (packType t < 2 ^ 24) × Small ts
+
+small-at : (ts : List Db2Type) → Small ts → (i : ℕ) → packType (getD ts i type.Null) < 2 ^ 24
+small-at [] h i = omega arith
+small-at (t ∷ ts) h zero = h .0
+small-at (t ∷ ts) h (suc i) = small-at ts (h .1) i
+
+all-small : (n : ℕ) → n < 65536 → Small (typesWith n)
+all-small n h = search needs
+
+-- ---- a bit that names a flag is that flag's bit
+bit-back : (x : ℕ) → x < 2 → cond (eqb x 1) 1 0 ≡ x
+bit-back zero h = refl
+bit-back (suc zero) h = refl
+bit-back (suc (suc x)) h = omega arith
+
+order-back : (x : ℕ) → x < 2 → littleEndianBit (orderNamed x) ≡ x
+order-back zero h = refl
+order-back (suc zero) h = refl
+order-back (suc (suc x)) h = omega arith
+
+reference-back : (x n : ℕ) → x < 2 → referenceBit (referenceNamed x n) ≡ x
+reference-back zero n h = refl
+reference-back (suc zero) n h = refl
+reference-back (suc (suc x)) n h = omega arith
+
+width-back : (x n : ℕ) → x < 2 → referenceWidth (referenceNamed x n) ≡ x * n
+width-back zero n h = omega arith
+width-back (suc zero) n h = omega arith
+width-back (suc (suc x)) n h = omega arith
+
+and-false : (x : Bool) → false ≡ x && false
+and-false true = refl
+and-false false = refl
+
+-- ---- a number by its parts: t has 24 bits, c, i and h have 8, x, y and z have one, and u is what is above
+whole : (a a24 a32 a40 a48 a49 a50 t c i h x y z u : ℕ) → a ≡ t + a24 * 2 ^ 24 → a24 ≡ c + a32 * 2 ^ 8 → a32 ≡ i + a40 * 2 ^ 8 → a40 ≡ h + a48 * 2 ^ 8
+    → a48 ≡ x + a49 * 2 → a49 ≡ y + a50 * 2 → a50 ≡ z + u * 2
+    → a ≡ t + c * 2 ^ 24 + i * 2 ^ 32 + h * 2 ^ 40 + x * 2 ^ 48 + y * 2 ^ 49 + z * 2 ^ 50 + u * 2 ^ 51
+whole a a24 a32 a40 a48 a49 a50 t c i h x y z u e1 e2 e3 e4 e5 e6 e7 = omega arith
+
+first-parts : (a : ℕ) → a ≡ a % 2 ^ 24 + a / 2 ^ 24 % 2 ^ 8 * 2 ^ 24 + a / 2 ^ 32 % 2 ^ 8 * 2 ^ 32 + a / 2 ^ 40 % 2 ^ 8 * 2 ^ 40 + a / 2 ^ 48 % 2 * 2 ^ 48 + a / 2 ^ 49 % 2 * 2 ^ 49 + a / 2 ^ 50 % 2 * 2 ^ 50 + a / 2 ^ 51 * 2 ^ 51
+first-parts a =
+    whole a (a / 2 ^ 24) (a / 2 ^ 32) (a / 2 ^ 40) (a / 2 ^ 48) (a / 2 ^ 49) (a / 2 ^ 50) (a % 2 ^ 24) (a / 2 ^ 24 % 2 ^ 8) (a / 2 ^ 32 % 2 ^ 8) (a / 2 ^ 40 % 2 ^ 8) (a / 2 ^ 48 % 2) (a / 2 ^ 49 % 2) (a / 2 ^ 50 % 2) (a / 2 ^ 51)
+    (omega arith) (omega arith) (omega arith) (omega arith) (omega arith) (omega arith) (omega arith)
+
+-- two numbers of these parts, one without h and u, are equal where t is
+module _ (w t c i h x y z u : ℕ) (small : w < 2 ^ 24) where
+  parts-same : w + c * 2 ^ 24 + i * 2 ^ 32 + x * 2 ^ 48 + y * 2 ^ 49 + z * 2 ^ 50 ≡ t + c * 2 ^ 24 + i * 2 ^ 32 + h * 2 ^ 40 + x * 2 ^ 48 + y * 2 ^ 49 + z * 2 ^ 50 + u * 2 ^ 51
+      → (w ≡ t) × ((h ≡ 0) × (u ≡ 0))
+  parts-same e =
+      let k : w ≡ t + h * 2 ^ 40 + u * 2 ^ 51 = omega arith in
+      (omega arith, (omega arith, omega arith))
+
+together : (w t c i h x y z u : ℕ) → w ≡ t → h ≡ 0 → u ≡ 0
+    → w + c * 2 ^ 24 + i * 2 ^ 32 + x * 2 ^ 48 + y * 2 ^ 49 + z * 2 ^ 50 ≡ t + c * 2 ^ 24 + i * 2 ^ 32 + h * 2 ^ 40 + x * 2 ^ 48 + y * 2 ^ 49 + z * 2 ^ 50 + u * 2 ^ 51
+together w t c i h x y z u e1 e2 e3 = omega arith
+
+whole-second : (b b16 b24 b32 b48 t c i h : ℕ) → b ≡ t + b16 * 2 ^ 16 → b16 ≡ c + b24 * 2 ^ 8 → b24 ≡ i + b32 * 2 ^ 8 → b32 ≡ h + b48 * 2 ^ 16
+    → b ≡ t + c * 2 ^ 16 + i * 2 ^ 24 + h * 2 ^ 32 + b48 * 2 ^ 48
+whole-second b b16 b24 b32 b48 t c i h e1 e2 e3 e4 = omega arith
+
+second-parts : (b : ℕ) → b ≡ b % 2 ^ 16 + b / 2 ^ 16 % 2 ^ 8 * 2 ^ 16 + b / 2 ^ 24 % 2 ^ 8 * 2 ^ 24 + b / 2 ^ 32 % 2 ^ 16 * 2 ^ 32 + b / 2 ^ 48 * 2 ^ 48
+second-parts b =
+    whole-second b (b / 2 ^ 16) (b / 2 ^ 24) (b / 2 ^ 32) (b / 2 ^ 48) (b % 2 ^ 16) (b / 2 ^ 16 % 2 ^ 8) (b / 2 ^ 24 % 2 ^ 8) (b / 2 ^ 32 % 2 ^ 16)
+    (omega arith) (omega arith) (omega arith) (omega arith)
+
+above-same : (s v w : ℕ) → s + v * 2 ^ 48 ≡ s + w * 2 ^ 48 → v ≡ w
+above-same s v w e = omega arith
+
+-- the width v that b has, and the one that the bit x leaves of it
+width-lost : (x v : ℕ) → x < 2 → x * 65535 < v → x * (v % 2 ^ 16) ≡ v → ⊥
+width-lost zero v h k e = omega arith
+width-lost (suc zero) v h k e = omega arith
+width-lost (suc (suc x)) v h k e = omega arith
+
+width-kept : (x v : ℕ) → x < 2 → v ≤ x * 65535 → x * (v % 2 ^ 16) ≡ v
+width-kept zero v h k = omega arith
+width-kept (suc zero) v h k = omega arith
+width-kept (suc (suc x)) v h k = omega arith
+
+module _ (a b : ℕ) where
+  type-word : ℕ
+  type-word = packType (typeNamed (a % 256) (a / 256 % 65536))
+
+  type-small : type-word < 2 ^ 24
+  unfolding type-word typeNamed
+  type-small = small-at (typesWith (a / 256 % 65536)) (all-small (a / 256 % 65536) (omega arith)) (a % 256)
+
+  -- the words of the column that a and b name
+  first-is : firstWord (columnNamed a b) ≡ type-word + a / 2 ^ 24 % 2 ^ 8 * 2 ^ 24 + a / 2 ^ 32 % 2 ^ 8 * 2 ^ 32 + a / 2 ^ 48 % 2 * 2 ^ 48 + a / 2 ^ 49 % 2 * 2 ^ 49 + a / 2 ^ 50 % 2 * 2 ^ 50
+  unfolding columnNamed type-word
+  first-is = rw (bit-back (a / 2 ^ 48 % 2) (omega arith), order-back (a / 2 ^ 49 % 2) (omega arith), reference-back (a / 2 ^ 50 % 2) (b / 2 ^ 48 % 2 ^ 16) (omega arith))
+
+  second-is : secondWord (columnNamed a b) ≡ b % 2 ^ 16 + b / 2 ^ 16 % 2 ^ 8 * 2 ^ 16 + b / 2 ^ 24 % 2 ^ 8 * 2 ^ 24 + b / 2 ^ 32 % 2 ^ 16 * 2 ^ 32 + a / 2 ^ 50 % 2 * (b / 2 ^ 48 % 2 ^ 16) * 2 ^ 48
+  unfolding columnNamed
+  second-is = rw (width-back (a / 2 ^ 50 % 2) (b / 2 ^ 48 % 2 ^ 16) (omega arith))
+
+  first-same : firstWord (columnNamed a b) ≡ a → (type-word ≡ a % 2 ^ 24) × ((a / 2 ^ 40 % 2 ^ 8 ≡ 0) × (a / 2 ^ 51 ≡ 0))
+  first-same q =
+      parts-same type-word (a % 2 ^ 24) (a / 2 ^ 24 % 2 ^ 8) (a / 2 ^ 32 % 2 ^ 8) (a / 2 ^ 40 % 2 ^ 8) (a / 2 ^ 48 % 2) (a / 2 ^ 49 % 2) (a / 2 ^ 50 % 2) (a / 2 ^ 51) type-small
+      (sym first-is ∙ q ∙ first-parts a)
+
+  second-same : secondWord (columnNamed a b) ≡ b → a / 2 ^ 50 % 2 * (b / 2 ^ 48 % 2 ^ 16) ≡ b / 2 ^ 48
+  second-same q =
+      above-same (b % 2 ^ 16 + b / 2 ^ 16 % 2 ^ 8 * 2 ^ 16 + b / 2 ^ 24 % 2 ^ 8 * 2 ^ 24 + b / 2 ^ 32 % 2 ^ 16 * 2 ^ 32) (a / 2 ^ 50 % 2 * (b / 2 ^ 48 % 2 ^ 16)) (b / 2 ^ 48)
+      (sym second-is ∙ q ∙ second-parts b)
+
+  other-first : (firstWord (columnNamed a b) ≡ a → ⊥) → false ≡ isColumn a b
+  unfolding isColumn
+  other-first h = rw (ne-eqb (firstWord (columnNamed a b)) a h)
+
+  other-second : (secondWord (columnNamed a b) ≡ b → ⊥) → false ≡ isColumn a b
+  unfolding isColumn
+  other-second h = rw (ne-eqb (secondWord (columnNamed a b)) b h) (and-false (eqb (firstWord (columnNamed a b)) a))
+
+  -- a column's number has 8 bits
+  pub wide-number : (a / 2 ^ 40 % 2 ^ 8 ≡ 0 → ⊥) → false ≡ isColumn a b
+  wide-number h = other-first (λ q. h (first-same q .1 .0))
+
+  -- nothing stands above bit 50
+  pub bits-above : 2 ^ 51 ≤ a → false ≡ isColumn a b
+  bits-above h = other-first (λ q. omega (arith, first-same q .1 .1))
+
+  module _ (low : a < 2 ^ 51) where
+    one-bit : a / 2 ^ 50 ≡ a / 2 ^ 50 % 2
+    one-bit = omega arith
+
+    -- a reference length without its bit
+    pub width-alone : a / 2 ^ 50 * 65535 < b / 2 ^ 48 → false ≡ isColumn a b
+    width-alone h = other-second (λ q. width-lost (a / 2 ^ 50 % 2) (b / 2 ^ 48) (omega arith) (rw one-bit at h) (second-same q))
+
+    -- else the type alone decides
+    module _ (number : a / 2 ^ 40 % 2 ^ 8 ≡ 0) (width : b / 2 ^ 48 ≤ a / 2 ^ 50 * 65535) where
+      second-back : secondWord (columnNamed a b) ≡ b
+      second-back = second-is ∙ rw (width-kept (a / 2 ^ 50 % 2) (b / 2 ^ 48) (omega arith) (rw one-bit at width)) (sym (second-parts b))
+
+      low-bits : a % 2 ^ 24 ≡ a % 256 + a / 256 % 65536 * 256
+      low-bits = omega arith
+
+      none-above : a / 2 ^ 51 ≡ 0
+      none-above = omega arith
+
+      same-type : type-word ≡ a % 256 + a / 256 % 65536 * 256 → firstWord (columnNamed a b) ≡ a
+      same-type e =
+          first-is
+          ∙ together type-word (a % 2 ^ 24) (a / 2 ^ 24 % 2 ^ 8) (a / 2 ^ 32 % 2 ^ 8) (a / 2 ^ 40 % 2 ^ 8) (a / 2 ^ 48 % 2) (a / 2 ^ 49 % 2) (a / 2 ^ 50 % 2) (a / 2 ^ 51) (e ∙ sym low-bits) number none-above
+          ∙ sym (first-parts a)
+
+      other-type : (type-word ≡ a % 256 + a / 256 % 65536 * 256 → ⊥) → firstWord (columnNamed a b) ≡ a → ⊥
+      other-type h q = h (first-same q .0 ∙ low-bits)
+
+      pub by-type : {r : Bool} → r ≡ eqb (packType (typeNamed (a % 256) (a / 256 % 65536))) (a % 256 + a / 256 % 65536 * 256) → r ≡ isColumn a b
+      unfolding isColumn type-word
+      by-type {r} e = e ∙ by (eqb type-word (a % 256 + a / 256 % 65536 * 256)) refl
+        where
+          by : (x : Bool) → eqb type-word (a % 256 + a / 256 % 65536 * 256) ≡ x → x ≡ eqb (firstWord (columnNamed a b)) a && eqb (secondWord (columnNamed a b)) b
+          by true q = rw (eq-eqb (firstWord (columnNamed a b)) a (same-type (eqb-true type-word (a % 256 + a / 256 % 65536 * 256) q)), eq-eqb (secondWord (columnNamed a b)) b second-back)
+          by false q = rw (ne-eqb (firstWord (columnNamed a b)) a (other-type (eqb-false type-word (a % 256 + a / 256 % 65536 * 256) q)))

@@ -32,7 +32,7 @@ const DECIMALS: [(u8, u8); 12] = [
 /// Lengths of a column, for the types that look at it.
 const LENGTHS: [u16; 7] = [0, 1, 2, 9, 10, 26, 40];
 
-const REFERENCES: [Option<u16>; 11] = [
+const REFERENCES: [Option<u16>; 10] = [
     None,
     Some(0),
     Some(1),
@@ -43,7 +43,6 @@ const REFERENCES: [Option<u16>; 11] = [
     Some(9),
     Some(10),
     Some(20),
-    Some(0x8004),
 ];
 
 pub fn is_lob(name: Name) -> bool {
@@ -261,7 +260,8 @@ pub fn random_column(random: &mut Random) -> Column {
         0..=6 => None,
         7..=13 => random.pick(&REFERENCES),
         14 => Some(random.below(300) as u16),
-        _ if random.one_in(50) => Some(random.number() as u16),
+        // All 16 bits count, and the Rust takes its time for hex so long.
+        _ if random.one_in(2000) => Some(random.number() as u16),
         _ => Some(9),
     };
     let length = match random.below(8) {
@@ -297,6 +297,38 @@ pub fn random_list(random: &mut Random) -> List {
         0..=3 => damaged(random, list),
         4..=7 => renumbered(random, list),
         _ => list,
+    }
+}
+
+/// Type codes of every type, and some that are none.
+const CODES: [u8; 34] = [
+    0x02, 0x04, 0x0A, 0x0C, 0x0E, 0x16, 0x18, 0x1A, 0x1C, 0x1E, 0x20, 0x22, 0x24, 0x30, 0x32, 0x34,
+    0x36, 0x38, 0x3C, 0x3E, 0x50, 0x51, 0x60, 0x62, 0xBE, 0xC8, 0xCA, 0xCC, 0xCE, 0xDC, 0xC8, 0xCA,
+    0x50, 0x06,
+];
+
+/// A description whose columns have short values: SDAs, groups, and LIDs declared before them.
+pub fn random_description(random: &mut Random, data: &mut Vec<u8>) {
+    data.clear();
+    for _ in 0..1 + random.below(4) {
+        let code = random.pick(&CODES) | random.byte() & 1;
+        let length = match random.below(4) {
+            0 => 0x8000 | random.below(12) as u16,
+            1 if code & 0xFE == 0x50 => random.pick(&LOB_LENGTHS),
+            _ => random.below(12) as u16,
+        };
+        let [high, low] = length.to_be_bytes();
+        let [ccsid_high, ccsid_low] = random_ccsid(random).to_be_bytes();
+        match random.below(4) {
+            0 => data.extend([6, 0x76, 0xD0, code, high, low]),
+            1 => {
+                data.extend([3, 0x78, code]);
+                data.extend([8, 0x70, 0x44, 0, 0, 0, ccsid_high, ccsid_low]);
+                data.extend([6, 0x76, 0xD0, 0x44, high, low]);
+            }
+            _ if code & 0xFE == 0x0C => data.extend([7, 0x70, code, high, low, low, high & 3]),
+            _ => data.extend([7, 0x70, code, high, low, ccsid_high, ccsid_low]),
+        }
     }
 }
 

@@ -308,7 +308,11 @@ impl<L: Library> Run<L> {
         loop {
             let list = match self.random.below(8) {
                 0..=1 => {
-                    descriptions::inputs::random_description(&mut self.random, &mut description);
+                    let make = match self.random.below(4) {
+                        0 => descriptions::inputs::random_description,
+                        _ => columns::random_description,
+                    };
+                    make(&mut self.random, &mut description);
                     match self.described(&description)? {
                         Some(list) => list,
                         None => continue,
@@ -316,8 +320,8 @@ impl<L: Library> Run<L> {
                 }
                 _ => columns::random_list(&mut self.random),
             };
-            let few = inputs::is_wide(&list.columns) || list.count() > 20;
-            for _ in 0..if few { 2 } else { ROWS_OF_A_LIST } {
+            let rows = if list.count() > 20 { 2 } else { ROWS_OF_A_LIST };
+            for _ in 0..rows {
                 self.random_row(&list, &mut row)?;
             }
         }
@@ -339,7 +343,10 @@ impl<L: Library> Run<L> {
 
     fn random_row(&mut self, list: &List, row: &mut Vec<u8>) -> Flow {
         match self.random.below(64) {
-            0..=3 => inputs::noise(&mut self.random, row),
+            0..=3 => {
+                row.clear();
+                inputs::noise(&mut self.random, row);
+            }
             _ => self.values.row(&mut self.random, &list.columns, row),
         }
         match self.random.below(64) {

@@ -1,5 +1,4 @@
 //! Rows to ask about.
-use super::columns::is_lob;
 use crate::inputs::{fill, random_style, Style, EDGE_BYTES};
 use crate::leaf::Leaf;
 use crate::random::Random;
@@ -62,6 +61,10 @@ impl Values {
                 if indicator == 0xFF {
                     continue;
                 }
+            }
+            // Seldom whole: it would cost as much as thousands of others.
+            if is_wide(column) && !random.one_in(256) {
+                return noise(random, row);
             }
             self.value(random, column, row);
         }
@@ -314,9 +317,8 @@ pub fn extend(random: &mut Random, row: &mut Vec<u8>) {
     }
 }
 
-/// A row of bytes that go by no rule.
+/// Bytes that go by no rule.
 pub fn noise(random: &mut Random, row: &mut Vec<u8>) {
-    row.clear();
     for _ in 0..random.below(24) {
         let byte = match random.below(4) {
             0 => random.byte(),
@@ -328,15 +330,15 @@ pub fn noise(random: &mut Random, row: &mut Vec<u8>) {
     }
 }
 
-/// Whether a random row for the columns would be very long.
-pub fn is_wide(columns: &[Column]) -> bool {
-    columns.iter().any(|column| {
-        let own = usize::from(column.db2_type.numbers);
-        let reference = if is_lob(column.db2_type.name) {
-            column.reference.unwrap_or(0)
-        } else {
-            0
-        };
-        own & 0x7FFF > 4000 || reference > 4000 || column.length > 4000
-    })
+/// Whether a value of the column would be very long.
+fn is_wide(column: &Column) -> bool {
+    const LONG: u16 = 4000;
+    let own = column.db2_type.numbers;
+    match column.db2_type.name {
+        Name::Char | Name::Binary | Name::Graphic | Name::RowId => own > LONG,
+        Name::VarChar | Name::VarGraphic => own & 0x8000 != 0 && own & 0x7FFF > LONG,
+        Name::Timestamp | Name::Boolean => column.length > LONG,
+        Name::Blob | Name::Clob | Name::DbClob | Name::Xml => column.reference > Some(LONG),
+        _ => false,
+    }
 }

@@ -3,6 +3,8 @@
 use mathlib.Core.Path.{_≡_, refl, sym, ap, _∙_}
 use mathlib.Core.Bool.{Bool, true, false, cond}
 use mathlib.Core.List.{List, [], _∷_, _++_}
+use mathlib.Core.Logic.{inl, inr}
+use types.Run.{OneOf}
 use Prim.Native.Nat.{ℕ, suc, _+_, _-_, _*_, _/_, _≤_, _<_}
 use native.Mathlib.Omega.{arith}
 use lib.Dec.{eqb, ltb}
@@ -137,6 +139,21 @@ module _ {s : List ℕ} {k i : ℕ} {pend : Pending} (c : Counting s k i pend) w
 
   pub counting-full : maxColumns < k → Counted (columnsOf s) k
   counting-full h = record { all = λ few. omega arith; more = λ many. omega (arith, c .total) }
+
+  -- a triplet of another kind
+  pub counting-silent : (kind m : ℕ) → Found 2 s i (length s) kind m → (OneOf (0x70 ∷ 0x76 ∷ 0x78 ∷ []) kind → ⊥) → Counting s k m pending.Nothing
+  unfolding columnsFrom tripletColumns pendingAfter
+  counting-silent kind m f o =
+      let l = f .low in
+      let sda = ne-eqb kind 0x70 (λ e. o (inl e)) in
+      let gda = ne-eqb kind 0x76 (λ e. o (inr (inl e))) in
+      let mdd = ne-eqb kind 0x78 (λ e. o (inr (inr e))) in
+      record {
+        within = f .high;
+        few = omega (arith, c .few);
+        environment = environmentAfter pend (c .environment) (triplet kind (slice (i + 2) m s));
+        total = (rw (f .more, sda, gda, mdd) at (c .total));
+      }
 
   pub counting-more : (kind m r : ℕ)
       → Found 2 s i (length s) kind m

@@ -108,11 +108,21 @@ pub fn count_columns(data: &[u8]) -> usize
         let Next::Triplet { kind, end } = triplets::next_triplet(data, at, data.len(), 2) else {
             return count;
         };
-        let start = at + 2;
-        let columns = count_triplet(data, kind, start, end, pending);
-        count += columns;
-        pending = pending_after(data, kind, start, end);
-        at = end;
+        match kind {
+            // SDAs, GDAs and MDDs.
+            0x70 | 0x76 | 0x78 => {
+                let start = at + 2;
+                let columns = count_triplet(data, kind, start, end, pending);
+                count += columns;
+                pending = pending_after(data, kind, start, end);
+                at = end;
+            }
+            // Triplets that say nothing are many, or none: the branch is foreseen.
+            _ => {
+                pending = Pending::Nothing;
+                at = end;
+            }
+        }
     }
     count
 }

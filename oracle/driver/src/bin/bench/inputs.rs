@@ -2,6 +2,7 @@
 use crate::{Call, Line, BATCH};
 use differential::leaf::{Leaf, TEXT_LIMIT};
 use differential::random::Random;
+use std::rc::Rc;
 
 /// The lengths of short texts.
 const SHORT: [usize; 5] = [4, 8, 16, 32, 64];
@@ -65,29 +66,31 @@ fn description_lines(random: &mut Random) -> Vec<Line> {
         ("as SDAs", single_columns),
         ("in groups, declared", declared_columns),
     ];
-    let mut lines = Vec::new();
+    let mut inputs = Vec::new();
     for columns in [4, 20, 128] {
         for (form, maker) in forms {
             let count = (BATCH / (7 * columns)).max(1);
-            let texts = (0..count).map(|_| maker(random, columns)).collect();
-            lines.push((format!("{columns} columns {form}"), texts));
+            let texts: Vec<Vec<u8>> = (0..count).map(|_| maker(random, columns)).collect();
+            inputs.push((format!("{columns} columns {form}"), Rc::new(texts)));
         }
     }
-    lines.push((
-        "1,000 unknown triplets".to_string(),
-        vec![[2, 0x99].repeat(1000); BATCH / 2000],
-    ));
-    let named = |name: &str, call: Call| {
-        let line = move |(form, texts): &(String, Vec<Vec<u8>>)| Line {
-            name: format!("{name}, {form}"),
-            call,
-            texts: texts.clone(),
-        };
-        lines.iter().map(line).collect::<Vec<_>>()
-    };
-    let through = named("parse_qrydsc", Call::Description);
-    let by_value = named("parse_qrydsc by value", Call::DescriptionByValue);
-    through.into_iter().chain(by_value).collect()
+    let unknown = vec![[2, 0x99].repeat(1000); BATCH / 2000];
+    inputs.push(("1,000 unknown triplets".to_string(), Rc::new(unknown)));
+    let calls = [
+        ("parse_qrydsc", Call::Description),
+        ("parse_qrydsc by value", Call::DescriptionByValue),
+    ];
+    let mut lines = Vec::new();
+    for (name, call) in calls {
+        for (form, texts) in &inputs {
+            lines.push(Line {
+                name: format!("{name}, {form}"),
+                call,
+                texts: Rc::clone(texts),
+            });
+        }
+    }
+    lines
 }
 
 /// Types that columns have most: numbers, texts, decimals, dates.
@@ -134,7 +137,7 @@ fn line(random: &mut Random, name: &str, leaf: Leaf, maker: Maker, length: usize
     Line {
         name: name.to_string(),
         call: Call::Leaf(leaf),
-        texts: (0..count).map(|_| maker(random, length)).collect(),
+        texts: Rc::new((0..count).map(|_| maker(random, length)).collect()),
     }
 }
 

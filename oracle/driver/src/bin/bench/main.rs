@@ -10,6 +10,7 @@ use differential::port_side::{ample, Archive, Library};
 use differential::rust_side;
 use std::hint::black_box;
 use std::process::ExitCode;
+use std::rc::Rc;
 use std::time::{Duration, Instant};
 
 /// Short texts are timed in a batch of so many input bytes, so that they stay in the nearest cache.
@@ -23,7 +24,8 @@ const ROUNDS: usize = 40;
 struct Line {
     name: String,
     call: Call,
-    texts: Vec<Vec<u8>>,
+    /// Shared where two lines have the same: a copy that is freed again leaves holes among the Rust's allocations, and slows them.
+    texts: Rc<Vec<Vec<u8>>>,
 }
 
 #[derive(Clone, Copy)]
@@ -124,7 +126,7 @@ fn shown(time: f64) -> String {
 
 /// Whether the two agree on every input of a line, with a buffer where any text fits.
 fn same<'a>(line: &'a Line, lent: &mut Lent) -> Result<(), &'a [u8]> {
-    for text in &line.texts {
+    for text in line.texts.iter() {
         let agree = match line.call {
             Call::Leaf(Leaf::Likely) => rust_side::likely(text) == (Archive.likely(text) == 1),
             Call::Leaf(leaf) => {

@@ -21,8 +21,6 @@ use Rattle.cell.specs.declared.LobKind.{LobKind}
 use Rattle.cell.specs.declared.LobKind.the-variants as kinds
 use Rattle.cell.specs.declared.CellItem.{CellItem}
 use Rattle.cell.specs.declared.CellItem.the-variants.{Nothing, Number, Boolean, Part, Text}
-use Rattle.cell.specs.declared.ColumnAnswer.{ColumnAnswer}
-use Rattle.cell.specs.declared.ColumnAnswer.the-variants.{TooShort, Value}
 
 abbrev pub byteSort : ByteSort → meaning.ByteSort
 byteSort bytes.Binary = meaning.ByteSort.binary
@@ -76,9 +74,6 @@ module _ (L : meaning.Conversions) where
   unfoldable pub headerIn : List ℕ → meaning.Item
   headerIn h = cond (meaning.isEmptyHeader h) (meaning.Item.text meaning.TextSort.clob []) (meaning.Item.text meaning.TextSort.clob (L .locator h))
 
--- the answer for the column c, where s is the rest of the row
-abbrev pub Decodes : ColumnAnswer → ColumnDescriptor → List ℕ → Type 0
-Decodes (TooShort expected actual) c s = (expected ≡ need (extentOf c) s) × ((actual ≡ length s) × (actual < expected))
-Decodes (Value used item external) c s =
-    (used ≡ need (extentOf c) s)
-    × ((used ≤ length s) × (Holds item (take used s) (meaning.itemIn ported c (take used s)) × (external ≡ meaning.refersIn ported c (take used s))))
+-- the item of the column c, where s is the rest of the row and the value's bytes are there
+abbrev pub Decodes : CellItem → ColumnDescriptor → List ℕ → Type 0
+Decodes item c s = Holds item (take (need (extentOf c) s) s) (meaning.itemIn ported c (take (need (extentOf c) s) s))

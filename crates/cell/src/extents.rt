@@ -196,7 +196,6 @@ fn extent_of(column: ColumnDescriptor) -> Extent
     let t = column.db2_type;
     let length = column.length;
     let ccsid = column.ccsid;
-    let reference = column.extdta_reference_length;
     let order = column.byte_order;
     match t {
         Db2Type::SmallInt => Extent::Fixed(2),
@@ -218,24 +217,36 @@ fn extent_of(column: ColumnDescriptor) -> Extent
         Db2Type::Char(n) => Extent::Fixed(n as usize),
         Db2Type::VarChar(n) => varying_extent(n, 1),
         Db2Type::LongVarChar => Extent::Counted(1),
-        Db2Type::Clob => lob_extent(reference, length_extent(length)),
+        Db2Type::Clob => {
+            let reference = column.extdta_reference_length;
+            lob_extent(reference, length_extent(length))
+        }
         Db2Type::Binary(n) => Extent::Fixed(n as usize),
         Db2Type::VarBinary(_) => Extent::Counted(1),
-        Db2Type::Blob => lob_extent(reference, length_extent(length)),
+        Db2Type::Blob => {
+            let reference = column.extdta_reference_length;
+            lob_extent(reference, length_extent(length))
+        }
         Db2Type::BlobLocator => Extent::Fixed(4),
         Db2Type::Date => Extent::Fixed(10),
         Db2Type::Time => Extent::Fixed(8),
         Db2Type::Timestamp => Extent::Fixed(length_or(length, 26)),
         Db2Type::Graphic(n) => Extent::Fixed(graphic_unit(ccsid, order) * n as usize),
         Db2Type::VarGraphic(n) => varying_extent(n, graphic_unit(ccsid, order)),
-        Db2Type::DbClob => lob_extent(reference, length_extent(length)),
+        Db2Type::DbClob => {
+            let reference = column.extdta_reference_length;
+            lob_extent(reference, length_extent(length))
+        }
         Db2Type::ClobLocator => Extent::Fixed(4),
         Db2Type::DbClobLocator => Extent::Fixed(4),
         Db2Type::LobBytes(n) => Extent::Materialized((n % 0x8000) as usize),
         Db2Type::LobChar(n) => Extent::Materialized((n % 0x8000) as usize),
         Db2Type::RowId(n) => Extent::Fixed(n as usize),
         Db2Type::Boolean => Extent::Fixed(length_or(length, 1)),
-        Db2Type::Xml => lob_extent(reference, Extent::Inline),
+        Db2Type::Xml => {
+            let reference = column.extdta_reference_length;
+            lob_extent(reference, Extent::Inline)
+        }
         Db2Type::Null => Extent::Fixed(0),
     }
 }

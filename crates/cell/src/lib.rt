@@ -1,7 +1,7 @@
 // Inner. A column's value from the rest of the row, from its first byte on: how many bytes it takes, what they mean, and whether they refer to data
 // outside the row. The answer depends on that part of the row only. It writes no text, and knows nothing of indicators and of where the part stands.
 pub mod extents;
-mod refers;
+pub mod refers;
 
 use conversion::Conversion;
 use conversion::character_conversion;
@@ -18,7 +18,6 @@ use numbers::small_int;
 use refers::all_zero;
 use refers::is_empty_header;
 use refers::is_empty_reference;
-use refers::refers;
 use types::ColumnDescriptor;
 use types::Db2Type;
 use types::Db2Value;
@@ -347,36 +346,11 @@ fn item_of(bytes: &[u8], column: ColumnDescriptor) -> CellItem
     }
 }
 
-// A column's value: too short, with the Rust's expected and actual; or the bytes that it takes, what they mean, and whether they refer to data
-// outside the row.
-pub enum ColumnAnswer {
-    TooShort {
-        expected: usize,
-        actual: usize,
-    },
-    Value {
-        used: usize,
-        item: CellItem,
-        external: bool,
-    },
-}
-
-// The column's value at the beginning of the rest of the row.
-pub fn decode_column_value(rest: &[u8], column: ColumnDescriptor) -> ColumnAnswer
+// The column's value at the beginning of the rest of the row, where its bytes are there (the Rust: decode_column_value).
+pub fn decode_column_value(rest: &[u8], column: ColumnDescriptor) -> CellItem
+    requires { ⌜ need (extentOf column) (now rest) ≤ length (now rest) ⌝ }
     ensures { λ r. ⌜ Decodes r column (now (rest .entry)) ⌝ }
 {
     let n = column_need(rest, column);
-    if rest.len() < n {
-        return ColumnAnswer::TooShort {
-            expected: n,
-            actual: rest.len(),
-        };
-    }
-    let item = item_of(&rest[..n], column);
-    let external = refers(&rest[..n], column);
-    ColumnAnswer::Value {
-        used: n,
-        item,
-        external,
-    }
+    item_of(&rest[..n], column)
 }

@@ -1,6 +1,6 @@
 -- Laws of items that the code rests on: an item as the code holds it has the text and the value of the rules' item. Assumes nothing.
 use Prim.Native.Nat.{ℕ, _+_, _-_, _≤_}
-use mathlib.Core.Path.{_≡_, refl, sym, ap, _∙_, subst}
+use mathlib.Core.Path.{_≡_, sym, ap, _∙_, subst}
 use mathlib.Core.Bool.{Bool}
 use mathlib.Core.List.{List}
 use native.Mathlib.Omega.{arith}
@@ -17,8 +17,6 @@ use Rattle.cell.specs.declared.CellItem.{CellItem}
 use Rattle.cell.specs.declared.CellItem.the-variants.{Nothing, Number, Boolean, Part, Text}
 use Rattle.cell.specs.declared.TextSort.{TextSort}
 use Rattle.cell.specs.declared.Reading.{Reading}
-use Rattle.cell.specs.declared.ColumnAnswer.{ColumnAnswer}
-use Rattle.cell.specs.declared.ColumnAnswer.the-variants.{TooShort, Value}
 use Rattle.cell.specs.Cell.{textSort, textBy, Readable, Holds, Decodes}
 use Rattle.piece.specs.Piece.{Within, itemText, itemValue, valueIn, valueText}
 
@@ -72,41 +70,26 @@ module _ (x : CellItem) (s : List ℕ) (k : TextSort) (reading : Reading) (from 
       ap (λ (m : ℕ). textValue (textSort k) (place next m)) (h ∙ ap (λ (y : CellItem). length (itemText y s)) e)
       ∙ ap (λ (y : CellItem). itemValue y s at next) (sym e)
 
--- ---- an answer of the column decoder
+-- ---- what the column decoder finds
 
 abbrev valuePlace : Db2Value → Bool → ValuePlace
 valuePlace v b = record { value = v; external = b }
 
-module _ (r : ColumnAnswer) (c : ColumnDescriptor) (s : List ℕ) (d : Decodes r c s) where
-  pub not-short : (expected actual : ℕ) → r ≡ TooShort expected actual → need (extentOf c) s ≤ length s → ⊥
-  not-short expected actual e h =
-      let t = subst (λ (x : ColumnAnswer). Decodes x c s) e d in
-      omega (arith, t .0, t .1 .0, t .1 .1, h)
+module _ (x : CellItem) (c : ColumnDescriptor) (s : List ℕ) (d : Decodes x c s) (used : ℕ) (e : used ≡ need (extentOf c) s) where
+  got : Holds x (take used s) (itemIn ported c (take used s))
+  got = subst (λ (n : ℕ). Holds x (take n s) (itemIn ported c (take n s))) (sym e) d
 
-  module _ (used : ℕ) (x : CellItem) (external : Bool) (e : r ≡ Value used x external) where
-    got : Decodes (Value used x external) c s
-    got = subst (λ (y : ColumnAnswer). Decodes y c s) e d
+  pub got-within : Within x (take used s)
+  got-within = holds-within x (take used s) (itemIn ported c (take used s)) got
 
-    pub got-used : used ≡ need (extentOf c) s
-    got-used = got .0
+  pub got-text : itemText x (take used s) ≡ valueText c s
+  unfolding pieceItem
+  got-text = holds-text x (take used s) (itemIn ported c (take used s)) got ∙ ap (λ (n : ℕ). textOf (itemIn ported c (take n s))) e
 
-    pub got-there : used ≤ length s
-    got-there = got .1 .0
-
-    pub got-length : length (take used s) ≡ used
-    got-length = length-take-le used s got-there
-
-    pub got-within : Within x (take used s)
-    got-within = holds-within x (take used s) (itemIn ported c (take used s)) (got .1 .1 .0)
-
-    pub got-text : itemText x (take used s) ≡ valueText c s
-    unfolding pieceItem
-    got-text = holds-text x (take used s) (itemIn ported c (take used s)) (got .1 .1 .0) ∙ ap (λ (n : ℕ). textOf (itemIn ported c (take n s))) got-used
-
-    pub got-place : (at next : ℕ) (v : Db2Value) → v ≡ itemValue x (take used s) at next
-        → valuePlace v external ≡ pieceValue ported (valueIn c at s) next
-    unfolding pieceValue
-    got-place at next v h =
-        ap (λ (y : Db2Value). valuePlace y external) (h ∙ holds-value x (take used s) (itemIn ported c (take used s)) at next (got .1 .1 .0))
-        ∙ ap (λ (b : Bool). valuePlace (valueOf (itemIn ported c (take used s)) at next) b) (got .1 .1 .1)
-        ∙ ap (λ (n : ℕ). valuePlace (valueOf (itemIn ported c (take n s)) at next) (refersIn ported c (take n s))) got-used
+  pub got-place : (at next : ℕ) (v : Db2Value) (external : Bool) → v ≡ itemValue x (take used s) at next → external ≡ refersIn ported c (take used s)
+      → valuePlace v external ≡ pieceValue ported (valueIn c at s) next
+  unfolding pieceValue
+  got-place at next v external h f =
+      ap (λ (y : Db2Value). valuePlace y external) (h ∙ holds-value x (take used s) (itemIn ported c (take used s)) at next got)
+      ∙ ap (λ (b : Bool). valuePlace (valueOf (itemIn ported c (take used s)) at next) b) f
+      ∙ ap (λ (n : ℕ). valuePlace (valueOf (itemIn ported c (take n s)) at next) (refersIn ported c (take n s))) e

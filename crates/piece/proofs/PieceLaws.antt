@@ -11,7 +11,7 @@ use lib.Dec.{eqb}
 use borrow.Author.Tests.{eq-eqb, ne-eqb}
 use Rattle.types.specs.declared.ColumnDescriptor.{ColumnDescriptor}
 use Rattle.rules.specs.Extent.{need, extentOf}
-use Rattle.rules.specs.Walk.{nullableNeed, cellNeed, columnNeed, Piece, absent, present, cellPiece, Walk, short, cellShort}
+use Rattle.rules.specs.Walk.{nullableNeed, cellNeed, columnNeed, Piece, absent, present, cellPiece, short, cellShort}
 use Rattle.rules.specs.Row.{textOf, pieceItem}
 use Rattle.rules.specs.Conversions.{ported}
 use Rattle.piece.specs.Piece.{valueIn, valueText, pieceIn, pieceText}

@@ -2,9 +2,9 @@
 // of the text buffer. It goes through no columns: the row calls do, for columns by value and for columns in words.
 mod items;
 
-use cell::ColumnAnswer;
 use cell::decode_column_value;
 use cell::extents::column_need;
+use cell::refers::refers;
 use items::item_len;
 use items::item_write;
 use types::ColumnDescriptor;
@@ -106,21 +106,10 @@ fn value_length(rest: &[u8], column: ColumnDescriptor) -> PieceLength
     ensures used { λ r. ⌜ r .used ≡ need (extentOf column) (now (rest .entry)) ⌝ }
     ensures len { λ r. ⌜ r .len ≡ length (valueText column (now (rest .entry))) ⌝ }
 {
-    match decode_column_value(rest, column) {
-        // It can't be: the bytes are there.
-        ColumnAnswer::TooShort {
-            expected: _,
-            actual: _,
-        } => PieceLength { used: 0, len: 0 },
-        ColumnAnswer::Value {
-            used,
-            item,
-            external: _,
-        } => {
-            let len = item_len(item, &rest[..used]);
-            PieceLength { used, len }
-        }
-    }
+    let used = column_need(rest, column);
+    let item = decode_column_value(rest, column);
+    let len = item_len(item, &rest[..used]);
+    PieceLength { used, len }
 }
 
 // The length of the column's text.
@@ -157,25 +146,15 @@ fn value_write(
     ensures count { λ r. ⌜ r .written ≡ length (valueText column (now (rest .entry))) ⌝ }
     ensures bytes { λ _. ⌜ now (out .exit) ≡ written (valueText column (now (rest .entry))) (now (out .entry)) ⌝ }
 {
-    match decode_column_value(rest, column) {
-        // It can't be: the bytes are there.
-        ColumnAnswer::TooShort {
-            expected: _,
-            actual: _,
-        } => null_piece(),
-        ColumnAnswer::Value {
-            used,
-            item,
-            external,
-        } => {
-            let w = item_write(item, &rest[..used], at, next, out);
-            let value = w.value;
-            PieceWritten {
-                place: ValuePlace { value, external },
-                used,
-                written: w.written,
-            }
-        }
+    let used = column_need(rest, column);
+    let item = decode_column_value(rest, column);
+    let external = refers(&rest[..used], column);
+    let w = item_write(item, &rest[..used], at, next, out);
+    let value = w.value;
+    PieceWritten {
+        place: ValuePlace { value, external },
+        used,
+        written: w.written,
     }
 }
 

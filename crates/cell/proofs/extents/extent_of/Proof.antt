@@ -26,11 +26,11 @@ enum-told-5 c = search needs
 enum-known-t : tie.Need-enum-known-t
 enum-known-t c = search needs
 
-cast-t18 : tie.Need-cast-t18
-cast-t18 c = search needs
+cast-t21 : tie.Need-cast-t21
+cast-t21 c = search needs
 
-add-t19 : tie.Need-add-t19
-add-t19 c = search needs
+add-t22 : tie.Need-add-t22
+add-t22 c = search needs
 
 enum-known-t-2 : tie.Need-enum-known-t-2
 enum-known-t-2 c = search needs
@@ -38,8 +38,8 @@ enum-known-t-2 c = search needs
 enum-known-t-3 : tie.Need-enum-known-t-3
 enum-known-t-3 c = search needs
 
-cast-t23 : tie.Need-cast-t23
-cast-t23 c = search needs
+cast-t26 : tie.Need-cast-t26
+cast-t26 c = search needs
 
 enum-known-t-4 : tie.Need-enum-known-t-4
 enum-known-t-4 c = search needs
@@ -62,8 +62,8 @@ lob-extent-requires c κs = search needs
 enum-known-t-5 : tie.Need-enum-known-t-5
 enum-known-t-5 c = search needs
 
-cast-t25 : tie.Need-cast-t25
-cast-t25 c = search needs
+cast-t28 : tie.Need-cast-t28
+cast-t28 c = search needs
 
 enum-told-8 : tie.Need-enum-told-8
 enum-told-8 c = search needs
@@ -98,11 +98,11 @@ enum-known-t-6 c = search needs
 graphic-unit-requires : tie.Need-graphic-unit-requires
 graphic-unit-requires c κs = search needs
 
-cast-t29 : tie.Need-cast-t29
-cast-t29 c = search needs
+cast-t32 : tie.Need-cast-t32
+cast-t32 c = search needs
 
-mul-t30 : tie.Need-mul-t30
-mul-t30 c =
+mul-t33 : tie.Need-mul-t33
+mul-t33 c =
     let column = c .before .before .before .before .args .column in
     let two = unit-two (column .ccsid) (column .«byte_order») in
     let u : c .graphic-unit .result ≤ 2 = rw (c .graphic-unit .ensures) two in
@@ -135,20 +135,20 @@ enum-told-16 c = search needs
 enum-known-t-8 : tie.Need-enum-known-t-8
 enum-known-t-8 c = search needs
 
-cast-t34 : tie.Need-cast-t34
-cast-t34 c = search needs
+cast-t37 : tie.Need-cast-t37
+cast-t37 c = search needs
 
 enum-known-t-9 : tie.Need-enum-known-t-9
 enum-known-t-9 c = search needs
 
-cast-t36 : tie.Need-cast-t36
-cast-t36 c = search needs
+cast-t39 : tie.Need-cast-t39
+cast-t39 c = search needs
 
 enum-known-t-10 : tie.Need-enum-known-t-10
 enum-known-t-10 c = search needs
 
-cast-t37 : tie.Need-cast-t37
-cast-t37 c = search needs
+cast-t40 : tie.Need-cast-t40
+cast-t40 c = search needs
 
 enum-told-17 : tie.Need-enum-told-17
 enum-told-17 c = search needs
@@ -269,11 +269,11 @@ extent-of-spec =
     enum-told-4
     enum-told-5
     enum-known-t
-    cast-t18
-    add-t19
+    cast-t21
+    add-t22
     enum-known-t-2
     enum-known-t-3
-    cast-t23
+    cast-t26
     enum-known-t-4
     varying-extent-requires
     enum-told-6
@@ -281,7 +281,7 @@ extent-of-spec =
     length-extent-requires
     lob-extent-requires
     enum-known-t-5
-    cast-t25
+    cast-t28
     enum-told-8
     enum-told-9
     length-extent-requires-2
@@ -293,8 +293,8 @@ extent-of-spec =
     length-or-requires
     enum-known-t-6
     graphic-unit-requires
-    cast-t29
-    mul-t30
+    cast-t32
+    mul-t33
     enum-known-t-7
     graphic-unit-requires-2
     varying-extent-requires-2
@@ -304,11 +304,11 @@ extent-of-spec =
     enum-told-15
     enum-told-16
     enum-known-t-8
-    cast-t34
-    enum-known-t-9
-    cast-t36
-    enum-known-t-10
     cast-t37
+    enum-known-t-9
+    cast-t39
+    enum-known-t-10
+    cast-t40
     enum-told-17
     length-or-requires-2
     enum-told-18

@@ -32,8 +32,8 @@ impl Library for Archive {
 }
 
 /// No row's texts are longer: three bytes for one, and for each column what a locator's text begins with or a decimal's scale adds.
-pub fn ample(columns: usize, data: &[u8]) -> usize {
-    3 * data.len() + 258 * columns
+pub fn ample(columns: usize, bytes: usize) -> usize {
+    3 * bytes + 258 * columns
 }
 
 /// Answers by a library, with buffers that are used again from call to call.
@@ -78,7 +78,7 @@ impl<L: Library> PortSide<L> {
             _ => return self.refused(columns, data, first),
         };
         match usize::try_from(texts) {
-            Ok(texts) if texts <= ample(columns.len() / 2, data) => {
+            Ok(texts) if texts <= ample(columns.len() / 2, data.len()) => {
                 self.accepted(columns, data, first, texts)
             }
             _ => Outcome::Bad(Bad::Nine),
@@ -120,9 +120,20 @@ impl<L: Library> PortSide<L> {
             .values
             .extend_from_slice(self.values.first(words));
         self.answer.text.extend_from_slice(self.text.first(texts));
-        // More of both.
-        let ample = ample(columns.len() / 2, data);
-        let bytes = [texts + 1, texts + 7, ample.max(texts), ample + 99][self.turn % 4];
+        // More of both; of the text around the lengths from which on no text can fail to fit.
+        let enough = ample(columns.len() / 2, data.len());
+        let just = ample(columns.len() / 2, (exact.first as usize).min(data.len()));
+        let sizes = [
+            texts + 1,
+            texts + 7,
+            just.saturating_sub(1),
+            just,
+            just + 1,
+            enough.saturating_sub(1),
+            enough,
+            enough + 99,
+        ];
+        let bytes = sizes[self.turn % sizes.len()].max(texts);
         let more = words + 1 + self.turn % 3;
         if self.call(columns, data, more, bytes) != exact || !self.same(words, more, texts, bytes) {
             return Outcome::Bad(Bad::Rest);
@@ -175,7 +186,7 @@ impl<L: Library> PortSide<L> {
         if !self.kept(words, 0) {
             return Outcome::Bad(Bad::Rest);
         }
-        let bytes = [1, ample(columns.len() / 2, data).min(5000)][self.turn % 2];
+        let bytes = [1, ample(columns.len() / 2, data.len()).min(5000)][self.turn % 2];
         let more = words + self.turn % 3;
         if self.call(columns, data, more, bytes) != first || !self.kept(more, bytes) {
             return Outcome::Bad(Bad::Rest);

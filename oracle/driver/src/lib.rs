@@ -5,16 +5,22 @@
 //! - `rust_side`, `port_side`: the two that answer
 //! - `random`, `inputs`: bytes to ask about
 //! - `compare`: the differential run
-//! - `shrink`: the smallest input that differs
 //! - `faults`: wrong libraries, to see that the run notices them
-//! - `descriptions`: all of this for descriptions and types
-//! - `options`: the options of the programs that compare
+//! - `descriptions`, `rows`: all of this for descriptions and types, and for rows
+//!
+//! And what all three share:
+//!
+//! - `command`: the command line, and what a run prints
+//! - `run`: when a run ends, and with what
+//! - `lent`: memory to lend to a call, and to look at afterwards
+//! - `shrink`: the smallest input that differs
 pub mod command;
 pub mod compare;
 pub mod descriptions;
 pub mod faults;
 pub mod inputs;
 pub mod leaf;
+pub mod lent;
 pub mod port_side;
 pub mod random;
 pub mod request;

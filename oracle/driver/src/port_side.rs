@@ -1,6 +1,7 @@
 //! The answers of the port, and the checks of what a line does not show: where refusal 9 comes and with which length, and that
 //! every byte that is not the text keeps what it had.
 use crate::leaf::{Answer, Leaf};
+use crate::lent::Lent;
 use port::Outcome;
 
 /// What is asked. The archive is one; `faults` has others, which are wrong.
@@ -41,22 +42,10 @@ pub fn ample(n: usize) -> usize {
 /// Longer than any packed decimal's text (258 bytes), with bytes left over.
 const SPARE: usize = 300;
 
-/// Bytes behind a lent buffer that are looked at too.
-const GUARD: usize = 32;
-
-/// Bytes that differ from their neighbours, so that bytes that are moved, or set to one value, show.
-fn filling(size: usize) -> Vec<u8> {
-    (0..size)
-        .map(|place| (place.wrapping_mul(0x9E37_79B9) >> 13) as u8)
-        .collect()
-}
-
 /// Answers by a library, with buffers that are used again from call to call.
 pub struct PortSide<L> {
     library: L,
-    /// What the buffer holds before a call.
-    before: Vec<u8>,
-    buffer: Vec<u8>,
+    buffer: Lent<u8>,
     text: Vec<u8>,
 }
 
@@ -64,8 +53,7 @@ impl<L: Library> PortSide<L> {
     pub fn new(library: L) -> Self {
         PortSide {
             library,
-            before: Vec::new(),
-            buffer: Vec::new(),
+            buffer: Lent::new(),
             text: Vec::new(),
         }
     }
@@ -79,7 +67,7 @@ impl<L: Library> PortSide<L> {
             };
         }
         let Outcome { refusal, length } = self.call(leaf, data, 0);
-        if !self.kept(0, 0) {
+        if !self.buffer.kept(0, 0) {
             return Answer::BadRest;
         }
         let most = ample(data.len()) + SPARE;
@@ -92,19 +80,7 @@ impl<L: Library> PortSide<L> {
 
     /// A call with a buffer of `size` bytes.
     fn call(&mut self, leaf: Leaf, data: &[u8], size: usize) -> Outcome {
-        let end = size + GUARD;
-        if self.buffer.len() < end {
-            self.before = filling(end);
-            self.buffer = self.before.clone();
-        }
-        self.buffer[..end].copy_from_slice(&self.before[..end]);
-        self.library.write(leaf, data, &mut self.buffer[..size])
-    }
-
-    /// Whether a buffer of `size` bytes, and what lies behind it, is as it was from `start` on.
-    fn kept(&self, start: usize, size: usize) -> bool {
-        let end = size + GUARD;
-        self.buffer[start..end] == self.before[start..end]
+        self.library.write(leaf, data, self.buffer.fresh(size))
     }
 
     /// The text, whose length by the library is `length`, and the checks with other buffers.
@@ -116,14 +92,16 @@ impl<L: Library> PortSide<L> {
         if self.call(leaf, data, length) != accepted {
             return Answer::Bad9;
         }
-        if !self.kept(length, length) {
+        if !self.buffer.kept(length, length) {
             return Answer::BadRest;
         }
         self.text.clear();
-        self.text.extend_from_slice(&self.buffer[..length]);
+        self.text.extend_from_slice(self.buffer.first(length));
         if length > 0 {
             let short = self.call(leaf, data, length - 1);
-            if (short.refusal, short.length) != (9, length as u64) || !self.kept(0, length - 1) {
+            if (short.refusal, short.length) != (9, length as u64)
+                || !self.buffer.kept(0, length - 1)
+            {
                 return Answer::Bad9;
             }
         }
@@ -136,7 +114,7 @@ impl<L: Library> PortSide<L> {
             if self.call(leaf, data, size) != accepted {
                 return Answer::Bad9;
             }
-            if self.buffer[..length] != self.text[..] || !self.kept(length, size) {
+            if self.buffer.first(length) != self.text || !self.buffer.kept(length, size) {
                 return Answer::BadRest;
             }
         }
@@ -149,7 +127,7 @@ impl<L: Library> PortSide<L> {
         if self.call(leaf, data, size) != first || first.length != 0 {
             return Answer::Bad9;
         }
-        if !self.kept(0, size) {
+        if !self.buffer.kept(0, size) {
             return Answer::BadRest;
         }
         Answer::Refusal(first.refusal)

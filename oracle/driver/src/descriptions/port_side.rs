@@ -1,6 +1,7 @@
 //! The answers of the port, and the checks of what a line does not show: that every column's number is its place, where 101
 //! comes and with which count, and that every word that is no column's keeps what it had.
 use super::{Description, FixedLength, COLUMN_LIMIT};
+use crate::lent::Lent;
 use port::column::Column;
 use port::{Described, TOO_FEW_WORDS};
 
@@ -27,46 +28,35 @@ impl Library for Archive {
 /// Words in which any accepted list fits.
 pub const AMPLE: usize = 2 * COLUMN_LIMIT;
 
-/// Words behind the lent ones that are looked at too.
-const GUARD: usize = 8;
-
-/// Room for more words than any list has.
-const ROOM: usize = AMPLE + 4 + GUARD;
+/// More words than any list has.
+const MANY: usize = AMPLE + 4;
 
 /// Answers by a library, with words that are used again from call to call.
 pub struct PortSide<L> {
     library: L,
-    /// What the words hold before a call: each another number, so that words that are moved, or set to one value, show.
-    before: [u64; ROOM],
-    words: [u64; ROOM],
+    words: Lent<u64>,
 }
 
 impl<L: Library> PortSide<L> {
     pub fn new(library: L) -> Self {
-        let mut before = [0; ROOM];
-        for (place, word) in before.iter_mut().enumerate() {
-            *word = (place as u64 + 1).wrapping_mul(0x9E37_79B9_7F4A_7C15);
-        }
         PortSide {
             library,
-            before,
-            words: before,
+            words: Lent::new(),
         }
     }
 
     /// The columns as a call with more words than needed gives them, and the checks with other numbers of words.
     pub fn describe(&mut self, data: &[u8]) -> Description {
-        let many = ROOM - GUARD;
-        let first = self.call(data, many);
+        let first = self.call(data, MANY);
         match first.number {
             0 if first.count <= COLUMN_LIMIT as u64 => {
                 let count = first.count as usize;
                 let columns = self.columns(count);
-                if !self.kept(2 * count) {
+                if !self.words.kept(2 * count, MANY) {
                     return Description::BadRest;
                 }
-                let found = self.words;
-                match self.with_fewer(data, first, &found[..2 * count]) {
+                let found = self.words.first(2 * count).to_vec();
+                match self.with_fewer(data, first, &found) {
                     Some(bad) => bad,
                     None => columns.map_or_else(|bad| bad, Description::Columns),
                 }
@@ -79,18 +69,12 @@ impl<L: Library> PortSide<L> {
 
     /// A call with `size` words.
     fn call(&mut self, data: &[u8], size: usize) -> Described {
-        self.words = self.before;
-        self.library.parse_qrydsc(data, &mut self.words[..size])
-    }
-
-    /// Whether the words, lent ones and those behind them, are as they were from `start` on.
-    fn kept(&self, start: usize) -> bool {
-        self.words[start..] == self.before[start..]
+        self.library.parse_qrydsc(data, self.words.fresh(size))
     }
 
     /// The columns that stand in the first words.
     fn columns(&self, count: usize) -> Result<Vec<Column>, Description> {
-        let (pairs, _) = self.words[..2 * count].as_chunks::<2>();
+        let (pairs, _) = self.words.first(2 * count).as_chunks::<2>();
         let mut columns = Vec::with_capacity(count);
         for (place, pair) in pairs.iter().enumerate() {
             let column = Column::from_words(*pair).ok_or(Description::BadWord)?;
@@ -112,7 +96,8 @@ impl<L: Library> PortSide<L> {
         if self.call(data, found.len()) != accepted {
             return Some(Description::Bad101);
         }
-        if !self.kept(found.len()) || self.words[..found.len()] != *found {
+        let size = found.len();
+        if !self.words.kept(size, size) || self.words.first(size) != found {
             return Some(Description::BadRest);
         }
         if found.is_empty() {
@@ -123,7 +108,7 @@ impl<L: Library> PortSide<L> {
             ..accepted
         };
         for size in [found.len() - 1, 0] {
-            if self.call(data, size) != too_few || !self.kept(0) {
+            if self.call(data, size) != too_few || !self.words.kept(0, size) {
                 return Some(Description::Bad101);
             }
         }
@@ -132,11 +117,11 @@ impl<L: Library> PortSide<L> {
 
     /// A refusal: the same with no words, with count 0 and no word changed.
     fn refused(&mut self, data: &[u8], first: Described) -> Description {
-        let kept = self.kept(0);
+        let kept = self.words.kept(0, MANY);
         if self.call(data, 0) != first || first.count != 0 {
             return Description::Bad101;
         }
-        if !kept || !self.kept(0) {
+        if !kept || !self.words.kept(0, 0) {
             return Description::BadRest;
         }
         Description::Refusal(first.number)

@@ -66,3 +66,33 @@ impl<L: Library> Run<L> {
         })))
     }
 }
+
+#[cfg(test)]
+mod tests {
+    use super::*;
+    use crate::rows::columns::plain;
+
+    #[test]
+    fn the_exceptions_are_those_of_the_paper() {
+        let of = |name: Name, numbers: u16, length: u16, reference: Option<u16>| {
+            carries_own_end(&Column {
+                length,
+                reference,
+                ..plain(name.with(numbers))
+            })
+        };
+        for name in [Name::LobBytes, Name::LobChar] {
+            assert!(of(name, 1023, 0, None) && of(name, 0x83FF, 0, None));
+            assert!(!of(name, 1024, 0, None) && !of(name, 0x8400, 0, None));
+        }
+        for name in [Name::Blob, Name::Clob, Name::DbClob] {
+            assert!(of(name, 0, 1, None) && of(name, 0, 0, Some(0)));
+            assert!(!of(name, 0, 0, None));
+        }
+        assert!(of(Name::Xml, 0, 0, None));
+        for name in [Name::VarChar, Name::VarGraphic] {
+            assert!(of(name, 0, 0, None) && of(name, 1, 0, None) && of(name, 0x8002, 0, None));
+            assert!(!of(name, 0x8000, 0, None) && !of(name, 0x8001, 0, None));
+        }
+    }
+}

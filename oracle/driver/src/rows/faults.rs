@@ -256,6 +256,14 @@ mod tests {
         }
     }
 
+    #[test]
+    fn without_a_fault_nothing_is_noticed() {
+        for stage in [Stage::Words, Stage::Any] {
+            let mut run = Run::new(Model(None), 3, Until::Cases(100_000));
+            assert!(matches!(run.from(stage), End::Enough));
+        }
+    }
+
     /// A fault, after how many rows it was noticed, and the smallest row that shows it, as the wrong library answers it.
     fn noticed(fault: Fault) -> String {
         let mut run = Run::new(Model(Some(fault)), 1, Until::Cases(2_000_000));

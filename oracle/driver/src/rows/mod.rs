@@ -20,8 +20,7 @@ pub mod smallest;
 use crate::descriptions::COLUMN_LIMIT;
 use crate::request::Hex;
 use db2_proto::fdoca::ColumnDescriptor;
-use db2_proto::types::Db2Type;
-use port::column::Column;
+use port::column::{Column, Name};
 use port::value::{Held, Sort, Value, VALUE_WORDS};
 use std::fmt;
 
@@ -69,16 +68,12 @@ impl List {
         };
         let columns: Option<Vec<Column>> = pairs.iter().map(column).collect();
         let columns = columns.filter(|_| rest.is_empty());
+        let refused = |column: &Column| column.db2_type.name == Name::DecFloat;
         let refusal = match &columns {
             _ if pairs.len() > COLUMN_LIMIT => Some(Early::TooMany),
             None => Some(Early::NoColumns),
-            Some(columns) => {
-                let published = columns.iter().map(|column| rust_side::published(column));
-                let decfloat = published
-                    .into_iter()
-                    .any(|column| matches!(column.db2_type, Db2Type::DecFloat(_)));
-                decfloat.then_some(Early::DecFloat)
-            }
+            Some(columns) if columns.iter().any(refused) => Some(Early::DecFloat),
+            Some(_) => None,
         };
         let columns = columns.unwrap_or_default();
         List {
@@ -285,5 +280,66 @@ impl fmt::Display for Bad {
 impl Default for Answer {
     fn default() -> Self {
         Answer::new()
+    }
+}
+
+#[cfg(test)]
+mod tests {
+    use super::*;
+
+    fn shown(words: [u64; 3], text: &[u8], data: &[u8]) -> String {
+        let answer = Answer {
+            outcome: Outcome::Accepted { used: 7 },
+            values: words.to_vec(),
+            text: text.to_vec(),
+        };
+        answer.shown(data)
+    }
+
+    #[test]
+    fn values_are_written_in_the_format() {
+        let minus_1 = u64::MAX;
+        for (words, written) in [
+            ([0, 0, 0], "N"),
+            ([1, minus_1, 0], "S:-1"),
+            ([2, 42, 0], "I:42"),
+            ([3, 1 << 63, 0], "L:-9223372036854775808"),
+            ([4, 0x8000_0000, 0], "F:80000000"),
+            ([5, 0x7F80_0001, 0], "F:7F800001"),
+            ([6, 1, 0], "G:0000000000000001"),
+            ([7, 0x7FF8 << 48, 0], "G:7FF8000000000000"),
+            ([11, 1, 2], "B:1:0203"),
+            ([12, 0, 0], "O:0:-"),
+            ([18, 1, 0], "b:1"),
+        ] {
+            assert_eq!(shown(words, &[], &[1, 2, 3]), format!("OK 7 - 0 {written}"));
+        }
+        assert_eq!(shown([0x10D, 0, 2], b"AB", &[]), "OK 7 0 2 K:4142");
+        assert_eq!(shown([0x10C, 0, 1], &[], &[9]), "OK 7 0 0 O:0:09");
+    }
+
+    #[test]
+    fn words_that_are_no_values_are_bad() {
+        for words in [
+            [20, 0, 0],
+            [1 << 9, 0, 0],
+            [0, 1, 0],
+            [1, 0xFFFF, 0],
+            [2, 0xFFFF_FFFF, 0],
+            [3, 0, 8],
+            [4, 0x7FC0_0000, 0],
+            [5, 0, 0],
+            [6, 0x7FF8 << 48, 0],
+            [7, 0, 0],
+            [11, 2, 2],
+            [12, u64::MAX, 2],
+            [18, 2, 0],
+            [9, 1, 0],
+            [9, 0, 1],
+        ] {
+            assert_eq!(shown(words, &[], &[1, 2, 3]), "BADWORD", "{words:?}");
+        }
+        // A text that no value names.
+        assert_eq!(shown([0, 0, 0], b"A", &[]), "BADWORD");
     }
 }

@@ -1,6 +1,7 @@
 //! The answers of the port, and the checks of what a line does not show: where refusal 9 and 101 come and with which numbers, and
 //! that every word and byte that is no value's or text's keeps what it had.
 use super::{Answer, Bad, Outcome};
+use crate::lent::Lent;
 use port::value::VALUE_WORDS;
 use port::{Decoded, TOO_FEW_WORDS};
 
@@ -31,44 +32,8 @@ impl Library for Archive {
 }
 
 /// No row's texts are longer: three bytes for one, and for each column what a locator's text begins with or a decimal's scale adds.
-pub fn ample(columns: usize, data: &[u8]) -> usize {
-    3 * data.len() + 258 * columns
-}
-
-/// Words and bytes behind the lent ones that are looked at too.
-const GUARD: usize = 8;
-
-/// Memory to lend, with more of it behind: each word, or byte, is another number, so that what is moved, or set to one value, shows.
-struct Lent<T> {
-    before: Vec<T>,
-    now: Vec<T>,
-}
-
-impl<T: Copy + PartialEq> Lent<T> {
-    fn new() -> Self {
-        Lent {
-            before: Vec::new(),
-            now: Vec::new(),
-        }
-    }
-
-    /// So many, as they were at first, and behind them the guard.
-    fn fresh(&mut self, size: usize, fill: impl Fn(u64) -> T) -> &mut [T] {
-        let end = size + GUARD;
-        if self.before.len() < end {
-            let made = |place: u64| fill((place + 1).wrapping_mul(0x9E37_79B9_7F4A_7C15));
-            self.before = (0..end as u64).map(made).collect();
-            self.now = self.before.clone();
-        }
-        self.now[..end].copy_from_slice(&self.before[..end]);
-        &mut self.now[..size]
-    }
-
-    /// Whether so many, and the guard, are as they were from `start` on.
-    fn kept(&self, start: usize, size: usize) -> bool {
-        let end = size + GUARD;
-        self.now[start..end] == self.before[start..end]
-    }
+pub fn ample(columns: usize, bytes: usize) -> usize {
+    3 * bytes + 258 * columns
 }
 
 /// Answers by a library, with buffers that are used again from call to call.
@@ -113,7 +78,7 @@ impl<L: Library> PortSide<L> {
             _ => return self.refused(columns, data, first),
         };
         match usize::try_from(texts) {
-            Ok(texts) if texts <= ample(columns.len() / 2, data) => {
+            Ok(texts) if texts <= ample(columns.len() / 2, data.len()) => {
                 self.accepted(columns, data, first, texts)
             }
             _ => Outcome::Bad(Bad::Nine),
@@ -122,8 +87,8 @@ impl<L: Library> PortSide<L> {
 
     /// A call with so many words for values and bytes for texts.
     fn call(&mut self, columns: &[u64], data: &[u8], words: usize, bytes: usize) -> Decoded {
-        let values = self.values.fresh(words, |number| number);
-        let text = self.text.fresh(bytes, |number| (number >> 32) as u8);
+        let values = self.values.fresh(words);
+        let text = self.text.fresh(bytes);
         self.library.decode_row(columns, data, values, text)
     }
 
@@ -153,11 +118,22 @@ impl<L: Library> PortSide<L> {
         self.answer.set(Outcome::Accepted { used: exact.first });
         self.answer
             .values
-            .extend_from_slice(&self.values.now[..words]);
-        self.answer.text.extend_from_slice(&self.text.now[..texts]);
-        // More of both.
-        let ample = ample(columns.len() / 2, data);
-        let bytes = [texts + 1, texts + 7, ample.max(texts), ample + 99][self.turn % 4];
+            .extend_from_slice(self.values.first(words));
+        self.answer.text.extend_from_slice(self.text.first(texts));
+        // More of both; of the text around the lengths from which on no text can fail to fit.
+        let enough = ample(columns.len() / 2, data.len());
+        let just = ample(columns.len() / 2, (exact.first as usize).min(data.len()));
+        let sizes = [
+            texts + 1,
+            texts + 7,
+            just.saturating_sub(1),
+            just,
+            just + 1,
+            enough.saturating_sub(1),
+            enough,
+            enough + 99,
+        ];
+        let bytes = sizes[self.turn % sizes.len()].max(texts);
         let more = words + 1 + self.turn % 3;
         if self.call(columns, data, more, bytes) != exact || !self.same(words, more, texts, bytes) {
             return Outcome::Bad(Bad::Rest);
@@ -183,8 +159,8 @@ impl<L: Library> PortSide<L> {
 
     /// Whether the values and texts are those of the answer, and all else is as it was.
     fn same(&self, words: usize, lent_words: usize, bytes: usize, lent_bytes: usize) -> bool {
-        self.values.now[..words] == self.answer.values
-            && self.text.now[..bytes] == self.answer.text
+        self.values.first(words) == self.answer.values
+            && self.text.first(bytes) == self.answer.text
             && self.values.kept(words, lent_words)
             && self.text.kept(bytes, lent_bytes)
     }
@@ -210,7 +186,7 @@ impl<L: Library> PortSide<L> {
         if !self.kept(words, 0) {
             return Outcome::Bad(Bad::Rest);
         }
-        let bytes = [1, ample(columns.len() / 2, data).min(5000)][self.turn % 2];
+        let bytes = [1, ample(columns.len() / 2, data.len()).min(5000)][self.turn % 2];
         let more = words + self.turn % 3;
         if self.call(columns, data, more, bytes) != first || !self.kept(more, bytes) {
             return Outcome::Bad(Bad::Rest);
@@ -251,8 +227,8 @@ impl<L: Library> PortSide<L> {
             second: bytes as u64,
         };
         self.call(columns, data, words, bytes) == decoded
-            && self.values.now[..words] == answer.values
-            && self.text.now[..bytes] == answer.text
+            && self.values.first(words) == answer.values
+            && self.text.first(bytes) == answer.text
             && self.values.kept(words, words)
             && self.text.kept(bytes, bytes)
     }

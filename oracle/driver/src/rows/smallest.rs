@@ -49,7 +49,7 @@ fn differing<L: Library>(
     data: &[u8],
     rust: &Answer,
 ) -> Option<Answer> {
-    let turns = if data.len() < 10_000 { 12 } else { 1 };
+    let turns = if data.len() < 10_000 { 24 } else { 1 };
     (0..turns).find_map(|_| {
         let answer = port.answer(&list.words, data);
         (answer != rust).then(|| answer.clone())

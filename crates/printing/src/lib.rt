@@ -1,0 +1,384 @@
+// Inner. Lines for people, written to standard output by way of a buffer: decimal and hexadecimal numbers, texts with their control characters escaped,
+// bytes, floats, and columns of a table. It knows no rows and no types of columns.
+use float_digits::Digits;
+use float_digits::MOST_DIGITS;
+use float_digits::POINT;
+ghost use mathlib.Core.Path.{_≡_};
+ghost use Prim.Native.Nat.{_<_};
+ghost use lib.ListN.{length};
+ghost use Rattle.conversion.specs.Hex.{hexDigit};
+
+// How many bytes are kept before they are written out.
+const ROOM: usize = 512;
+
+// A line that is longer than this has no columns behind it.
+const WIDEST: usize = 200;
+
+// What is kept, and how many bytes of the line stand before the next one.
+pub struct Line {
+    bytes: [u8; ROOM],
+    len: usize,
+    column: usize,
+}
+
+// What is printed for a byte of a text.
+enum Shown {
+    Nothing,
+    Byte(u8),
+    // Behind a backslash.
+    Short(u8),
+    // As \u{..}.
+    Code(u8),
+}
+
+// The upper-case hexadecimal digit of a number below 16.
+pub fn hex_digit(n: u8) -> u8
+    requires { ⌜ n < 16 ⌝ }
+    ensures { λ r. ⌜ r ≡ hexDigit n ⌝ }
+{
+    if n < 10 {
+        return 0x30 + n;
+    }
+    0x37 + n
+}
+
+// Whether the byte behind a place is the second of U+0080 to U+009F, if the first stands here.
+fn is_control_next(s: &[u8], i: usize) -> bool
+    requires { ⌜ i < length (now s) ⌝ }
+{
+    let next = i + 1;
+    if s.len() <= next {
+        return false;
+    }
+    is_high_control(s[next])
+}
+
+fn is_high_control(b: u8) -> bool {
+    if b < 0x80 {
+        return false;
+    }
+    b < 0xA0
+}
+
+// Whether the byte before a place is C2, which U+0080 to U+00BF begin with.
+fn is_behind_c2(s: &[u8], i: usize) -> bool
+    requires { ⌜ i < length (now s) ⌝ }
+{
+    if i == 0 {
+        return false;
+    }
+    s[i - 1] == 0xC2
+}
+
+// What is printed for the byte at a place of a UTF-8 text. Control characters are 0 to 1F, 7F and U+0080 to U+009F.
+fn shown_at(s: &[u8], i: usize) -> Shown
+    requires { ⌜ i < length (now s) ⌝ }
+{
+    let b = s[i];
+    if b == 0xC2 {
+        if is_control_next(s, i) {
+            return Shown::Nothing;
+        }
+        return Shown::Byte(b);
+    }
+    if is_high_control(b) {
+        if is_behind_c2(s, i) {
+            return Shown::Code(b);
+        }
+        return Shown::Byte(b);
+    }
+    shown_ascii(b)
+}
+
+fn shown_ascii(b: u8) -> Shown {
+    match b {
+        b'\n' => Shown::Short(b'n'),
+        b'\r' => Shown::Short(b'r'),
+        b'\t' => Shown::Short(b't'),
+        b'"' | b'\\' => Shown::Short(b),
+        0..=0x1F | 0x7F => Shown::Code(b),
+        _ => Shown::Byte(b),
+    }
+}
+
+// Writes out the first n bytes, which are there.
+fn write_first(s: &[u8], n: usize) {
+    if n <= s.len() {
+        io::write_all(libc::STDOUT_FILENO, &s[0..n]);
+    }
+}
+
+impl Line {
+    // An empty line.
+    pub fn new() -> Line {
+        Line {
+            bytes: [0u8; ROOM],
+            len: 0,
+            column: 0,
+        }
+    }
+
+    // Writes out what is kept.
+    pub fn flush(self) -> Line {
+        let bytes = self.bytes;
+        write_first(&bytes, self.len);
+        Line {
+            bytes,
+            len: 0,
+            column: self.column,
+        }
+    }
+
+    // The next place of a line behind this one.
+    fn next_column(self) -> usize {
+        let column = self.column;
+        if column < WIDEST {
+            return column + 1;
+        }
+        WIDEST
+    }
+
+    // Keeps a byte, where there is room for it.
+    fn keep(self, b: u8) -> Line {
+        let mut bytes = self.bytes;
+        let len = self.len;
+        let column = self.next_column();
+        if len < ROOM {
+            bytes[len] = b;
+            return Line {
+                bytes,
+                len: len + 1,
+                column,
+            };
+        }
+        self
+    }
+
+    pub fn byte(self, b: u8) -> Line {
+        if self.len < ROOM {
+            return self.keep(b);
+        }
+        self.flush().keep(b)
+    }
+
+    // Bytes as they are.
+    pub fn text(self, s: &[u8]) -> Line {
+        let mut line = self;
+        let mut i: usize = 0;
+        while i < s.len() {
+            line = line.byte(s[i]);
+            i += 1;
+        }
+        line
+    }
+
+    pub fn repeat(self, b: u8, times: usize) -> Line {
+        let mut line = self;
+        let mut left = times;
+        while left > 0 {
+            line = line.byte(b);
+            left -= 1;
+        }
+        line
+    }
+
+    // The end of the line.
+    pub fn end(self) -> Line {
+        let mut line = self.byte(b'\n');
+        line.column = 0;
+        line
+    }
+
+    // Spaces up to a column; one where the line is there already.
+    pub fn to_column(self, column: usize) -> Line {
+        let now = self.column;
+        if now < column {
+            return self.repeat(b' ', column - now);
+        }
+        self.byte(b' ')
+    }
+
+    pub fn decimal(self, n: u64) -> Line {
+        let mut digits = [0u8; 20];
+        let k = io::decimal(n, &mut digits);
+        self.text(&digits[..k])
+    }
+
+    // A signed number by its 64 bits (two's complement).
+    pub fn signed(self, bits: u64) -> Line {
+        if bits < 0x8000_0000_0000_0000 {
+            return self.decimal(bits);
+        }
+        self.byte(b'-').decimal(u64::MAX - bits + 1)
+    }
+
+    // A number that ends before a column.
+    pub fn decimal_before(self, n: u64, column: usize) -> Line {
+        let mut digits = [0u8; 20];
+        let k = io::decimal(n, &mut digits);
+        let now = self.column;
+        if column <= now {
+            return self.byte(b' ').text(&digits[..k]);
+        }
+        if column - now <= k {
+            return self.byte(b' ').text(&digits[..k]);
+        }
+        self.repeat(b' ', column - now - k).text(&digits[..k])
+    }
+
+    // A byte as two hexadecimal digits.
+    pub fn hex_byte(self, b: u8) -> Line {
+        self.byte(hex_digit(b / 16)).byte(hex_digit(b % 16))
+    }
+
+    // A number of 16, 32 or 64 bits in hexadecimal, with all its digits.
+    pub fn hex16(self, n: u16) -> Line {
+        self.hex_byte((n / 256) as u8).hex_byte((n % 256) as u8)
+    }
+
+    pub fn hex32(self, n: u32) -> Line {
+        self.hex16((n / 65536) as u16).hex16((n % 65536) as u16)
+    }
+
+    pub fn hex64(self, n: u64) -> Line {
+        self.hex32((n / 0x1_0000_0000) as u32)
+            .hex32((n % 0x1_0000_0000) as u32)
+    }
+
+    // The bytes in hexadecimal.
+    pub fn hex_bytes(self, s: &[u8]) -> Line {
+        let mut line = self;
+        let mut i: usize = 0;
+        while i < s.len() {
+            line = line.hex_byte(s[i]);
+            i += 1;
+        }
+        line
+    }
+
+    fn shown(self, what: Shown) -> Line {
+        match what {
+            Shown::Nothing => self,
+            Shown::Byte(b) => self.byte(b),
+            Shown::Short(b) => self.byte(b'\\').byte(b),
+            Shown::Code(b) => self.text(b"\\u{").hex_byte(b).byte(b'}'),
+        }
+    }
+
+    // A UTF-8 text within quotation marks, its control characters, quotation marks and backslashes escaped.
+    pub fn quoted(self, s: &[u8]) -> Line {
+        let mut line = self.byte(b'"');
+        let mut i: usize = 0;
+        while i < s.len() {
+            line = line.shown(shown_at(s, i));
+            i += 1;
+        }
+        line.byte(b'"')
+    }
+
+    // Some of the digits.
+    fn some_digits(self, d: Digits, from: usize, to: usize) -> Line {
+        let digits = d.digits;
+        let mut line = self;
+        let mut i = from;
+        while i < to {
+            if MOST_DIGITS <= i {
+                return line;
+            }
+            line = line.byte(0x30 + digits[i] % 10);
+            i += 1;
+        }
+        line
+    }
+
+    // One digit before the point, and a power of ten.
+    fn scientific(self, d: Digits) -> Line {
+        let line = self.some_digits(d, 0, 1);
+        if d.count <= 1 {
+            return line.power(d.point);
+        }
+        let count = d.count;
+        let point = d.point;
+        line.byte(b'.').some_digits(d, 1, count).power(point)
+    }
+
+    // The power of ten of the first digit.
+    fn power(self, point: usize) -> Line {
+        let line = self.byte(b'e');
+        if point <= POINT {
+            return line.byte(b'-').decimal((POINT - point) as u64 + 1);
+        }
+        line.decimal((point - POINT) as u64 - 1)
+    }
+
+    // The digits, with a point among them, and at least one digit on each side of it.
+    fn positional(self, d: Digits) -> Line {
+        let point = d.point;
+        let count = d.count;
+        if point <= POINT {
+            return self.text(b"0.")
+                .repeat(b'0', POINT - point)
+                .some_digits(d, 0, count);
+        }
+        let whole = point - POINT;
+        if count <= whole {
+            return self.some_digits(d, 0, count)
+                .repeat(b'0', whole - count)
+                .text(b".0");
+        }
+        self.some_digits(d, 0, whole)
+            .byte(b'.')
+            .some_digits(d, whole, count)
+    }
+
+    // A float by its digits, as Rust's `{:?}` has it: positional from 0.0001 up to below 10 to the 16, else scientific.
+    fn digits(self, d: Digits) -> Line {
+        let point = d.point;
+        if point <= POINT - 4 {
+            return self.scientific(d);
+        }
+        if POINT + 17 <= point {
+            return self.scientific(d);
+        }
+        self.positional(d)
+    }
+
+    fn sign(self, is_negative: bool) -> Line {
+        if is_negative {
+            return self.byte(b'-');
+        }
+        self
+    }
+
+    // A Double by its bits: the shortest decimal that reads back to it.
+    pub fn double(self, bits: u64) -> Line {
+        let size = bits % 0x8000_0000_0000_0000;
+        if 0x7FF0_0000_0000_0000 < size {
+            return self.text(b"NaN");
+        }
+        let line = self.sign(0x8000_0000_0000_0000 <= bits);
+        if size == 0x7FF0_0000_0000_0000 {
+            return line.text(b"inf");
+        }
+        if size == 0 {
+            return line.text(b"0.0");
+        }
+        line.digits(float_digits::of_double(size))
+    }
+
+    // A Real likewise.
+    pub fn real(self, bits: u32) -> Line {
+        let size = bits % 0x8000_0000;
+        if 0x7F80_0000 < size {
+            return self.text(b"NaN");
+        }
+        let line = self.sign(0x8000_0000 <= bits);
+        if size == 0x7F80_0000 {
+            return line.text(b"inf");
+        }
+        if size == 0 {
+            return line.text(b"0.0");
+        }
+        line.digits(float_digits::of_real(size))
+    }
+}

@@ -1,0 +1,63 @@
+-- `show_row::show_values` is safe and ends. Assumes nothing.
+use Prim.Native.Nat.{_-_, _≤_}
+use native.Mathlib.Omega.{arith}
+use Rattle.show_row.proofs.values.show_values.Statement.{statement}
+use Rattle.show_row.proofs.values.show_values.Tie as tie
+
+abbrev Inv-loop : tie.InvT-loop
+Inv-loop row text columns answer count line₀ i₀ line i = i ≤ count
+
+abbrev μ-loop : tie.MeasureT-loop
+μ-loop row text columns answer count line₀ i₀ line i = count - i
+
+new-requires : tie.Need-new-requires Inv-loop μ-loop
+new-requires c κs = tt
+
+head-requires : tie.Need-head-requires Inv-loop μ-loop
+head-requires c κs = tt
+
+loop-holds : tie.Need-loop-holds Inv-loop μ-loop
+loop-holds c = omega arith
+
+returns : tie.Need-returns Inv-loop μ-loop
+returns c = tt
+
+mul-column : tie.Need-mul-column Inv-loop μ-loop
+mul-column c = omega arith
+
+element-copy-out-column : tie.Need-element-copy-out-column Inv-loop μ-loop
+element-copy-out-column c = omega arith
+
+column-requires : tie.Need-column-requires Inv-loop μ-loop
+column-requires c κs = tt
+
+mul-value : tie.Need-mul-value Inv-loop μ-loop
+mul-value c = omega arith
+
+element-copy-out-value : tie.Need-element-copy-out-value Inv-loop μ-loop
+element-copy-out-value c = omega arith
+
+value-requires : tie.Need-value-requires Inv-loop μ-loop
+value-requires c κs = tt
+
+add-i : tie.Need-add-i Inv-loop μ-loop
+add-i c = omega arith
+
+loop-less : tie.Need-loop-less Inv-loop μ-loop
+loop-less c = omega arith
+
+loop-again : tie.Need-loop-again Inv-loop μ-loop
+loop-again c = omega arith
+
+last-line-requires : tie.Need-last-line-requires Inv-loop μ-loop
+last-line-requires c κs = tt
+
+flush-requires : tie.Need-flush-requires Inv-loop μ-loop
+flush-requires c κs = tt
+
+returns-2 : tie.Need-returns-2 Inv-loop μ-loop
+returns-2 c = tt
+
+pub show-values-spec : {M : Type 1} → statement M
+show-values-spec =
+    tie.close (tie.spec Inv-loop μ-loop new-requires head-requires loop-holds returns mul-column element-copy-out-column column-requires mul-value element-copy-out-value value-requires add-i loop-less loop-again last-line-requires flush-requires returns-2)

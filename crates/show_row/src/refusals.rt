@@ -1,0 +1,72 @@
+// A refusal as a line: its number, its meaning, its numbers and, where a column is to blame, which.
+use printing::Line;
+use refusal::Outcome;
+use types::Columns;
+
+// The first column with which the row is refused with this number: the row call is made with the first column alone, with the first two, and so on.
+fn column_of(row: &[u8], columns: Columns, number: u32, text: &mut [u8]) -> usize {
+    let count = columns.count;
+    let mut some = columns;
+    let mut i: usize = 0;
+    while i < count {
+        some.count = i + 1;
+        let a = row::decode_row(row, some, text);
+        let outcome = a.outcome;
+        if outcome.number() == number {
+            return i;
+        }
+        i += 1;
+    }
+    i
+}
+
+fn begin(number: u32) -> Line {
+    Line::new()
+        .text(b"refusal ")
+        .decimal(number as u64)
+        .text(b": ")
+}
+
+fn meaning(number: u32) -> Line {
+    let line = begin(number);
+    match number {
+        1 => line.text(b"the description is longer than 65,536 bytes"),
+        2 => line.text(b"the description has more than 128 columns"),
+        3 => line.text(b"the column count is above 128"),
+        4 => line.text(b"the row is longer than 1,048,576 bytes"),
+        5 => line.text(b"the row has a DecFloat column, which is not read"),
+        6 => line.text(b"the packed decimal has no bytes"),
+        7 => line.text(b"the packed decimal has more than 128 bytes"),
+        8 => line.text(b"the row is too short"),
+        9 => line.text(b"the text buffer is too short"),
+        _ => line.text(b"unknown"),
+    }
+}
+
+pub fn show_refused_description(outcome: Outcome) {
+    meaning(outcome.number()).end().flush();
+}
+
+// The row's refusal, where this column is the first with which it is given.
+fn refused_row(number: u32, first: u64, second: u64, column: usize) -> Line {
+    let line = meaning(number);
+    match number {
+        5 => line.text(b": column ").decimal(column as u64),
+        8 => line.text(b": column ")
+            .decimal(column as u64)
+            .text(b", expected ")
+            .decimal(first)
+            .text(b" bytes, actual ")
+            .decimal(second),
+        9 => line.text(b": needed ").decimal(first).text(b" bytes"),
+        _ => line,
+    }
+}
+
+pub fn show_refused_row(outcome: Outcome, row: &[u8], columns: Columns, text: &mut [u8]) {
+    let number = outcome.number();
+    let first = outcome.first_value() as u64;
+    let second = outcome.second_value() as u64;
+    let column = column_of(row, columns, number, text);
+    refused_row(number, first, second, column).end().flush();
+}

@@ -1,0 +1,153 @@
+// A value in the table: where it lies, whether it is external, and the value itself.
+use crate::columns;
+use printing::Line;
+use types::Columns;
+use types::Db2Value;
+use types::MAX_COLUMNS;
+use types::RowAnswer;
+use types::ValuePlace;
+
+const EXTERNAL: usize = 63;
+
+const VALUE: usize = 73;
+
+// How many bytes of a Binary or Blob are shown.
+const SHOWN: usize = 32;
+
+// How a value is shown.
+enum Form {
+    Null,
+    Signed,
+    Real,
+    Double,
+    Boolean,
+    // A text that has digits only, and one within quotation marks.
+    Plain,
+    Quoted,
+    // Bytes of the row, in hexadecimal.
+    Bytes,
+}
+
+fn form_of(value: Db2Value) -> Form {
+    match value {
+        Db2Value::Null => Form::Null,
+        Db2Value::SmallInt(_) => Form::Signed,
+        Db2Value::Integer(_) => Form::Signed,
+        Db2Value::BigInt(_) => Form::Signed,
+        Db2Value::Real(_) => Form::Real,
+        Db2Value::RealNan(_) => Form::Real,
+        Db2Value::Double(_) => Form::Double,
+        Db2Value::DoubleNan(_) => Form::Double,
+        Db2Value::Decimal(_) => Form::Plain,
+        Db2Value::Char(_) => Form::Quoted,
+        Db2Value::VarChar(_) => Form::Quoted,
+        Db2Value::Binary(_) => Form::Bytes,
+        Db2Value::Blob(_) => Form::Bytes,
+        Db2Value::Clob(_) => Form::Quoted,
+        Db2Value::RowId(_) => Form::Quoted,
+        Db2Value::Date(_) => Form::Quoted,
+        Db2Value::Time(_) => Form::Quoted,
+        Db2Value::Timestamp(_) => Form::Quoted,
+        Db2Value::Boolean(_) => Form::Boolean,
+        Db2Value::Xml(_) => Form::Quoted,
+    }
+}
+
+fn range(line: Line, start: u64, len: u64) -> Line {
+    line.decimal(start)
+        .text(b"..")
+        .decimal(std::num::wrapping_add_u64(start, len))
+}
+
+// Where a value lies: a part of the text buffer or of the row, as first byte and the byte behind the last one.
+fn place(line: Line, form: Form, start: u64, len: u64) -> Line {
+    match form {
+        Form::Plain => range(line.text(b"text "), start, len),
+        Form::Quoted => range(line.text(b"text "), start, len),
+        Form::Bytes => range(line.text(b"row "), start, len),
+        _ => line.byte(b'-'),
+    }
+}
+
+fn bytes(line: Line, s: &[u8]) -> Line {
+    if s.len() <= SHOWN {
+        return line.text(b"X'").hex_bytes(s).byte(b'\'');
+    }
+    line.text(b"X'")
+        .hex_bytes(&s[0..SHOWN])
+        .text(b"'.. of ")
+        .decimal(s.len() as u64)
+        .text(b" bytes")
+}
+
+fn truth(line: Line, number: u64) -> Line {
+    if number == 0 {
+        return line.text(b"false");
+    }
+    line.text(b"true")
+}
+
+// The value itself: of a number its words (crates/words), of the others the bytes that value_bytes shows.
+fn shown(line: Line, form: Form, number: u64, s: &[u8]) -> Line {
+    match form {
+        Form::Null => line.text(b"null"),
+        Form::Signed => line.signed(number),
+        Form::Real => {
+            let bits = (number % 0x1_0000_0000) as u32;
+            line.real(bits).text(b" (bits ").hex32(bits).byte(b')')
+        }
+        Form::Double => line.double(number)
+            .text(b" (bits ")
+            .hex64(number)
+            .byte(b')'),
+        Form::Boolean => truth(line, number),
+        Form::Plain => line.text(s),
+        Form::Quoted => line.quoted(s),
+        Form::Bytes => bytes(line, s),
+    }
+}
+
+fn value<'a>(line: Line, v: ValuePlace, row: &'a [u8], text: &'a [u8]) -> Line {
+    let held = v.value;
+    let form = form_of(held);
+    let words = words::value_words(v);
+    let placed = place(line.to_column(columns::NEXT), form, words.number, words.len);
+    let external = columns::yes_or_no(placed.to_column(EXTERNAL), v.external);
+    let s = row::value_bytes(held, row, text);
+    shown(external.to_column(VALUE), form, words.number, s).end()
+}
+
+fn head(line: Line) -> Line {
+    columns::head(line)
+        .to_column(columns::NEXT)
+        .text(b"lies at")
+        .to_column(EXTERNAL)
+        .text(b"external")
+        .to_column(VALUE)
+        .text(b"value")
+        .end()
+}
+
+fn last_line(line: Line, used: usize, len: usize) -> Line {
+    line.text(b"used ")
+        .decimal(used as u64)
+        .text(b" bytes, left ")
+        .decimal(std::num::wrapping_sub_usize(len, used) as u64)
+        .end()
+}
+
+// The values of an accepted row, and the bytes used and left.
+pub fn show_values<'a>(columns: Columns, answer: RowAnswer, row: &'a [u8], text: &'a [u8]) {
+    let count = columns.count;
+    let mut line = head(Line::new());
+    let mut i: usize = 0;
+    while i < count {
+        if MAX_COLUMNS <= i {
+            return;
+        }
+        let begun = columns::column(line, columns.columns[i]);
+        line = value(begun, answer.places[i], row, text);
+        i += 1;
+    }
+    last_line(line, answer.used, row.len()).flush();
+}

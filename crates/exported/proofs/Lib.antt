@@ -1,3 +1,4 @@
 mod Reported
 mod Described
 mod TypeLength
+mod RowCall

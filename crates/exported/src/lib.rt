@@ -3,7 +3,10 @@
 // refusal 9 the length needed. A column is two words and a type is one: crates/words has the layout. It has no rules of its own: each promise
 // cites what the call within promises, or what the call that it stands for does.
 use buffer::TextAnswer;
+use refusal::INPUT_LIMIT;
 use refusal::Outcome;
+use row_words::Checked;
+use row_words::RowOutcome;
 use types::FixedLength;
 use types::MAX_COLUMNS;
 use words::TypeRead;
@@ -15,17 +18,23 @@ ghost use Rattle.conversion.specs.Conversion.{characterText, graphicText, locat
 ghost use Rattle.text.specs.Text.{conversionAnswer, conversionBuffer};
 ghost use Rattle.decimal.specs.Decimal.{decimalAnswer, decimalBuffer};
 ghost use Rattle.qrydsc.specs.Qrydsc.{description};
+ghost use Rattle.rules.specs.Row.{textAfter};
+ghost use Rattle.rules.specs.Conversions.{ported};
 ghost use Rattle.words.specs.Words.{readType};
+ghost use Rattle.row_words.specs.Rows.{valuesAfter};
 ghost use Rattle.exported.specs.Exported.{numberTold, lengthTold};
+ghost use Rattle.exported.specs.Rows.{wordsDecision, rowNumber, rowFirst, rowSecond};
 ghost use Rattle.exported.specs.Descriptions.{descriptionNumber, descriptionWords, typeNumber, lengthOf, flagOf, bytesOf};
 
 // How many bytes a description may have.
 const MAX_QRYDSC: usize = 65536;
 
-// What a function answers beside the refusals: the lent words are too few; a word is no type word.
+// What a function answers beside the refusals: the lent words are too few; a word is no type's; words are no column's.
 const TOO_FEW_WORDS: u32 = 101;
 
 const NO_TYPE_WORD: u32 = 102;
+
+const NO_COLUMN: u32 = 102;
 
 // Hands out an answer: its number returned, its length in len.
 fn report(a: TextAnswer, len: &mut u64) -> u32
@@ -171,5 +180,60 @@ pub extern "C" fn vejupa_fixed_length(type_word: u64, fixed: &mut u64, length: &
             0
         }
         FixedLength::Varies => 0,
+    }
+}
+
+// A row's values by columns that stand in words, two words a column: three words a value, texts in the text buffer. first and second are the bytes
+// used and the bytes of text; of a refusal its values, and 0 where it has none. It makes no list of 128 places.
+#[no_mangle]
+pub extern "C" fn vejupa_decode_row(
+    columns: &[u64],
+    data: &[u8],
+    values: &mut [u64],
+    text: &mut [u8],
+    first: &mut u64,
+    second: &mut u64,
+) -> u32
+    ensures number { λ r. ⌜ r ≡ rowNumber (wordsDecision (now (columns .entry)) (now («data» .entry)) (now (values .entry)) (now (text .entry))) ⌝ }
+    ensures first { λ _. ⌜ now (first .exit) ≡ rowFirst (wordsDecision (now (columns .entry)) (now («data» .entry)) (now (values .entry)) (now (text .entry))) ⌝ }
+    ensures second { λ _. ⌜ now (second .exit) ≡ rowSecond (wordsDecision (now (columns .entry)) (now («data» .entry)) (now (values .entry)) (now (text .entry))) ⌝ }
+    ensures values { λ _. ⌜ now (values .exit) ≡ valuesAfter (wordsDecision (now (columns .entry)) (now («data» .entry)) (now (values .entry)) (now (text .entry))) (now (values .entry)) ⌝ }
+    ensures text { λ _. ⌜ now (text .exit) ≡ textAfter ported (wordsDecision (now (columns .entry)) (now («data» .entry)) (now (values .entry)) (now (text .entry))) (now (text .entry)) ⌝ }
+{
+    *first = 0;
+    *second = 0;
+    let count = columns.len() / 2;
+    if MAX_COLUMNS < count {
+        return 3;
+    }
+    let words = 3 * count;
+    if values.len() < words {
+        *first = words as u64;
+        return TOO_FEW_WORDS;
+    }
+    let Checked::Columns { dec_floats } = row_words::check_columns(columns) else {
+        return NO_COLUMN;
+    };
+    if INPUT_LIMIT < data.len() {
+        return 4;
+    }
+    if 0 < dec_floats {
+        return 5;
+    }
+    match row_words::decode_row(columns, data, values, text) {
+        RowOutcome::Accepted { used, written } => {
+            *first = used as u64;
+            *second = written as u64;
+            0
+        }
+        RowOutcome::TooShort { expected, actual } => {
+            *first = expected as u64;
+            *second = actual as u64;
+            8
+        }
+        RowOutcome::TextTooShort { needed } => {
+            *first = needed as u64;
+            9
+        }
     }
 }

@@ -8,23 +8,27 @@ use borrow.Author.Needs.{needs}
 use borrow.Author.Tests.{eq-eqb, ne-eqb, eqb-true, eqb-false}
 use lib.Dec.{eqb}
 use lib.ListN.{getD}
+use Rattle.types.specs.Names.{nameOf}
 use Rattle.types.specs.declared.Db2Type.{Db2Type}
 use Rattle.types.specs.declared.Db2Type.the-variants as type
-use Rattle.words.specs.Words.{packType, littleEndianBit, referenceBit, referenceWidth, firstWord, secondWord, typesWith, typeNamed}
+use Rattle.words.specs.Words.{ownNumbers, packType, littleEndianBit, referenceBit, referenceWidth, firstWord, secondWord, typesWith, typeNamed}
 use Rattle.words.specs.Reading.{orderNamed, referenceNamed, columnNamed, isColumn}
 
--- ---- the word of a type that bits name has 24 bits
-abbrev Small : List Db2Type → Type 0
-Small [] = Unit {0}
-Small (t ∷ ts) = (packType t < 2 ^ 24) × Small ts
+-- ---- the word of a type that bits name has 24 bits, and the place of its name has 8
+abbrev Each : (Db2Type → Type 0) → List Db2Type → Type 0
+Each P [] = Unit {0}
+Each P (t ∷ ts) = P t × Each P ts
 
-small-at : (ts : List Db2Type) → Small ts → (i : ℕ) → packType (getD ts i type.Null) < 2 ^ 24
-small-at [] h i = omega arith
-small-at (t ∷ ts) h zero = h .0
-small-at (t ∷ ts) h (suc i) = small-at ts (h .1) i
+each-at : (P : Db2Type → Type 0) (ts : List Db2Type) → Each P ts → P type.Null → (i : ℕ) → P (getD ts i type.Null)
+each-at P [] h k i = k
+each-at P (t ∷ ts) h k zero = h .0
+each-at P (t ∷ ts) h k (suc i) = each-at P ts (h .1) k i
 
-all-small : (n : ℕ) → n < 65536 → Small (typesWith n)
+all-small : (n : ℕ) → n < 65536 → Each (λ t. packType t < 2 ^ 24) (typesWith n)
 all-small n h = search needs
+
+all-placed : (n : ℕ) → Each (λ t. nameOf t < 2 ^ 8) (typesWith n)
+all-placed n = search needs
 
 -- ---- a bit that names a flag is that flag's bit
 bit-back : (x : ℕ) → x < 2 → cond (eqb x 1) 1 0 ≡ x
@@ -50,6 +54,13 @@ width-back (suc (suc x)) n h = omega arith
 and-false : (x : Bool) → false ≡ x && false
 and-false true = refl
 and-false false = refl
+
+and-first : (x y : Bool) → x && y ≡ true → x ≡ true
+and-first true y h = refl
+and-first false y h = h
+
+lowest : (k n a : ℕ) → k < 2 ^ 8 → k + n * 2 ^ 8 ≡ a % 2 ^ 24 → k ≡ a % 2 ^ 8
+lowest k n a h e = omega arith
 
 -- ---- a number by its parts: t has 24 bits, c, i and h have 8, x, y and z have one, and u is what is above
 whole : (a a24 a32 a40 a48 a49 a50 t c i h x y z u : ℕ) → a ≡ t + a24 * 2 ^ 24 → a24 ≡ c + a32 * 2 ^ 8 → a32 ≡ i + a40 * 2 ^ 8 → a40 ≡ h + a48 * 2 ^ 8
@@ -103,7 +114,15 @@ module _ (a b : ℕ) where
 
   type-small : type-word < 2 ^ 24
   unfolding type-word typeNamed
-  type-small = small-at (typesWith (a / 256 % 65536)) (all-small (a / 256 % 65536) (omega arith)) (a % 256)
+  type-small = each-at (λ t. packType t < 2 ^ 24) (typesWith (a / 256 % 65536)) (all-small (a / 256 % 65536) (omega arith)) (omega arith) (a % 256)
+
+  pub type-fits : packType (columnNamed a b .«db2_type») < 2 ^ 24
+  unfolding columnNamed type-word
+  type-fits = type-small
+
+  name-small : nameOf (typeNamed (a % 256) (a / 256 % 65536)) < 2 ^ 8
+  unfolding typeNamed
+  name-small = each-at (λ t. nameOf t < 2 ^ 8) (typesWith (a / 256 % 65536)) (all-placed (a / 256 % 65536)) (omega arith) (a % 256)
 
   -- the words of the column that a and b name
   first-is : firstWord (columnNamed a b) ≡ type-word + a / 2 ^ 24 % 2 ^ 8 * 2 ^ 24 + a / 2 ^ 32 % 2 ^ 8 * 2 ^ 32 + a / 2 ^ 48 % 2 * 2 ^ 48 + a / 2 ^ 49 % 2 * 2 ^ 49 + a / 2 ^ 50 % 2 * 2 ^ 50
@@ -131,6 +150,13 @@ module _ (a b : ℕ) where
   other-second : (secondWord (columnNamed a b) ≡ b → ⊥) → false ≡ isColumn a b
   unfolding isColumn
   other-second h = rw (ne-eqb (secondWord (columnNamed a b)) b h) (and-false (eqb (firstWord (columnNamed a b)) a))
+
+  -- the place of the column's type is in the low 8 bits
+  pub name-read : isColumn a b ≡ true → nameOf (columnNamed a b .«db2_type») ≡ a % 2 ^ 8
+  unfolding isColumn columnNamed type-word
+  name-read h =
+      let e = first-same (eqb-true (firstWord (columnNamed a b)) a (and-first (eqb (firstWord (columnNamed a b)) a) (eqb (secondWord (columnNamed a b)) b) h)) .0 in
+      lowest (nameOf (typeNamed (a % 256) (a / 256 % 65536))) (ownNumbers (typeNamed (a % 256) (a / 256 % 65536))) a name-small e
 
   -- a column's number has 8 bits
   pub wide-number : (a / 2 ^ 40 % 2 ^ 8 ≡ 0 → ⊥) → false ≡ isColumn a b

@@ -2,5 +2,6 @@ pub mod TypeWords
 pub mod Fields
 mod Bits
 mod Holding
-mod Bitwise
+pub mod Bitwise
 pub mod Columns
+pub mod Packed

@@ -1,0 +1,6 @@
+pub mod Named
+mod Checking
+mod Outlines
+mod Putting
+mod Bounds
+mod Telling

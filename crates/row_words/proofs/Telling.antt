@@ -1,0 +1,40 @@
+-- What is told of a row at each way out: the outcome, the words of values and the text buffer, by what is decided. Assumes nothing.
+use Prim.Native.Nat.{ℕ, _≤_, _<_}
+use mathlib.Core.Path.{_≡_, refl, sym, ap, _∙_}
+use mathlib.Core.List.{List, [], _∷_}
+use lib.ListN.{length}
+use Rattle.types.specs.declared.ColumnDescriptor.{ColumnDescriptor}
+use Rattle.rules.specs.Walk.{Walk, skipOf, walkBody}
+use Rattle.rules.specs.Row.{bodyDecision, textAfter}
+use Rattle.rules.specs.Conversions.{ported}
+use Rattle.rules.proofs.Walks.{piecesOf}
+use Rattle.row_words.specs.declared.Walked.the-variants.{Done, Short}
+use Rattle.row_words.specs.declared.RowOutcome.{RowOutcome}
+use Rattle.row_words.specs.declared.RowOutcome.the-variants.{Accepted, TooShort, TextTooShort}
+use Rattle.row_words.specs.Rows.{valuesAfter}
+use Rattle.row_words.specs.Passes.{outline, textsOf, neededBeyond, Says}
+use Rattle.row_words.proofs.Outlines.{texts-are, beyond, within, decided-short, decided-text, decided-accepted}
+
+module _ (cs : List ColumnDescriptor) (s d v : List ℕ) where
+  abbrev pub Told : RowOutcome → List ℕ → List ℕ → Type 0
+  Told o words out =
+      Says o (bodyDecision ported cs (skipOf s) s d)
+      × ((words ≡ valuesAfter (bodyDecision ported cs (skipOf s) s d) v) × (out ≡ textAfter ported (bodyDecision ported cs (skipOf s) s d) d))
+
+  module _ (start : ℕ) (q : start ≡ skipOf s) where
+    pub told-short : (x y : ℕ) → Short x y ≡ outline (walkBody cs start s) → Told (TooShort x y) v d
+    unfolding textAfter
+    told-short x y h = rw (← q, decided-short cs start s d x y h) (refl, (refl, refl))
+
+    module _ (n : ℕ) (h : Done n ≡ outline (walkBody cs start s)) where
+      pub told-text : (k : ℕ) → k ≡ neededBeyond (length d) (textsOf (walkBody cs start s)) → 0 < k → Told (TextTooShort k) v d
+      unfolding textAfter
+      told-text k e l =
+          let b = beyond (length d) k (textsOf (walkBody cs start s)) e l in
+          rw (← q, decided-text cs start s d n h k (rw (← (b .1)) at (b .0)) (b .1)) (refl, (refl, refl))
+
+      pub told-accepted : (k : ℕ) → k ≡ neededBeyond (length d) (textsOf (walkBody cs start s)) → k ≤ 0 → (m : ℕ) → m ≡ length (textsOf (walkBody cs start s))
+          → (words out : List ℕ) → words ≡ valuesAfter (bodyDecision ported cs start s d) v → out ≡ textAfter ported (bodyDecision ported cs start s d) d → Told (Accepted n m) words out
+      told-accepted k e l m w words out f g =
+          let a = decided-accepted cs start s d n h (within (length d) k (textsOf (walkBody cs start s)) e l) in
+          rw (← q) ((piecesOf (walkBody cs start s), (a, w ∙ ap length (texts-are n (walkBody cs start s) h))), (f, g))

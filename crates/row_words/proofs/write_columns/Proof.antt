@@ -1,0 +1,147 @@
+-- `row_words::write_columns` meets its contract: a law for the start, a turn and the end of the loop. Assumes nothing.
+use Prim.Native.Nat.{_+_, _-_, _*_, _/_, _≤_}
+use mathlib.Core.Path.{_≡_, sym, ap, _∙_}
+use borrow.Author.Needs.{needs}
+use native.Mathlib.Omega.{arith}
+use denote.Ref.{now}
+use lib.ListN.{length, length-drop}
+use Rattle.buffer.proofs.Writing as writing
+use Rattle.rules.specs.Walk.{Walk, walkBody}
+use Rattle.rules.specs.Row.{acceptance, rowTexts, bodyDecision, textAfter}
+use Rattle.rules.specs.Conversions.{ported}
+use Rattle.rules.proofs.Walks.{piecesOf}
+use Rattle.rules.proofs.Progress.{placing-there, placing-room, placing-within, rest-is}
+use Rattle.row_words.specs.Passes.{columnsNamed, textsOf}
+use Rattle.row_words.proofs.Named.{named-length, named-at}
+use Rattle.row_words.proofs.Outlines.{is-done, texts-are, decided-accepted}
+use Rattle.row_words.proofs.Putting.{Putting, putting-start, putting-step, putting-end, as-many}
+use Rattle.row_words.proofs.write_columns.Statement.{statement}
+use Rattle.row_words.proofs.write_columns.Tie as tie
+
+abbrev Inv-loop : tie.InvT-loop
+Inv-loop columns «data» start end values₀ text₀ count at₀ next₀ i₀ values text at next i =
+    (i ≤ length columns / 2) × Putting (columnsNamed columns) start «data» (piecesOf (walkBody (columnsNamed columns) start «data»)) end text₀ values₀ i at next text values
+
+abbrev μ-loop : tie.MeasureT-loop
+μ-loop columns «data» start end values₀ text₀ count at₀ next₀ i₀ values text at next i = length columns / 2 - i
+
+-- what is known from the start
+module _ (c : tie.Start Inv-loop μ-loop) where
+  abbrev walked : Walk
+  walked = walkBody (columnsNamed (now (c .args .columns))) (c .args .start) (now (c .args .«data»))
+
+  texts : textsOf walked ≡ rowTexts ported (piecesOf walked)
+  texts = texts-are (c .args .end) walked (c .pre .1 .1 .0)
+
+  decided : bodyDecision ported (columnsNamed (now (c .args .columns))) (c .args .start) (now (c .args .«data»)) (now (c .args .text)) ≡ acceptance (piecesOf walked) (c .args .end)
+  decided = decided-accepted (columnsNamed (now (c .args .columns))) (c .args .start) (now (c .args .«data»)) (now (c .args .text)) (c .args .end) (c .pre .1 .1 .0) (c .pre .1 .1 .1 .1)
+
+loop-holds : tie.Need-loop-holds Inv-loop μ-loop
+loop-holds c = (omega arith, putting-start _ _ _ _ _ _ _ (c .before .before .before .before .pre .0) (is-done _ _ (c .before .before .before .before .pre .1 .1 .0)) (rw (texts (c .before .before .before .before)) at (c .before .before .before .before .pre .1 .1 .1 .1)))
+
+mul-k : tie.Need-mul-k Inv-loop μ-loop
+mul-k c = omega (arith, c .loop-test .taken)
+
+mul-column-named : tie.Need-mul-column-named Inv-loop μ-loop
+mul-column-named c = omega (arith, c .loop-test .taken)
+
+shared-slice-read-column-named : tie.Need-shared-slice-read-column-named Inv-loop μ-loop
+shared-slice-read-column-named c = omega (arith, c .before .loop-test .taken)
+
+add-column-named : tie.Need-add-column-named Inv-loop μ-loop
+add-column-named c = omega (arith, c .before .loop-test .taken)
+
+mul-column-named-2 : tie.Need-mul-column-named-2 Inv-loop μ-loop
+mul-column-named-2 c = omega (arith, c .before .loop-test .taken)
+
+shared-slice-read-column-named-2 : tie.Need-shared-slice-read-column-named-2 Inv-loop μ-loop
+shared-slice-read-column-named-2 c = omega (arith, c .before .before .loop-test .taken)
+
+column-named-requires : tie.Need-column-named-requires Inv-loop μ-loop
+column-named-requires c κs = search needs
+
+sub-piece-write : tie.Need-sub-piece-write Inv-loop μ-loop
+sub-piece-write c = c .before .before .before .before .loop .inv .1 .placing .going .within
+
+part-piece-write-start : tie.Need-part-piece-write-start Inv-loop μ-loop
+part-piece-write-start c = c .before .before .before .before .loop .inv .1 .placing .going .within
+
+part-piece-write-end : tie.Need-part-piece-write-end Inv-loop μ-loop
+part-piece-write-end c = search needs
+
+sub-piece-write-2 : tie.Need-sub-piece-write-2 Inv-loop μ-loop
+sub-piece-write-2 c = omega (arith, writing.fits (c .before .before .before .before .before .loop .inv .1 .placing .texts))
+
+part-piece-write-start-2 : tie.Need-part-piece-write-start-2 Inv-loop μ-loop
+part-piece-write-start-2 c = omega (arith, writing.fits (c .before .before .before .before .before .loop .inv .1 .placing .texts))
+
+part-piece-write-end-2 : tie.Need-part-piece-write-end-2 Inv-loop μ-loop
+part-piece-write-end-2 c = search needs
+
+piece-write-requires : tie.Need-piece-write-requires Inv-loop μ-loop
+piece-write-requires c κs = (placing-there ported _ _ _ _ _ _ (c .before .before .before .before .before .before .loop .inv .1 .placing) (c .before .before .column-named .result) (named-at _ _ (c .before .before .before .before .before .loop-test .taken) (c .before .before .column-named .ensures)) _ (rest-is (c .before .before .before .before .before .before .before .before .before .before .before .args .«data» .now) (c .before .before .before .before .before .before .loop .at)), (omega (arith, c .before .before .before .before .before .before .before .before .before .before .before .pre .1 .0, c .before .before .before .before .before .before .loop .inv .1 .placing .going .within, ap length (rest-is (c .before .before .before .before .before .before .before .before .before .before .before .args .«data» .now) (c .before .before .before .before .before .before .loop .at)), length-drop (c .before .before .before .before .before .before .loop .at) (c .before .before .before .before .before .before .before .before .before .before .before .args .«data» .now)), placing-room ported _ _ _ _ _ _ (c .before .before .before .before .before .before .loop .inv .1 .placing) (c .before .before .column-named .result) (named-at _ _ (c .before .before .before .before .before .loop-test .taken) (c .before .before .column-named .ensures)) _ (rest-is (c .before .before .before .before .before .before .before .before .before .before .before .args .«data» .now) (c .before .before .before .before .before .before .loop .at))))
+
+mul-put-value : tie.Need-mul-put-value Inv-loop μ-loop
+mul-put-value c = omega (arith, c .before .before .before .before .before .before .before .before .before .before .before .before .before .before .before .pre .1 .1 .1 .0, c .before .before .before .before .before .before .before .before .before .loop-test .taken)
+
+put-value-requires : tie.Need-put-value-requires Inv-loop μ-loop
+put-value-requires c κs = omega (arith, c .before .before .before .before .before .before .before .before .before .before .before .before .before .before .before .pre .1 .1 .1 .0, c .before .before .before .before .before .before .before .before .before .loop-test .taken, as-many _ _ _ _ _ _ _ (c .before .before .before .before .before .before .before .before .before .before .loop .inv .1) (omega (arith, c .before .before .before .before .before .before .before .before .before .before .before .before .before .before .before .pre .1 .1 .1 .0, c .before .before .before .before .before .before .before .before .before .loop-test .taken)))
+
+add-at : tie.Need-add-at Inv-loop μ-loop
+add-at c = omega (arith, c .before .before .before .before .before .before .before .before .before .before .before .before .before .before .before .before .before .before .before .pre .1 .0, placing-there ported _ _ _ _ _ _ (c .before .before .before .before .before .before .before .before .before .before .before .before .before .before .loop .inv .1 .placing) (c .before .before .before .before .before .before .before .before .before .before .column-named .result) (named-at _ _ (c .before .before .before .before .before .before .before .before .before .before .before .before .before .loop-test .taken) (c .before .before .before .before .before .before .before .before .before .before .column-named .ensures)) _ (rest-is (c .before .before .before .before .before .before .before .before .before .before .before .before .before .before .before .before .before .before .before .args .«data» .now) (c .before .before .before .before .before .before .before .before .before .before .before .before .before .before .loop .at)), c .before .before .before .before .before .before .before .piece-write .ensures .1 .0, c .before .before .before .before .before .before .before .before .before .before .before .before .before .before .loop .inv .1 .placing .going .within, ap length (rest-is (c .before .before .before .before .before .before .before .before .before .before .before .before .before .before .before .before .before .before .before .args .«data» .now) (c .before .before .before .before .before .before .before .before .before .before .before .before .before .before .loop .at)), length-drop (c .before .before .before .before .before .before .before .before .before .before .before .before .before .before .loop .at) (c .before .before .before .before .before .before .before .before .before .before .before .before .before .before .before .before .before .before .before .args .«data» .now))
+
+add-next : tie.Need-add-next Inv-loop μ-loop
+add-next c = omega (arith, c .before .before .before .before .before .before .before .before .before .before .before .before .before .before .before .before .before .before .before .before .good, placing-within ported _ _ _ _ _ _ (c .before .before .before .before .before .before .before .before .before .before .before .before .before .before .before .loop .inv .1 .placing) (c .before .before .before .before .before .before .before .before .before .before .before .column-named .result) (named-at _ _ (c .before .before .before .before .before .before .before .before .before .before .before .before .before .before .loop-test .taken) (c .before .before .before .before .before .before .before .before .before .before .before .column-named .ensures)) _ (rest-is (c .before .before .before .before .before .before .before .before .before .before .before .before .before .before .before .before .before .before .before .before .args .«data» .now) (c .before .before .before .before .before .before .before .before .before .before .before .before .before .before .before .loop .at)) _ (c .before .before .before .before .before .before .before .before .piece-write .ensures .1 .1 .0))
+
+add-i : tie.Need-add-i Inv-loop μ-loop
+add-i c = omega (arith, c .before .before .before .before .before .before .before .before .before .before .before .before .before .before .before .before .before .before .before .before .good, c .before .before .before .before .before .before .before .before .before .before .before .before .before .before .loop-test .taken, c .before .before .before .before .before .before .before .before .before .before .before .before .before .before .before .before .before .before .before .before .pre .1 .1 .1 .0)
+
+loop-less : tie.Need-loop-less Inv-loop μ-loop
+loop-less c = omega (arith, c .before .before .before .before .before .before .before .before .before .before .before .before .before .before .loop-test .taken)
+
+loop-again : tie.Need-loop-again Inv-loop μ-loop
+loop-again c = (omega (arith, c .before .before .before .before .before .before .before .before .before .before .before .before .before .before .loop-test .taken), (rw (c .before .before .before .before .put-value .ensures) (putting-step _ _ _ _ _ _ _ (c .before .before .before .before .before .before .before .before .before .before .before .before .before .before .before .loop .inv .1) (c .before .before .before .before .before .before .before .before .before .before .before .column-named .result) (named-at _ _ (c .before .before .before .before .before .before .before .before .before .before .before .before .before .before .loop-test .taken) (c .before .before .before .before .before .before .before .before .before .before .before .column-named .ensures)) _ (rest-is (c .before .before .before .before .before .before .before .before .before .before .before .before .before .before .before .before .before .before .before .before .args .«data» .now) (c .before .before .before .before .before .before .before .before .before .before .before .before .before .before .before .loop .at)) _ _ (c .before .before .before .before .before .before .before .before .piece-write .ensures .1 .0) (c .before .before .before .before .before .before .before .before .piece-write .ensures .1 .1 .0) _ (c .before .before .before .before .before .before .before .before .piece-write .ensures .1 .1 .1) (omega (arith, c .before .before .before .before .before .before .before .before .before .before .before .before .before .before .before .before .before .before .before .before .pre .1 .1 .1 .0, c .before .before .before .before .before .before .before .before .before .before .before .before .before .before .loop-test .taken)) _ (c .before .before .before .before .before .before .before .before .piece-write .ensures .0))))
+
+same-length : tie.Need-same-length Inv-loop μ-loop
+same-length c = as-many _ _ _ _ _ _ _ (c .before .loop .inv .1) (omega (arith, c .before .loop .inv .0, c .before .before .before .before .before .before .pre .1 .1 .1 .0))
+
+same-length-2 : tie.Need-same-length-2 Inv-loop μ-loop
+same-length-2 c = writing.as-long (c .before .loop .inv .1 .placing .texts)
+
+returns : tie.Need-returns Inv-loop μ-loop
+unfolding textAfter
+returns c =
+    let p = putting-end _ _ _ _ _ _ _ (c .before .loop .inv .1) (omega (arith, c .loop-test .left, named-length (c .before .before .before .before .before .before .args .columns .now))) in
+    rw (texts (c .before .before .before .before .before .before), decided (c .before .before .before .before .before .before)) (p .sum, (p .words-are, p .texts))
+
+pub write-columns-spec : {M : Type 1} → statement M
+write-columns-spec =
+    tie.close
+    (tie.spec
+    Inv-loop
+    μ-loop
+    loop-holds
+    mul-k
+    mul-column-named
+    shared-slice-read-column-named
+    add-column-named
+    mul-column-named-2
+    shared-slice-read-column-named-2
+    column-named-requires
+    sub-piece-write
+    part-piece-write-start
+    part-piece-write-end
+    sub-piece-write-2
+    part-piece-write-start-2
+    part-piece-write-end-2
+    piece-write-requires
+    mul-put-value
+    put-value-requires
+    add-at
+    add-next
+    add-i
+    loop-less
+    loop-again
+    same-length
+    same-length-2
+    returns)

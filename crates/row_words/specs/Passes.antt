@@ -1,0 +1,55 @@
+-- For inner functions; no public promise rests on it. What each pass over the columns tells. Assumes nothing.
+use Prim.Native.Nat.{ℕ, _+_}
+use mathlib.Core.Path.{_≡_}
+use mathlib.Core.Bool.{cond}
+use mathlib.Core.List.{List, [], _∷_}
+use mathlib.Core.Option.{Option, some, none}
+use lib.Dec.{ltb}
+use lib.ListN.{length}
+use Rattle.types.specs.declared.Db2Type.the-variants as type
+use Rattle.types.specs.declared.ColumnDescriptor.{ColumnDescriptor}
+use Rattle.types.specs.Names.{namedIn}
+use Rattle.rules.specs.Walk.{Piece, Walk, done, short}
+use Rattle.rules.specs.Row.{Decision, refusal, acceptance, rowTexts}
+use Rattle.rules.specs.Conversions.{ported}
+use Rattle.words.specs.Reading.{columnNamed}
+use Rattle.row_words.specs.declared.Checked.{Checked}
+use Rattle.row_words.specs.declared.Checked.the-variants.{Columns, NoColumn}
+use Rattle.row_words.specs.declared.Walked.{Walked}
+use Rattle.row_words.specs.declared.Walked.the-variants.{Done, Short}
+use Rattle.row_words.specs.declared.RowOutcome.{RowOutcome}
+use Rattle.row_words.specs.declared.RowOutcome.the-variants.{Accepted, TooShort, TextTooShort}
+
+-- how many columns are of type DecFloat
+abbrev pub decFloats : List ColumnDescriptor → ℕ
+decFloats [] = 0
+decFloats (c ∷ cs) = cond (namedIn (type.DecFloat 0 ∷ []) (c .«db2_type»)) 1 0 + decFloats cs
+
+abbrev pub checkedOf : Option (List ColumnDescriptor) → Checked
+checkedOf (some cs) = Columns (decFloats cs)
+checkedOf none = NoColumn
+
+-- the columns that words name, two words for each. Where readColumns reads columns, it reads these
+unfoldable pub columnsNamed : List ℕ → List ColumnDescriptor
+columnsNamed [] = []
+columnsNamed (first ∷ []) = []
+columnsNamed (first ∷ second ∷ words) = columnNamed first second ∷ columnsNamed words
+
+-- how a walk ends
+abbrev pub outline : Walk → Walked
+outline (done ps n) = Done n
+outline (short expected actual) = Short expected actual
+
+-- the length of a walk's texts where a buffer of n bytes is too short for them, else 0
+abbrev pub textsOf : Walk → List ℕ
+textsOf (done ps n) = rowTexts ported ps
+textsOf (short expected actual) = []
+
+abbrev pub neededBeyond : ℕ → List ℕ → ℕ
+neededBeyond n t = cond (ltb n (length t)) (length t) 0
+
+-- what an outcome says of a decision
+abbrev pub Says : RowOutcome → Decision → Type 0
+Says (Accepted used written) d = (ps : List Piece) × ((d ≡ acceptance ps used) × (written ≡ length (rowTexts ported ps)))
+Says (TooShort expected actual) d = d ≡ refusal 8 (expected ∷ actual ∷ [])
+Says (TextTooShort needed) d = d ≡ refusal 9 (needed ∷ [])

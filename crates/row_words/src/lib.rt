@@ -1,0 +1,215 @@
+// Inner. The row call on plain words, for C and Rust: columns are read from lent words, values are written into lent words, texts into a lent
+// buffer. What it costs grows with the columns used: no list of 128 places is made. crates/exported has the refusals before the body.
+use piece::piece_length;
+use piece::piece_need;
+use piece::piece_write;
+use piece::shortage;
+use types::ValuePlace;
+use words::column_named;
+use words::is_column;
+use words::value_words;
+ghost use mathlib.Core.Path.{_≡_};
+ghost use mathlib.Core.List.{[], _∷_};
+ghost use Prim.Native.Nat.{_+_, _*_, _/_, _%_, _<_, _≤_, _^_};
+ghost use mathlib.Core.Bool.{cond};
+ghost use lib.Dec.{eqb};
+ghost use lib.ListN.{length, set};
+ghost use Rattle.refusal.specs.Refusal.{inputLimit};
+ghost use Rattle.types.specs.Places.{maxColumns};
+ghost use Rattle.rules.specs.Walk.{skipOf, walkBody};
+ghost use Rattle.rules.specs.Row.{bodyDecision, textAfter};
+ghost use Rattle.rules.specs.Conversions.{ported};
+ghost use Rattle.words.specs.Reading.{readColumns};
+ghost use Rattle.words.specs.Values.{kindWord, numberWord, lengthWord};
+ghost use Rattle.row_words.specs.Rows.{valuesAfter};
+ghost use Rattle.row_words.specs.Passes.{checkedOf, columnsNamed, outline, textsOf, neededBeyond, Says};
+
+// What the columns' words say before the row is looked at: how many columns are of type DecFloat, or that some words are no column's.
+pub enum Checked {
+    Columns { dec_floats: usize },
+    NoColumn,
+}
+
+// What going through the columns finds: every column has its bytes, the last of them before place `end` of the input; or the row is too short.
+pub enum Walked {
+    Done { end: usize },
+    Short { expected: usize, actual: usize },
+}
+
+// What is decided of a row's body: accepted, with the bytes of the input that are used and the bytes of text that are written; or refused.
+pub enum RowOutcome {
+    Accepted { used: usize, written: usize },
+    TooShort { expected: usize, actual: usize },
+    TextTooShort { needed: usize },
+}
+
+// The place of DecFloat's name, which stands in the low 8 bits of a column's first word.
+const DEC_FLOAT: u64 = 6;
+
+fn count_dec_float(first: u64) -> usize
+    ensures { λ r. ⌜ (r ≡ cond (eqb 6 (first % 2 ^ 8)) 1 0) × (r ≤ 1) ⌝ }
+{
+    if DEC_FLOAT == first % 0x100 {
+        return 1;
+    }
+    0
+}
+
+// Whether every two words are a column's, and how many of the columns are of type DecFloat.
+pub fn check_columns(columns: &[u64]) -> Checked
+    ensures { λ r. ⌜ r ≡ checkedOf (readColumns (now (columns .entry))) ⌝ }
+{
+    let mut dec_floats: usize = 0;
+    let mut at: usize = 0;
+    while at + 1 < columns.len() {
+        let first = columns[at];
+        if !is_column(first, columns[at + 1]) {
+            return Checked::NoColumn;
+        }
+        dec_floats += count_dec_float(first);
+        at += 2;
+    }
+    if at == columns.len() {
+        return Checked::Columns { dec_floats };
+    }
+    Checked::NoColumn
+}
+
+// An FF and the byte after it are skipped; that byte is not looked at.
+fn skip_of(data: &[u8]) -> usize
+    ensures { λ r. ⌜ r ≡ skipOf (now («data» .entry)) ⌝ }
+{
+    if data.len() < 2 {
+        return 0;
+    }
+    if data[0] == 0xFF {
+        return 2;
+    }
+    0
+}
+
+// Whether every column has its bytes. Nothing is written before that is known.
+fn walk_columns(columns: &[u64], data: &[u8], start: usize) -> Walked
+    requires start { ⌜ start ≤ length (now «data») ⌝ }
+    requires limit { ⌜ length (now «data») ≤ inputLimit ⌝ }
+    ensures { λ r. ⌜ r ≡ outline (walkBody (columnsNamed (now (columns .entry))) start (now («data» .entry))) ⌝ }
+{
+    let count = columns.len() / 2;
+    let mut at = start;
+    let mut i: usize = 0;
+    while i < count {
+        let k = 2 * i;
+        let column = column_named(columns[k], columns[k + 1]);
+        let rest = &data[at..];
+        let n = piece_need(rest, column);
+        if rest.len() < n {
+            let s = shortage(rest, at - start, column);
+            return Walked::Short {
+                expected: s.expected,
+                actual: s.actual,
+            };
+        }
+        at += n;
+        i += 1;
+    }
+    Walked::Done { end: at }
+}
+
+// How long the texts of a row are together, where a text buffer of `room` bytes is too short for them; else 0. Every column has its bytes, the
+// last of them before place `end` of the input.
+fn text_needed(columns: &[u64], data: &[u8], start: usize, end: usize, room: usize) -> usize
+    requires count { ⌜ length (now columns) / 2 ≤ maxColumns ⌝ }
+    requires start { ⌜ start ≤ length (now «data») ⌝ }
+    requires limit { ⌜ length (now «data») ≤ inputLimit ⌝ }
+    requires whole { ⌜ Walked.Done end ≡ outline (walkBody (columnsNamed (now columns)) start (now «data»)) ⌝ }
+    ensures { λ r. ⌜ r ≡ neededBeyond room (textsOf (walkBody (columnsNamed (now (columns .entry))) start (now («data» .entry)))) ⌝ }
+{
+    let count = columns.len() / 2;
+    // no text of n bytes is longer than 3 n + 258
+    if 3 * (end - start) + 258 * count <= room {
+        return 0;
+    }
+    let mut at = start;
+    let mut total: usize = 0;
+    let mut i: usize = 0;
+    while i < count {
+        let k = 2 * i;
+        let column = column_named(columns[k], columns[k + 1]);
+        let p = piece_length(&data[at..], column);
+        at += p.used;
+        total += p.len;
+        i += 1;
+    }
+    if total <= room {
+        return 0;
+    }
+    total
+}
+
+// Writes a value into its three words.
+fn put_value(values: &mut [u64], at: usize, place: ValuePlace)
+    requires { ⌜ at + 2 < length (now values) ⌝ }
+    ensures { λ _. ⌜ now (values .exit) ≡ set (set (set (now (values .entry)) at (kindWord place)) (at + 1) (numberWord (place .value))) (at + 2) (lengthWord (place .value)) ⌝ }
+{
+    let w = value_words(place);
+    values[at] = w.kind;
+    values[at + 1] = w.number;
+    values[at + 2] = w.len;
+}
+
+// Writes the values, and their texts one after the other: how many bytes of text they are.
+fn write_columns(
+    columns: &[u64],
+    data: &[u8],
+    start: usize,
+    end: usize,
+    values: &mut [u64],
+    text: &mut [u8],
+) -> usize
+    requires start { ⌜ start ≤ length (now «data») ⌝ }
+    requires limit { ⌜ length (now «data») ≤ inputLimit ⌝ }
+    requires whole { ⌜ Walked.Done end ≡ outline (walkBody (columnsNamed (now columns)) start (now «data»)) ⌝ }
+    requires words { ⌜ 3 * (length (now columns) / 2) ≤ length (now values) ⌝ }
+    requires room { ⌜ length (textsOf (walkBody (columnsNamed (now columns)) start (now «data»))) ≤ length (now text) ⌝ }
+    ensures count { λ r. ⌜ r ≡ length (textsOf (walkBody (columnsNamed (now (columns .entry))) start (now («data» .entry)))) ⌝ }
+    ensures values { λ _. ⌜ now (values .exit) ≡ valuesAfter (bodyDecision ported (columnsNamed (now (columns .entry))) start (now («data» .entry)) (now (text .entry))) (now (values .entry)) ⌝ }
+    ensures text { λ _. ⌜ now (text .exit) ≡ textAfter ported (bodyDecision ported (columnsNamed (now (columns .entry))) start (now («data» .entry)) (now (text .entry))) (now (text .entry)) ⌝ }
+{
+    let count = columns.len() / 2;
+    let mut at = start;
+    let mut next: usize = 0;
+    let mut i: usize = 0;
+    while i < count {
+        let k = 2 * i;
+        let column = column_named(columns[k], columns[k + 1]);
+        let p = piece_write(&data[at..], at, column, next, &mut text[next..]);
+        put_value(values, 3 * i, p.place);
+        at += p.used;
+        next += p.written;
+        i += 1;
+    }
+    next
+}
+
+// The row after the tests of its columns and its length: an FF is skipped, and the body decoded.
+pub fn decode_row(columns: &[u64], data: &[u8], values: &mut [u64], text: &mut [u8]) -> RowOutcome
+    requires count { ⌜ length (now columns) / 2 ≤ maxColumns ⌝ }
+    requires limit { ⌜ length (now «data») ≤ inputLimit ⌝ }
+    requires words { ⌜ 3 * (length (now columns) / 2) ≤ length (now values) ⌝ }
+    ensures outcome { λ r. ⌜ Says r (bodyDecision ported (columnsNamed (now (columns .entry))) (skipOf (now («data» .entry))) (now («data» .entry)) (now (text .entry))) ⌝ }
+    ensures values { λ _. ⌜ now (values .exit) ≡ valuesAfter (bodyDecision ported (columnsNamed (now (columns .entry))) (skipOf (now («data» .entry))) (now («data» .entry)) (now (text .entry))) (now (values .entry)) ⌝ }
+    ensures text { λ _. ⌜ now (text .exit) ≡ textAfter ported (bodyDecision ported (columnsNamed (now (columns .entry))) (skipOf (now («data» .entry))) (now («data» .entry)) (now (text .entry))) (now (text .entry)) ⌝ }
+{
+    let start = skip_of(data);
+    match walk_columns(columns, data, start) {
+        Walked::Short { expected, actual } => RowOutcome::TooShort { expected, actual },
+        Walked::Done { end } => {
+            let needed = text_needed(columns, data, start, end, text.len());
+            if 0 < needed {
+                return RowOutcome::TextTooShort { needed };
+            }
+            let written = write_columns(columns, data, start, end, values, text);
+            RowOutcome::Accepted { used: end, written }
+        }
+    }
+}

@@ -2,3 +2,4 @@ mod Reported
 mod Described
 mod TypeLength
 mod RowCall
+pub mod RowForms

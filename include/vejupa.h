@@ -140,7 +140,8 @@ uint32_t vejupa_parse_qrydsc(const uint8_t *data, size_t data_len, uint64_t *wor
  *     4     the row has more than 1,048,576 bytes
  *     5     a column is of type DecFloat
  *     8     the row ends before a value does: *first is the number of bytes expected, *second how many there are
- *     9     `text` is too short: *first is the length needed, and a second call with such a buffer is accepted */
+ *     9     `text` is too short: *first is the length needed, and a second call with such a buffer is accepted
+ * It is fastest where text_len is at least 3 for each byte of the row and 258 for each column, so that any texts fit. */
 uint32_t vejupa_decode_row(const uint64_t *columns, size_t columns_len, const uint8_t *data, size_t data_len, uint64_t *values,
                            size_t values_len, uint8_t *text, size_t text_len, uint64_t *first, uint64_t *second);
 

@@ -3,6 +3,14 @@ use crate::raw::{self, ACCEPTED, TEXT_BUFFER_TOO_SHORT, VALUE_WORDS};
 use crate::{Column, Columns, Refusal, Value};
 use std::borrow::Cow;
 
+// No row of so many bytes and columns has longer texts. Where the buffer is as long, the library need not measure the texts before it writes them.
+fn ample(bytes: usize, columns: usize) -> usize {
+    3 * bytes + 258 * columns
+}
+
+// The most that is set aside before a row asks for it.
+const ROOM: usize = 65_536;
+
 /// Room for a row's values and texts, to be used for one row after another. It grows where a row needs more and never shrinks, so that
 /// after the widest row no call allocates.
 #[derive(Debug, Clone, Default)]
@@ -32,6 +40,10 @@ impl Buffers {
         if self.values.len() < words {
             self.values.resize(words, 0);
         }
+        let room = ample(data.len(), columns.len()).min(ROOM);
+        if self.text.len() < room {
+            self.text.resize(room, 0);
+        }
         loop {
             let answer = raw::decode_row(columns.words(), data, &mut self.values, &mut self.text);
             let (first, second) = (answer.first, answer.second);
@@ -55,6 +67,7 @@ pub struct Row<'a> {
     used: usize,
 }
 
+// That texts are UTF-8, and that each place fits, is proved (crates/rules, TextsUtf8 and PlacesFit). Asked again here, it needs no `unsafe`.
 const UTF8: &str = "the library's texts are UTF-8";
 
 /// The values of a row, in buffers of its own. Where there are many rows, [`decode_row_into`] saves what this allocates.
@@ -73,7 +86,7 @@ const UTF8: &str = "the library's texts are UTF-8";
 /// ```
 pub fn decode_row<'a>(data: &'a [u8], columns: &[Column]) -> Result<Row<'a>, Refusal> {
     let columns = Columns::from(columns);
-    let mut buffers = Buffers::with_text(2 * data.len());
+    let mut buffers = Buffers::new();
     let (used, written) = buffers.fill(data, &columns)?;
     buffers.text.truncate(written);
     Ok(Row {

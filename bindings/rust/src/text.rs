@@ -5,6 +5,7 @@ use crate::Refusal;
 // More than the bytes given, for what most texts need. A text that needs still more takes a second call.
 const SPARE: usize = 16;
 
+// That is proved. Asked again here, it needs no `unsafe`.
 const UTF8: &str = "the library's texts are UTF-8";
 
 fn accepted(answer: TextAnswer) -> Result<usize, Refusal> {

@@ -184,6 +184,22 @@ fn buffers_serve_narrow_rows_after_wide_ones() {
     }
 }
 
+/// More than is set aside before a row asks for it.
+#[test]
+fn a_long_text() {
+    let columns = [with_ccsid(Db2Type::LongVarChar, 819)];
+    let mut bytes = vec![0xE9; 65_537];
+    bytes[..2].fill(0xFF);
+    bytes.splice(0..0, [0xFF, 0x00]);
+    let text = "é".repeat(65_535);
+    let row = decode_row(&bytes, &columns).unwrap();
+    assert!(row.value(0) == Value::VarChar(&text));
+    let mut buffers = Buffers::new();
+    let row = decode_row_into(&bytes, &Columns::from(&columns[..]), &mut buffers).unwrap();
+    assert!(row.value(0) == Value::VarChar(&text));
+    assert_eq!(row.used(), 65_539);
+}
+
 #[test]
 fn a_row_without_columns() {
     let row = decode_row(&[0xFF, 0x41], &[]).unwrap();

@@ -1,7 +1,11 @@
-// Inner. Whether types and columns stand in a line of the list of stored answers, as it writes them. Each function of the form x_at answers the place
-// behind what it looks for, as those of lines::place do.
+// Inner. Whether types, columns and, in `rows`, answers of the row call stand in a line of the list of stored answers, as it writes them. Each function of
+// the form x_at answers the place behind what it looks for, as those of lines::place do; each of the form x_of reads what x_at then finds.
+pub mod rows;
+
+use lines::bytes;
 use lines::find;
 use lines::number;
+use lines::part;
 use lines::place::NOWHERE;
 use lines::place::decimal_at;
 use lines::place::hex_at;
@@ -14,7 +18,7 @@ use types::MAX_COLUMNS;
 use types::ReferenceLength;
 use words::TypeRead;
 use words::read_type_word;
-ghost use Prim.Native.Nat.{_<_};
+ghost use Prim.Native.Nat.{_<_, _≤_};
 
 // How many types there are: their tags are below.
 const TYPES: u64 = 29;
@@ -168,4 +172,73 @@ pub fn columns_at(line: &[u8], at: usize, columns: Columns) -> usize {
         i += 1;
     }
     p
+}
+
+// The number of a part of a column; 0 where it is none.
+fn number_of(s: &[u8], k: usize, most: usize) -> usize
+    requires { ⌜ most < 4294967296 ⌝ }
+    ensures { λ r. ⌜ r ≤ most ⌝ }
+{
+    let r = number(part(s, k, b':'), most);
+    r.value
+}
+
+fn code_of(s: &[u8]) -> u8 {
+    let mut code = [0u8; 1];
+    let _read = bytes(part(s, 1, b':'), &mut code);
+    code[0]
+}
+
+fn reference_of(s: &[u8]) -> ReferenceLength {
+    if check::same(part(s, 7, b':'), b"-") {
+        return ReferenceLength::Absent;
+    }
+    ReferenceLength::Width(number_of(s, 7, 65535) as u16)
+}
+
+fn order_of(s: &[u8]) -> ByteOrder {
+    if check::same(part(s, 8, b':'), b"L") {
+        return ByteOrder::LittleEndian;
+    }
+    ByteOrder::BigEndian
+}
+
+// The column that a field writes, if it writes one: column_at tells.
+pub fn column_of(s: &[u8], index: u8) -> ColumnDescriptor {
+    let db2_type = named_type_of(part(s, 0, b':'));
+    let extdta_reference_length = reference_of(s);
+    let byte_order = order_of(s);
+    ColumnDescriptor {
+        column_index: index,
+        drda_type: code_of(s),
+        length: number_of(s, 2, 65535) as u16,
+        precision: number_of(s, 3, 255) as u8,
+        scale: number_of(s, 4, 255) as u8,
+        nullable: number_of(s, 5, 1) == 1,
+        ccsid: number_of(s, 6, 65535) as u16,
+        db2_type,
+        extdta_reference_length,
+        byte_order,
+    }
+}
+
+fn named_type_of(s: &[u8]) -> Db2Type {
+    match type_of(s) {
+        TypeRead::Known(t) => t,
+        TypeRead::NoType => Db2Type::Null,
+    }
+}
+
+// The columns that stand in a line from its field 2 on, as many as field 1 says: columns_at tells whether they do.
+pub fn columns_of(line: &[u8]) -> Columns {
+    let r = number(lines::field(line, 1), MAX_COLUMNS);
+    let count = r.value;
+    let blank = column_of(b"", 0);
+    let mut columns = [blank; MAX_COLUMNS];
+    let mut i: usize = 0;
+    while i < count {
+        columns[i] = column_of(lines::field(line, i + 2), i as u8);
+        i += 1;
+    }
+    Columns { columns, count }
 }

@@ -79,8 +79,8 @@ pub fn field_count(s: &[u8]) -> usize {
     n
 }
 
-// The place behind the first k spaces, or the length of s where there are fewer.
-pub fn field_start(s: &[u8], k: usize) -> usize
+// The place behind the first k separators, or the length of s where there are fewer.
+pub fn part_start(s: &[u8], k: usize, separator: u8) -> usize
     ensures { λ r. ⌜ r ≤ length (now (s .entry)) ⌝ }
 {
     let mut left = k;
@@ -89,7 +89,7 @@ pub fn field_start(s: &[u8], k: usize) -> usize
         if left == 0 {
             return i;
         }
-        if s[i] == b' ' {
+        if s[i] == separator {
             left -= 1;
         }
         i += 1;
@@ -97,11 +97,16 @@ pub fn field_start(s: &[u8], k: usize) -> usize
     i
 }
 
+// What stands behind k separators, up to the next; empty where there are fewer.
+pub fn part(s: &[u8], k: usize, separator: u8) -> &[u8] {
+    let from = part_start(s, k, separator);
+    let to = find(s, from, separator);
+    &s[from..to]
+}
+
 // The field at a place, from 0; empty where there is none.
 pub fn field(s: &[u8], k: usize) -> &[u8] {
-    let from = field_start(s, k);
-    let to = find(s, from, b' ');
-    &s[from..to]
+    part(s, k, b' ')
 }
 
 // A decimal number up to `most`, as the list writes it: digits only, no leading zero.

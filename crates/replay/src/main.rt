@@ -1,8 +1,10 @@
 // Program. Replays stored answers of the Rust: for each line of standard input, a request and the Rust's answer behind ` A `, it makes the
 // call and compares. It writes a line for each line that differs or is no request, and at the end how many lines there were and how many were
 // the same. The kinds of line: T decode_character_bytes, G decode_graphic_bytes, L bytes_are_likely_text, P decode_packed_decimal, F fixed_length,
-// Q parse_qrydsc. The row of a Q line is not decoded.
+// Q parse_qrydsc and decode_row with its columns, H decode_row with columns of the line's own.
 use answers::columns_at;
+use answers::columns_of;
+use answers::rows::is_answer;
 use answers::type_of;
 use buffer::TextAnswer;
 use check::same;
@@ -10,12 +12,13 @@ use lines::answer_start;
 use lines::bytes;
 use lines::field;
 use lines::field_count;
-use lines::field_start;
 use lines::find;
 use lines::number;
+use lines::part_start;
 use lines::place::decimal_at;
 use lines::place::text_at;
 use qrydsc::parse_qrydsc;
+use row::decode_row;
 use types::Columns;
 use types::FixedLength;
 use words::TypeRead;
@@ -241,6 +244,96 @@ fn length_line(request: &[u8], answer: &[u8]) -> Verdict {
     }
 }
 
+// Whether the row call answers so, with a text buffer of this length: then every byte of it is a text's, or none is changed.
+fn decodes(columns: Columns, row: &[u8], answer: &[u8], want: &mut [u8], text: &mut [u8]) -> bool {
+    fill(text);
+    let count = columns.count;
+    let a = decode_row(row, columns, text);
+    let outcome = a.outcome;
+    if !is_answer(answer, a, count, row, text, want) {
+        return false;
+    }
+    if outcome.number() == 0 {
+        return true;
+    }
+    is_filled(text)
+}
+
+// Whether the row call refuses for want of text space, with this length, and writes nothing.
+fn lacks_space(columns: Columns, row: &[u8], needed: usize, text: &mut [u8]) -> bool {
+    fill(text);
+    let a = decode_row(row, columns, text);
+    let outcome = a.outcome;
+    if outcome.number() != 9 {
+        return false;
+    }
+    if outcome.first_value() != needed {
+        return false;
+    }
+    is_filled(text)
+}
+
+// Whether the row call leaves alone what lies behind the texts in a larger buffer.
+fn leaves_rest(columns: Columns, row: &[u8], written: usize, text: &mut [u8]) -> bool {
+    if text.len() < written {
+        return false;
+    }
+    fill(text);
+    let a = decode_row(row, columns, text);
+    let outcome = a.outcome;
+    if outcome.number() == 0 {
+        return is_filled(&text[written..]);
+    }
+    is_filled(text)
+}
+
+// Whether the row call gives the stored answer with a buffer that the texts fill; leaves alone the rest of a larger one; and refuses one that is a byte
+// shorter. The length of the texts is field 3 of an accepted answer; number makes 0 of what stands there in others.
+fn row_answers(
+    columns: Columns,
+    row: &[u8],
+    answer: &[u8],
+    want: &mut [u8],
+    text: &mut [u8],
+) -> bool {
+    let r = number(field(answer, 3), TEXT);
+    let n = r.value;
+    if text.len() <= n {
+        return false;
+    }
+    if !decodes(columns, row, answer, want, &mut text[0..n]) {
+        return false;
+    }
+    if !leaves_rest(columns, row, n, text) {
+        return false;
+    }
+    if n == 0 {
+        return true;
+    }
+    lacks_space(columns, row, n, &mut text[0..n - 1])
+}
+
+// The row of a Q or H line, whose columns are known, from a place of the request on.
+fn row_line(
+    columns: Columns,
+    request: &[u8],
+    at: usize,
+    answer: &[u8],
+    data: &mut [u8],
+    want: &mut [u8],
+    text: &mut [u8],
+) -> Verdict {
+    if request.len() < at {
+        return Verdict::NoRequest;
+    }
+    let d = bytes(field(&request[at..], 0), data);
+    let n = d.value;
+    if !d.valid {
+        return Verdict::NoRequest;
+    }
+    judged(row_answers(columns, &data[0..n], answer, want, text))
+}
+
 // Whether these columns are told: `C`, their number, and each of them.
 fn are_told(columns: Columns, told: &[u8]) -> bool {
     let count = text_at(told, 0, b"C ");
@@ -248,7 +341,13 @@ fn are_told(columns: Columns, told: &[u8]) -> bool {
 }
 
 // A line of kind Q: `Q <description> R <row> C <columns>`.
-fn description_line(request: &[u8], answer: &[u8], data: &mut [u8]) -> Verdict {
+fn description_line(
+    request: &[u8],
+    answer: &[u8],
+    data: &mut [u8],
+    want: &mut [u8],
+    text: &mut [u8],
+) -> Verdict {
     if !same(field(request, 2), b"R") {
         return Verdict::NoRequest;
     }
@@ -261,14 +360,32 @@ fn description_line(request: &[u8], answer: &[u8], data: &mut [u8]) -> Verdict {
     let outcome = described.outcome;
     let columns = described.columns;
     let refusal = outcome.number();
-    let told = &request[field_start(request, 4)..];
-    if refusal == 0 {
-        return judged(are_told(columns, told));
+    let row = part_start(request, 3, b' ');
+    let told = &request[part_start(request, 4, b' ')..];
+    if refusal != 0 {
+        if !same(told, b"C -") {
+            return Verdict::Differs;
+        }
+        return judged(refusal_number(answer) == refusal as usize);
     }
-    if !same(told, b"C -") {
+    if !are_told(columns, told) {
         return Verdict::Differs;
     }
-    judged(refusal_number(answer) == refusal as usize)
+    row_line(columns, request, row, answer, data, want, text)
+}
+
+// A line of kind H: `H <columns> R <row>`.
+fn own_line(
+    request: &[u8],
+    answer: &[u8],
+    data: &mut [u8],
+    want: &mut [u8],
+    text: &mut [u8],
+) -> Verdict {
+    let columns = columns_of(request);
+    let told = columns_at(request, 2, columns);
+    let row = text_at(request, told, b" R ");
+    row_line(columns, request, row, answer, data, want, text)
 }
 
 // A line, by its kind. Each kind has a function of its own.
@@ -286,7 +403,8 @@ fn replay_line(line: &[u8], data: &mut [u8], want: &mut [u8], text: &mut [u8]) -
     match kind[0] {
         b'F' => length_line(request, answer),
         b'L' => likely_line(request, answer, data),
-        b'Q' => description_line(request, answer, data),
+        b'H' => own_line(request, answer, data, want, text),
+        b'Q' => description_line(request, answer, data, want, text),
         b'T' | b'G' | b'P' => text_line(kind[0], request, answer, data, want, text),
         _ => Verdict::NoRequest,
     }

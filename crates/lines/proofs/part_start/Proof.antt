@@ -1,15 +1,15 @@
--- `lines::field_start` meets its contract: the place stays within the line. Assumes nothing.
+-- `lines::part_start` meets its contract: the place stays within the line. Assumes nothing.
 use Prim.Native.Nat.{_-_, _≤_}
 use native.Mathlib.Omega.{arith}
 use lib.ListN.{length}
-use Rattle.lines.proofs.field_start.Statement.{statement}
-use Rattle.lines.proofs.field_start.Tie as tie
+use Rattle.lines.proofs.part_start.Statement.{statement}
+use Rattle.lines.proofs.part_start.Tie as tie
 
 abbrev Inv-loop : tie.InvT-loop
-Inv-loop s k left₀ i₀ left i = i ≤ length s
+Inv-loop s k separator left₀ i₀ left i = i ≤ length s
 
 abbrev μ-loop : tie.MeasureT-loop
-μ-loop s k left₀ i₀ left i = length s - i
+μ-loop s k separator left₀ i₀ left i = length s - i
 
 loop-holds : tie.Need-loop-holds Inv-loop μ-loop
 loop-holds c = omega arith
@@ -35,6 +35,6 @@ loop-again c = omega arith
 returns-2 : tie.Need-returns-2 Inv-loop μ-loop
 returns-2 c = omega arith
 
-pub field-start-spec : {M : Type 1} → statement M
-field-start-spec =
+pub part-start-spec : {M : Type 1} → statement M
+part-start-spec =
     tie.close (tie.spec Inv-loop μ-loop loop-holds returns shared-slice-read-if2 sub-left add-i loop-less loop-again returns-2)

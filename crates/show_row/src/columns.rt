@@ -99,18 +99,6 @@ pub fn column(line: Line, c: ColumnDescriptor) -> Line {
     order_name(ccsid.to_column(ORDER), order)
 }
 
-pub fn head(line: Line) -> Line {
-    line.text(b" no")
-        .to_column(TYPE)
-        .text(b"type")
-        .to_column(NULLABLE)
-        .text(b"null")
-        .to_column(CCSID - 5)
-        .text(b"ccsid")
-        .to_column(ORDER)
-        .text(b"order")
-}
-
 fn described(line: Line, c: ColumnDescriptor) -> Line {
     let reference = c.extdta_reference_length;
     let coded = column(line, c).to_column(NEXT).hex_byte(c.drda_type);
@@ -118,20 +106,20 @@ fn described(line: Line, c: ColumnDescriptor) -> Line {
     reference_name(long.to_column(REFERENCE), reference).end()
 }
 
-fn described_head(line: Line) -> Line {
-    head(line).to_column(NEXT)
-        .text(b"code")
-        .to_column(LENGTH - 6)
-        .text(b"length")
-        .to_column(REFERENCE)
-        .text(b"reference")
+fn last_line(line: Line, count: usize) -> Line {
+    line.text(b"columns: ").decimal(count as u64).end()
+}
+
+fn head() -> Line {
+    Line::new()
+        .text(b" no  type               null  ccsid  order   code  length  reference")
         .end()
 }
 
 // The columns of a description, and how many they are.
 pub fn show_columns(columns: Columns) {
     let count = columns.count;
-    let mut line = described_head(Line::new());
+    let mut line = head();
     let mut i: usize = 0;
     while i < count {
         if MAX_COLUMNS <= i {
@@ -140,5 +128,5 @@ pub fn show_columns(columns: Columns) {
         line = described(line, columns.columns[i]);
         i += 1;
     }
-    line.decimal(count as u64).text(b" columns").end().flush();
+    last_line(line, count).flush();
 }

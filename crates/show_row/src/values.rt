@@ -117,14 +117,9 @@ fn value<'a>(line: Line, v: ValuePlace, row: &'a [u8], text: &'a [u8]) -> Line {
     shown(external.to_column(VALUE), form, words.number, s).end()
 }
 
-fn head(line: Line) -> Line {
-    columns::head(line)
-        .to_column(columns::NEXT)
-        .text(b"lies at")
-        .to_column(EXTERNAL)
-        .text(b"external")
-        .to_column(VALUE)
-        .text(b"value")
+fn head() -> Line {
+    Line::new()
+        .text(b" no  type               null  ccsid  order   lies at           external  value")
         .end()
 }
 
@@ -139,7 +134,7 @@ fn last_line(line: Line, used: usize, len: usize) -> Line {
 // The values of an accepted row, and the bytes used and left.
 pub fn show_values<'a>(columns: Columns, answer: RowAnswer, row: &'a [u8], text: &'a [u8]) {
     let count = columns.count;
-    let mut line = head(Line::new());
+    let mut line = head();
     let mut i: usize = 0;
     while i < count {
         if MAX_COLUMNS <= i {

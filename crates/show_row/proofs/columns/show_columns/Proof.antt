@@ -5,16 +5,13 @@ use Rattle.show_row.proofs.columns.show_columns.Statement.{statement}
 use Rattle.show_row.proofs.columns.show_columns.Tie as tie
 
 abbrev Inv-loop : tie.InvT-loop
-Inv-loop columns count line₀ i₀ t6 line i = i ≤ count
+Inv-loop columns count line₀ i₀ line i = i ≤ count
 
 abbrev μ-loop : tie.MeasureT-loop
-μ-loop columns count line₀ i₀ t6 line i = count - i
+μ-loop columns count line₀ i₀ line i = count - i
 
-new-requires : tie.Need-new-requires Inv-loop μ-loop
-new-requires c κs = tt
-
-described-head-requires : tie.Need-described-head-requires Inv-loop μ-loop
-described-head-requires c κs = tt
+head-requires : tie.Need-head-requires Inv-loop μ-loop
+head-requires c κs = tt
 
 loop-holds : tie.Need-loop-holds Inv-loop μ-loop
 loop-holds c = omega arith
@@ -40,17 +37,8 @@ loop-less c = omega arith
 loop-again : tie.Need-loop-again Inv-loop μ-loop
 loop-again c = omega arith
 
-decimal-requires : tie.Need-decimal-requires Inv-loop μ-loop
-decimal-requires c κs = tt
-
-slice-aggregate-text : tie.Need-slice-aggregate-text Inv-loop μ-loop
-slice-aggregate-text c = omega arith
-
-text-requires : tie.Need-text-requires Inv-loop μ-loop
-text-requires c κs = tt
-
-end-requires : tie.Need-end-requires Inv-loop μ-loop
-end-requires c κs = tt
+last-line-requires : tie.Need-last-line-requires Inv-loop μ-loop
+last-line-requires c κs = tt
 
 flush-requires : tie.Need-flush-requires Inv-loop μ-loop
 flush-requires c κs = tt
@@ -60,4 +48,4 @@ returns-2 c = tt
 
 pub show-columns-spec : {M : Type 1} → statement M
 show-columns-spec =
-    tie.close (tie.spec Inv-loop μ-loop new-requires described-head-requires loop-holds returns mul-described element-copy-out-described described-requires add-i loop-less loop-again decimal-requires slice-aggregate-text text-requires end-requires flush-requires returns-2)
+    tie.close (tie.spec Inv-loop μ-loop head-requires loop-holds returns mul-described element-copy-out-described described-requires add-i loop-less loop-again last-line-requires flush-requires returns-2)

@@ -10,9 +10,6 @@ Inv-loop row text columns answer count line₀ i₀ line i = i ≤ count
 abbrev μ-loop : tie.MeasureT-loop
 μ-loop row text columns answer count line₀ i₀ line i = count - i
 
-new-requires : tie.Need-new-requires Inv-loop μ-loop
-new-requires c κs = tt
-
 head-requires : tie.Need-head-requires Inv-loop μ-loop
 head-requires c κs = tt
 
@@ -60,4 +57,4 @@ returns-2 c = tt
 
 pub show-values-spec : {M : Type 1} → statement M
 show-values-spec =
-    tie.close (tie.spec Inv-loop μ-loop new-requires head-requires loop-holds returns mul-column element-copy-out-column column-requires mul-value element-copy-out-value value-requires add-i loop-less loop-again last-line-requires flush-requires returns-2)
+    tie.close (tie.spec Inv-loop μ-loop head-requires loop-holds returns mul-column element-copy-out-column column-requires mul-value element-copy-out-value value-requires add-i loop-less loop-again last-line-requires flush-requires returns-2)

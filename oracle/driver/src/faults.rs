@@ -82,8 +82,8 @@ const REPLACEMENT: &[u8] = "\u{FFFD}".as_bytes();
 fn whole(leaf: Leaf, data: &[u8]) -> Option<Vec<u8>> {
     let mut text = vec![0; ample(data.len()) + 300];
     let outcome = Archive.write(leaf, data, &mut text);
-    text.truncate(outcome.length as usize);
-    (outcome.refusal == 0).then_some(text)
+    text.truncate(outcome.len as usize);
+    (outcome.number == 0).then_some(text)
 }
 
 /// What a right library would do with another text.
@@ -93,8 +93,8 @@ fn deliver(other: &[u8], text: &mut [u8]) -> Outcome {
         text[..other.len()].copy_from_slice(other);
     }
     Outcome {
-        refusal,
-        length: other.len() as u64,
+        number: refusal,
+        len: other.len() as u64,
     }
 }
 
@@ -160,7 +160,7 @@ impl Faulty {
 
     /// The wrong outcome, where the fault is one of a limit.
     fn wrong_limit(&self, leaf: Leaf, data: &[u8], text: &mut [u8]) -> Option<Outcome> {
-        let refuse = |refusal| Some(Outcome { refusal, length: 0 });
+        let refuse = |number| Some(Outcome { number, len: 0 });
         let decimal = matches!(leaf, Leaf::Decimal { .. });
         match self.0 {
             Fault::LimitEarly if !decimal && data.len() == TEXT_LIMIT => refuse(4),
@@ -175,16 +175,16 @@ impl Faulty {
 
     /// The archive's outcome with the fault put into it, where the fault is one of numbers or of other bytes.
     fn wrong_outcome(&self, mut outcome: Outcome, data: &[u8], text: &mut [u8]) -> Outcome {
-        let length = outcome.length as usize;
-        match (self.0, outcome.refusal) {
-            (Fault::LengthShort, 0) if length > 0 => outcome.length -= 1,
-            (Fault::LengthLong, 0) => outcome.length += 1,
+        let length = outcome.len as usize;
+        match (self.0, outcome.number) {
+            (Fault::LengthShort, 0) if length > 0 => outcome.len -= 1,
+            (Fault::LengthLong, 0) => outcome.len += 1,
             (Fault::AfterText, 0) if text.len() > length.max(ample(data.len())) => {
                 text[length] ^= 0x55
             }
             (Fault::ChangedOnRefusal, 9) if !text.is_empty() => text[0] ^= 0x55,
-            (Fault::NeededLong, 9) => outcome.length += 1,
-            (Fault::RefusedAtFit, 0) if length > 0 && length == text.len() => outcome.refusal = 9,
+            (Fault::NeededLong, 9) => outcome.len += 1,
+            (Fault::RefusedAtFit, 0) if length > 0 && length == text.len() => outcome.number = 9,
             _ => {}
         }
         outcome

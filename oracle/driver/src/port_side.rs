@@ -66,7 +66,10 @@ impl<L: Library> PortSide<L> {
                 other => Answer::Refusal(other),
             };
         }
-        let Outcome { refusal, length } = self.call(leaf, data, 0);
+        let Outcome {
+            number: refusal,
+            len: length,
+        } = self.call(leaf, data, 0);
         if !self.buffer.kept(0, 0) {
             return Answer::BadRest;
         }
@@ -74,7 +77,13 @@ impl<L: Library> PortSide<L> {
         match refusal {
             0 | 9 if length > most as u64 || (refusal == 0) != (length == 0) => Answer::Bad9,
             0 | 9 => self.written(leaf, data, length as usize),
-            _ => self.refused(leaf, data, Outcome { refusal, length }),
+            _ => {
+                let first = Outcome {
+                    number: refusal,
+                    len: length,
+                };
+                self.refused(leaf, data, first)
+            }
         }
     }
 
@@ -86,8 +95,8 @@ impl<L: Library> PortSide<L> {
     /// The text, whose length by the library is `length`, and the checks with other buffers.
     fn written(&mut self, leaf: Leaf, data: &[u8], length: usize) -> Answer<'_> {
         let accepted = Outcome {
-            refusal: 0,
-            length: length as u64,
+            number: 0,
+            len: length as u64,
         };
         if self.call(leaf, data, length) != accepted {
             return Answer::Bad9;
@@ -99,9 +108,7 @@ impl<L: Library> PortSide<L> {
         self.text.extend_from_slice(self.buffer.first(length));
         if length > 0 {
             let short = self.call(leaf, data, length - 1);
-            if (short.refusal, short.length) != (9, length as u64)
-                || !self.buffer.kept(0, length - 1)
-            {
+            if (short.number, short.len) != (9, length as u64) || !self.buffer.kept(0, length - 1) {
                 return Answer::Bad9;
             }
         }
@@ -124,12 +131,12 @@ impl<L: Library> PortSide<L> {
     /// A refusal but 9: the same with a buffer in which any text fits, with length 0 and no byte changed.
     fn refused(&mut self, leaf: Leaf, data: &[u8], first: Outcome) -> Answer<'_> {
         let size = ample(data.len()) + SPARE;
-        if self.call(leaf, data, size) != first || first.length != 0 {
+        if self.call(leaf, data, size) != first || first.len != 0 {
             return Answer::Bad9;
         }
         if !self.buffer.kept(0, size) {
             return Answer::BadRest;
         }
-        Answer::Refusal(first.refusal)
+        Answer::Refusal(first.number)
     }
 }

@@ -132,8 +132,8 @@ fn same<'a>(line: &'a Line, lent: &mut Lent) -> Result<(), &'a [u8]> {
             Call::Leaf(leaf) => {
                 let rust = rust_side::text(leaf, text);
                 let outcome = Archive.write(leaf, text, &mut lent.text[..ample(text.len())]);
-                let written = &lent.text[..outcome.length as usize];
-                outcome.refusal == 0 && rust.as_bytes() == written
+                let written = &lent.text[..outcome.len as usize];
+                outcome.number == 0 && rust.as_bytes() == written
             }
             Call::Description => {
                 let archive = descriptions::port_side::Archive;
@@ -196,7 +196,7 @@ fn port_texts(leaf: Leaf, texts: &[Vec<u8>], sizes: &[usize], buffer: &mut [u8])
     batch(texts, |text| {
         let size = *sizes.next().expect("a size for each text");
         let outcome = Archive.write(leaf, text, &mut buffer[..size]);
-        read(&buffer[..outcome.length as usize])
+        read(&buffer[..outcome.len as usize])
     })
 }
 

@@ -4,3 +4,4 @@ mod Outlines
 mod Putting
 mod Bounds
 mod Telling
+mod Numbers

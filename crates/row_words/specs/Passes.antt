@@ -1,18 +1,20 @@
 -- For inner functions; no public promise rests on it. What each pass over the columns tells. Assumes nothing.
-use Prim.Native.Nat.{ℕ, _+_}
+use Prim.Native.Nat.{ℕ, _+_, _/_, _%_, _^_}
 use mathlib.Core.Path.{_≡_}
 use mathlib.Core.Bool.{cond}
 use mathlib.Core.List.{List, [], _∷_}
 use mathlib.Core.Option.{Option, some, none}
-use lib.Dec.{ltb}
-use lib.ListN.{length}
+use lib.Dec.{ltb, eqb}
+use lib.ListN.{length, getD, set}
 use Rattle.types.specs.declared.Db2Type.the-variants as type
 use Rattle.types.specs.declared.ColumnDescriptor.{ColumnDescriptor}
+use Rattle.types.specs.declared.ValuePlace.{ValuePlace}
 use Rattle.types.specs.Names.{namedIn}
 use Rattle.rules.specs.Walk.{Piece, Walk, done, short}
 use Rattle.rules.specs.Row.{Decision, refusal, acceptance, rowTexts}
 use Rattle.rules.specs.Conversions.{ported}
 use Rattle.words.specs.Reading.{columnNamed}
+use Rattle.words.specs.Values.{kindWord, numberWord, lengthWord}
 use Rattle.row_words.specs.declared.Checked.{Checked}
 use Rattle.row_words.specs.declared.Checked.the-variants.{Columns, NoColumn}
 use Rattle.row_words.specs.declared.Walked.{Walked}
@@ -34,6 +36,14 @@ unfoldable pub columnsNamed : List ℕ → List ColumnDescriptor
 columnsNamed [] = []
 columnsNamed (first ∷ []) = []
 columnsNamed (first ∷ second ∷ words) = columnNamed first second ∷ columnsNamed words
+
+-- how many bytes a column takes by its first word alone, where it is a number and has no indicator: the first five types; else 0
+abbrev pub numberWidth : ℕ → ℕ
+numberWidth first = cond (eqb (first / 2 ^ 48 % 2) 1) 0 (getD (2 ∷ 4 ∷ 8 ∷ 4 ∷ 8 ∷ []) (first % 2 ^ 8) 0)
+
+-- the words v with those of a value from word q on
+abbrev pub threeSet : List ℕ → ℕ → ValuePlace → List ℕ
+threeSet v q x = set (set (set v q (kindWord x)) (q + 1) (numberWord (x .value))) (q + 2) (lengthWord (x .value))
 
 -- how a walk ends
 abbrev pub outline : Walk → Walked

@@ -1,28 +1,37 @@
 // Inner. The row call on plain words, for C and Rust: columns are read from lent words, values are written into lent words, texts into a lent
 // buffer. What it costs grows with the columns used: no list of 128 places is made. crates/exported has the refusals before the body.
+use numbers::big_int;
+use numbers::double;
+use numbers::integer;
+use numbers::real;
+use numbers::small_int;
 use piece::piece_length;
 use piece::piece_need;
 use piece::piece_write;
 use piece::shortage;
+use types::Db2Value;
 use types::ValuePlace;
 use words::column_named;
 use words::is_column;
 use words::value_words;
 ghost use mathlib.Core.Path.{_≡_};
 ghost use mathlib.Core.List.{[], _∷_};
-ghost use Prim.Native.Nat.{_+_, _*_, _/_, _%_, _<_, _≤_, _^_};
-ghost use mathlib.Core.Bool.{cond};
+ghost use Prim.Native.Nat.{ℕ, _+_, _*_, _/_, _%_, _<_, _≤_, _^_};
+ghost use mathlib.Core.Bool.{cond, false};
 ghost use lib.Dec.{eqb};
-ghost use lib.ListN.{length, set};
+ghost use lib.ListN.{length};
+ghost use Rattle.buffer.specs.Buffer.{written};
+ghost use Rattle.rules.specs.Walk.{columnNeed};
+ghost use Rattle.rules.specs.Row.{pieceValue};
+ghost use Rattle.piece.specs.Piece.{pieceIn, pieceText};
 ghost use Rattle.refusal.specs.Refusal.{inputLimit};
 ghost use Rattle.types.specs.Places.{maxColumns};
 ghost use Rattle.rules.specs.Walk.{skipOf, walkBody};
 ghost use Rattle.rules.specs.Row.{bodyDecision, textAfter};
 ghost use Rattle.rules.specs.Conversions.{ported};
-ghost use Rattle.words.specs.Reading.{readColumns};
-ghost use Rattle.words.specs.Values.{kindWord, numberWord, lengthWord};
+ghost use Rattle.words.specs.Reading.{columnNamed, readColumns};
 ghost use Rattle.row_words.specs.Rows.{valuesAfter};
-ghost use Rattle.row_words.specs.Passes.{checkedOf, columnsNamed, outline, textsOf, neededBeyond, Says};
+ghost use Rattle.row_words.specs.Passes.{checkedOf, columnsNamed, numberWidth, threeSet, outline, textsOf, neededBeyond, Says};
 
 // What the columns' words say before the row is looked at: how many columns are of type DecFloat, or that some words are no column's.
 pub enum Checked {
@@ -34,6 +43,12 @@ pub enum Checked {
 pub enum Walked {
     Done { end: usize },
     Short { expected: usize, actual: usize },
+}
+
+// How many bytes of the row a column took, and how many bytes of text were written.
+struct Taken {
+    pub used: usize,
+    pub written: usize,
 }
 
 // What is decided of a row's body: accepted, with the bytes of the input that are used and the bytes of text that are written; or refused.
@@ -88,6 +103,51 @@ fn skip_of(data: &[u8]) -> usize
     0
 }
 
+fn number_width(first: u64) -> usize
+    ensures { λ r. ⌜ r ≡ numberWidth first ⌝ }
+{
+    if first / 0x1_0000_0000_0000 % 2 == 1 {
+        return 0;
+    }
+    match first % 0x100 {
+        0 => 2,
+        1 => 4,
+        2 => 8,
+        3 => 4,
+        4 => 8,
+        _ => 0,
+    }
+}
+
+// The value of a column that number_width knows.
+fn number_value(rest: &[u8], first: u64, second: u64) -> Db2Value
+    requires width { ⌜ 0 < numberWidth first ⌝ }
+    requires there { ⌜ numberWidth first ≤ length (now rest) ⌝ }
+    ensures { λ r. ⌜ ((at next : ℕ) → pieceValue ported (pieceIn (columnNamed first second) at (now (rest .entry))) next ≡ record { value = r; external = false }) ⌝ }
+{
+    let column = column_named(first, second);
+    let order = column.byte_order;
+    match first % 0x100 {
+        0 => small_int(rest, order),
+        1 => integer(rest, order),
+        2 => big_int(rest, order),
+        3 => real(rest, order),
+        _ => double(rest, order),
+    }
+}
+
+// How many bytes the column takes. A number needs no look at the row.
+fn need_named(rest: &[u8], first: u64, second: u64) -> usize
+    ensures { λ r. ⌜ r ≡ columnNeed (columnNamed first second) (now (rest .entry)) ⌝ }
+{
+    let width = number_width(first);
+    if 0 < width {
+        return width;
+    }
+    let column = column_named(first, second);
+    piece_need(rest, column)
+}
+
 // Whether every column has its bytes. Nothing is written before that is known.
 fn walk_columns(columns: &[u64], data: &[u8], start: usize) -> Walked
     requires start { ⌜ start ≤ length (now «data») ⌝ }
@@ -99,10 +159,12 @@ fn walk_columns(columns: &[u64], data: &[u8], start: usize) -> Walked
     let mut i: usize = 0;
     while i < count {
         let k = 2 * i;
-        let column = column_named(columns[k], columns[k + 1]);
+        let first = columns[k];
+        let second = columns[k + 1];
         let rest = &data[at..];
-        let n = piece_need(rest, column);
+        let n = need_named(rest, first, second);
         if rest.len() < n {
+            let column = column_named(first, second);
             let s = shortage(rest, at - start, column);
             return Walked::Short {
                 expected: s.expected,
@@ -149,12 +211,57 @@ fn text_needed(columns: &[u64], data: &[u8], start: usize, end: usize, room: usi
 // Writes a value into its three words.
 fn put_value(values: &mut [u64], at: usize, place: ValuePlace)
     requires { ⌜ at + 2 < length (now values) ⌝ }
-    ensures { λ _. ⌜ now (values .exit) ≡ set (set (set (now (values .entry)) at (kindWord place)) (at + 1) (numberWord (place .value))) (at + 2) (lengthWord (place .value)) ⌝ }
+    ensures { λ _. ⌜ now (values .exit) ≡ threeSet (now (values .entry)) at place ⌝ }
 {
     let w = value_words(place);
     values[at] = w.kind;
     values[at + 1] = w.number;
     values[at + 2] = w.len;
+}
+
+// Writes a column's value into its three words and its text into out, as piece_write does. A number goes no further.
+fn put_column(
+    rest: &[u8],
+    at: usize,
+    first: u64,
+    second: u64,
+    next: usize,
+    out: &mut [u8],
+    values: &mut [u64],
+    place: usize,
+) -> Taken
+    requires there { ⌜ columnNeed (columnNamed first second) (now rest) ≤ length (now rest) ⌝ }
+    requires limit { ⌜ at + length (now rest) ≤ inputLimit ⌝ }
+    requires room { ⌜ length (pieceText (columnNamed first second) (now rest)) ≤ length (now out) ⌝ }
+    requires words { ⌜ place + 2 < length (now values) ⌝ }
+    ensures used { λ r. ⌜ r .used ≡ columnNeed (columnNamed first second) (now (rest .entry)) ⌝ }
+    ensures count { λ r. ⌜ r .written ≡ length (pieceText (columnNamed first second) (now (rest .entry))) ⌝ }
+    ensures bytes { λ _. ⌜ now (out .exit) ≡ written (pieceText (columnNamed first second) (now (rest .entry))) (now (out .entry)) ⌝ }
+    ensures values { λ _. ⌜ now (values .exit) ≡ threeSet (now (values .entry)) place (pieceValue ported (pieceIn (columnNamed first second) at (now (rest .entry))) next) ⌝ }
+{
+    let width = number_width(first);
+    if 0 < width {
+        let value = number_value(rest, first, second);
+        put_value(
+            values,
+            place,
+            ValuePlace {
+                value,
+                external: false,
+            },
+        );
+        return Taken {
+            used: width,
+            written: 0,
+        };
+    }
+    let column = column_named(first, second);
+    let p = piece_write(rest, at, column, next, out);
+    put_value(values, place, p.place);
+    Taken {
+        used: p.used,
+        written: p.written,
+    }
 }
 
 // Writes the values, and their texts one after the other: how many bytes of text they are.
@@ -181,9 +288,16 @@ fn write_columns(
     let mut i: usize = 0;
     while i < count {
         let k = 2 * i;
-        let column = column_named(columns[k], columns[k + 1]);
-        let p = piece_write(&data[at..], at, column, next, &mut text[next..]);
-        put_value(values, 3 * i, p.place);
+        let p = put_column(
+            &data[at..],
+            at,
+            columns[k],
+            columns[k + 1],
+            next,
+            &mut text[next..],
+            values,
+            3 * i,
+        );
         at += p.used;
         next += p.written;
         i += 1;

@@ -1,6 +1,6 @@
 -- `row_words::walk_columns` meets its contract: a law for the start, a turn and the end of the loop. Assumes nothing.
 use Prim.Native.Nat.{_-_, _/_, _≤_}
-use mathlib.Core.Path.{sym, ap}
+use mathlib.Core.Path.{refl, sym, ap}
 use borrow.Author.Needs.{needs}
 use native.Mathlib.Omega.{arith}
 use lib.ListN.{length, length-drop}
@@ -22,35 +22,35 @@ loop-holds c = (omega arith, walking-start _ _ _ (c .before .before .pre .0))
 mul-k : tie.Need-mul-k Inv-loop μ-loop
 mul-k c = omega (arith, c .loop-test .taken)
 
-mul-column-named : tie.Need-mul-column-named Inv-loop μ-loop
-mul-column-named c = omega (arith, c .loop-test .taken)
+mul-first : tie.Need-mul-first Inv-loop μ-loop
+mul-first c = omega (arith, c .loop-test .taken)
 
-shared-slice-read-column-named : tie.Need-shared-slice-read-column-named Inv-loop μ-loop
-shared-slice-read-column-named c = omega (arith, c .before .loop-test .taken)
+shared-slice-read-first : tie.Need-shared-slice-read-first Inv-loop μ-loop
+shared-slice-read-first c = omega (arith, c .before .loop-test .taken)
 
-add-column-named : tie.Need-add-column-named Inv-loop μ-loop
-add-column-named c = omega (arith, c .before .loop-test .taken)
+add-second : tie.Need-add-second Inv-loop μ-loop
+add-second c = omega (arith, c .before .loop-test .taken)
 
-mul-column-named-2 : tie.Need-mul-column-named-2 Inv-loop μ-loop
-mul-column-named-2 c = omega (arith, c .before .loop-test .taken)
+mul-second : tie.Need-mul-second Inv-loop μ-loop
+mul-second c = omega (arith, c .before .loop-test .taken)
 
-shared-slice-read-column-named-2 : tie.Need-shared-slice-read-column-named-2 Inv-loop μ-loop
-shared-slice-read-column-named-2 c = omega (arith, c .before .before .loop-test .taken)
-
-column-named-requires : tie.Need-column-named-requires Inv-loop μ-loop
-column-named-requires c κs = search needs
+shared-slice-read-second : tie.Need-shared-slice-read-second Inv-loop μ-loop
+shared-slice-read-second c = omega (arith, c .before .before .loop-test .taken)
 
 sub-rest : tie.Need-sub-rest Inv-loop μ-loop
-sub-rest c = c .before .before .before .before .loop .inv .1 .within
+sub-rest c = c .before .before .before .loop .inv .1 .within
 
 part-rest-start : tie.Need-part-rest-start Inv-loop μ-loop
-part-rest-start c = c .before .before .before .before .loop .inv .1 .within
+part-rest-start c = c .before .before .before .loop .inv .1 .within
 
 part-rest-end : tie.Need-part-rest-end Inv-loop μ-loop
 part-rest-end c = search needs
 
-piece-need-requires : tie.Need-piece-need-requires Inv-loop μ-loop
-piece-need-requires c κs = search needs
+need-named-requires : tie.Need-need-named-requires Inv-loop μ-loop
+need-named-requires c κs = search needs
+
+column-named-requires : tie.Need-column-named-requires Inv-loop μ-loop
+column-named-requires c κs = search needs
 
 sub-shortage : tie.Need-sub-shortage Inv-loop μ-loop
 sub-shortage c = c .before .before .before .before .before .before .before .loop .inv .1 .after
@@ -59,19 +59,19 @@ shortage-requires : tie.Need-shortage-requires Inv-loop μ-loop
 shortage-requires c κs = omega (arith, c .before .before .before .before .before .before .before .loop .inv .1 .within, c .before .before .before .before .before .before .before .before .before .before .pre .1)
 
 returns : tie.Need-returns Inv-loop μ-loop
-returns c = sym (ap outline (walking-short _ _ _ (c .before .before .before .before .before .before .before .before .loop .inv .1) (c .before .before .before .before .column-named .result) (named-at _ _ (c .before .before .before .before .before .before .before .loop-test .taken) (c .before .before .before .before .column-named .ensures)) _ (rest-is (c .before .before .before .before .before .before .before .before .before .before .before .args .«data» .now) (c .before .before .before .before .before .before .before .before .loop .at)) (rw (c .before .before .piece-need .ensures) at (c .before .if1 .taken)) _ _ (c .shortage .ensures)))
+returns c = sym (ap outline (walking-short _ _ _ (c .before .before .before .before .before .before .before .before .loop .inv .1) (c .before .column-named .result) (named-at _ _ (c .before .before .before .before .before .before .before .loop-test .taken) (c .before .column-named .ensures)) _ (rest-is (c .before .before .before .before .before .before .before .before .before .before .before .args .«data» .now) (c .before .before .before .before .before .before .before .before .loop .at)) (rw (c .before .before .before .need-named .ensures, ← (c .before .column-named .ensures)) at (c .before .before .if1 .taken)) _ _ (c .shortage .ensures)))
 
 add-at : tie.Need-add-at Inv-loop μ-loop
-add-at c = omega (arith, c .before .before .before .before .before .before .before .loop .inv .1 .within, c .if1 .left, ap length (rest-is (c .before .before .before .before .before .before .before .before .before .before .args .«data» .now) (c .before .before .before .before .before .before .before .loop .at)), length-drop (c .before .before .before .before .before .before .before .loop .at) (c .before .before .before .before .before .before .before .before .before .before .args .«data» .now))
+add-at c = omega (arith, c .before .before .before .before .before .before .loop .inv .1 .within, c .if1 .left, ap length (rest-is (c .before .before .before .before .before .before .before .before .before .args .«data» .now) (c .before .before .before .before .before .before .loop .at)), length-drop (c .before .before .before .before .before .before .loop .at) (c .before .before .before .before .before .before .before .before .before .args .«data» .now))
 
 add-i : tie.Need-add-i Inv-loop μ-loop
-add-i c = omega (arith, c .before .before .before .before .before .before .loop-test .taken)
+add-i c = omega (arith, c .before .before .before .before .before .loop-test .taken)
 
 loop-less : tie.Need-loop-less Inv-loop μ-loop
-loop-less c = omega (arith, c .before .before .before .before .before .before .loop-test .taken)
+loop-less c = omega (arith, c .before .before .before .before .before .loop-test .taken)
 
 loop-again : tie.Need-loop-again Inv-loop μ-loop
-loop-again c = (omega (arith, c .before .before .before .before .before .before .loop-test .taken), walking-step _ _ _ (c .before .before .before .before .before .before .before .loop .inv .1) (c .before .before .before .column-named .result) (named-at _ _ (c .before .before .before .before .before .before .loop-test .taken) (c .before .before .before .column-named .ensures)) _ (rest-is (c .before .before .before .before .before .before .before .before .before .before .args .«data» .now) (c .before .before .before .before .before .before .before .loop .at)) (c .before .piece-need .result) (c .before .piece-need .ensures) (c .if1 .left))
+loop-again c = (omega (arith, c .before .before .before .before .before .loop-test .taken), walking-step _ _ _ (c .before .before .before .before .before .before .loop .inv .1) _ (named-at _ _ (c .before .before .before .before .before .loop-test .taken) refl) _ (rest-is (c .before .before .before .before .before .before .before .before .before .args .«data» .now) (c .before .before .before .before .before .before .loop .at)) (c .before .need-named .result) (c .before .need-named .ensures) (c .if1 .left))
 
 returns-2 : tie.Need-returns-2 Inv-loop μ-loop
 returns-2 c = sym (ap outline (walking-end _ _ _ (c .before .loop .inv .1) (omega (arith, c .loop-test .left, named-length (c .before .before .before .before .args .columns .now)))))
@@ -84,16 +84,16 @@ walk-columns-spec =
     μ-loop
     loop-holds
     mul-k
-    mul-column-named
-    shared-slice-read-column-named
-    add-column-named
-    mul-column-named-2
-    shared-slice-read-column-named-2
-    column-named-requires
+    mul-first
+    shared-slice-read-first
+    add-second
+    mul-second
+    shared-slice-read-second
     sub-rest
     part-rest-start
     part-rest-end
-    piece-need-requires
+    need-named-requires
+    column-named-requires
     sub-shortage
     shortage-requires
     returns

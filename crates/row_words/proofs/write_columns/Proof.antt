@@ -1,6 +1,6 @@
 -- `row_words::write_columns` meets its contract: a law for the start, a turn and the end of the loop. Assumes nothing.
 use Prim.Native.Nat.{_+_, _-_, _*_, _/_, _≤_}
-use mathlib.Core.Path.{_≡_, sym, ap, _∙_}
+use mathlib.Core.Path.{_≡_, refl, sym, ap, _∙_}
 use borrow.Author.Needs.{needs}
 use native.Mathlib.Omega.{arith}
 use denote.Ref.{now}
@@ -42,65 +42,59 @@ loop-holds c = (omega arith, putting-start _ _ _ _ _ _ _ (c .before .before .bef
 mul-k : tie.Need-mul-k Inv-loop μ-loop
 mul-k c = omega (arith, c .loop-test .taken)
 
-mul-column-named : tie.Need-mul-column-named Inv-loop μ-loop
-mul-column-named c = omega (arith, c .loop-test .taken)
+sub-put-column : tie.Need-sub-put-column Inv-loop μ-loop
+sub-put-column c = c .before .loop .inv .1 .placing .going .within
 
-shared-slice-read-column-named : tie.Need-shared-slice-read-column-named Inv-loop μ-loop
-shared-slice-read-column-named c = omega (arith, c .before .loop-test .taken)
+part-put-column-start : tie.Need-part-put-column-start Inv-loop μ-loop
+part-put-column-start c = c .before .loop .inv .1 .placing .going .within
 
-add-column-named : tie.Need-add-column-named Inv-loop μ-loop
-add-column-named c = omega (arith, c .before .loop-test .taken)
+part-put-column-end : tie.Need-part-put-column-end Inv-loop μ-loop
+part-put-column-end c = search needs
 
-mul-column-named-2 : tie.Need-mul-column-named-2 Inv-loop μ-loop
-mul-column-named-2 c = omega (arith, c .before .loop-test .taken)
+mul-put-column : tie.Need-mul-put-column Inv-loop μ-loop
+mul-put-column c = omega (arith, c .before .before .before .before .before .before .before .pre .1 .1 .1 .0, c .before .loop-test .taken)
 
-shared-slice-read-column-named-2 : tie.Need-shared-slice-read-column-named-2 Inv-loop μ-loop
-shared-slice-read-column-named-2 c = omega (arith, c .before .before .loop-test .taken)
+shared-slice-read-put-column : tie.Need-shared-slice-read-put-column Inv-loop μ-loop
+shared-slice-read-put-column c = omega (arith, c .before .before .loop-test .taken)
 
-column-named-requires : tie.Need-column-named-requires Inv-loop μ-loop
-column-named-requires c κs = search needs
+add-put-column : tie.Need-add-put-column Inv-loop μ-loop
+add-put-column c = omega (arith, c .before .before .loop-test .taken)
 
-sub-piece-write : tie.Need-sub-piece-write Inv-loop μ-loop
-sub-piece-write c = c .before .before .before .before .loop .inv .1 .placing .going .within
+mul-put-column-2 : tie.Need-mul-put-column-2 Inv-loop μ-loop
+mul-put-column-2 c = omega (arith, c .before .before .loop-test .taken)
 
-part-piece-write-start : tie.Need-part-piece-write-start Inv-loop μ-loop
-part-piece-write-start c = c .before .before .before .before .loop .inv .1 .placing .going .within
+shared-slice-read-put-column-2 : tie.Need-shared-slice-read-put-column-2 Inv-loop μ-loop
+shared-slice-read-put-column-2 c = omega (arith, c .before .before .before .loop-test .taken)
 
-part-piece-write-end : tie.Need-part-piece-write-end Inv-loop μ-loop
-part-piece-write-end c = search needs
+sub-put-column-2 : tie.Need-sub-put-column-2 Inv-loop μ-loop
+sub-put-column-2 c = omega (arith, writing.fits (c .before .before .before .before .loop .inv .1 .placing .texts))
 
-sub-piece-write-2 : tie.Need-sub-piece-write-2 Inv-loop μ-loop
-sub-piece-write-2 c = omega (arith, writing.fits (c .before .before .before .before .before .loop .inv .1 .placing .texts))
+part-put-column-start-2 : tie.Need-part-put-column-start-2 Inv-loop μ-loop
+part-put-column-start-2 c = omega (arith, writing.fits (c .before .before .before .before .loop .inv .1 .placing .texts))
 
-part-piece-write-start-2 : tie.Need-part-piece-write-start-2 Inv-loop μ-loop
-part-piece-write-start-2 c = omega (arith, writing.fits (c .before .before .before .before .before .loop .inv .1 .placing .texts))
+part-put-column-end-2 : tie.Need-part-put-column-end-2 Inv-loop μ-loop
+part-put-column-end-2 c = search needs
 
-part-piece-write-end-2 : tie.Need-part-piece-write-end-2 Inv-loop μ-loop
-part-piece-write-end-2 c = search needs
+mul-put-column-3 : tie.Need-mul-put-column-3 Inv-loop μ-loop
+mul-put-column-3 c = omega (arith, c .before .before .before .before .before .loop-test .taken)
 
-piece-write-requires : tie.Need-piece-write-requires Inv-loop μ-loop
-piece-write-requires c κs = (placing-there ported _ _ _ _ _ _ (c .before .before .before .before .before .before .loop .inv .1 .placing) (c .before .before .column-named .result) (named-at _ _ (c .before .before .before .before .before .loop-test .taken) (c .before .before .column-named .ensures)) _ (rest-is (c .before .before .before .before .before .before .before .before .before .before .before .args .«data» .now) (c .before .before .before .before .before .before .loop .at)), (omega (arith, c .before .before .before .before .before .before .before .before .before .before .before .pre .1 .0, c .before .before .before .before .before .before .loop .inv .1 .placing .going .within, ap length (rest-is (c .before .before .before .before .before .before .before .before .before .before .before .args .«data» .now) (c .before .before .before .before .before .before .loop .at)), length-drop (c .before .before .before .before .before .before .loop .at) (c .before .before .before .before .before .before .before .before .before .before .before .args .«data» .now)), placing-room ported _ _ _ _ _ _ (c .before .before .before .before .before .before .loop .inv .1 .placing) (c .before .before .column-named .result) (named-at _ _ (c .before .before .before .before .before .loop-test .taken) (c .before .before .column-named .ensures)) _ (rest-is (c .before .before .before .before .before .before .before .before .before .before .before .args .«data» .now) (c .before .before .before .before .before .before .loop .at))))
-
-mul-put-value : tie.Need-mul-put-value Inv-loop μ-loop
-mul-put-value c = omega (arith, c .before .before .before .before .before .before .before .before .before .before .before .before .before .before .before .pre .1 .1 .1 .0, c .before .before .before .before .before .before .before .before .before .loop-test .taken)
-
-put-value-requires : tie.Need-put-value-requires Inv-loop μ-loop
-put-value-requires c κs = omega (arith, c .before .before .before .before .before .before .before .before .before .before .before .before .before .before .before .pre .1 .1 .1 .0, c .before .before .before .before .before .before .before .before .before .loop-test .taken, as-many _ _ _ _ _ _ _ (c .before .before .before .before .before .before .before .before .before .before .loop .inv .1) (omega (arith, c .before .before .before .before .before .before .before .before .before .before .before .before .before .before .before .pre .1 .1 .1 .0, c .before .before .before .before .before .before .before .before .before .loop-test .taken)))
+put-column-requires : tie.Need-put-column-requires Inv-loop μ-loop
+put-column-requires c κs = (placing-there ported _ _ _ _ _ _ (c .before .before .before .before .before .before .loop .inv .1 .placing) _ (named-at _ _ (c .before .before .before .before .before .loop-test .taken) refl) _ (rest-is (c .before .before .before .before .before .before .before .before .before .before .before .args .«data» .now) (c .before .before .before .before .before .before .loop .at)), (omega (arith, c .before .before .before .before .before .before .before .before .before .before .before .pre .1 .0, c .before .before .before .before .before .before .loop .inv .1 .placing .going .within, ap length (rest-is (c .before .before .before .before .before .before .before .before .before .before .before .args .«data» .now) (c .before .before .before .before .before .before .loop .at)), length-drop (c .before .before .before .before .before .before .loop .at) (c .before .before .before .before .before .before .before .before .before .before .before .args .«data» .now)), (placing-room ported _ _ _ _ _ _ (c .before .before .before .before .before .before .loop .inv .1 .placing) _ (named-at _ _ (c .before .before .before .before .before .loop-test .taken) refl) _ (rest-is (c .before .before .before .before .before .before .before .before .before .before .before .args .«data» .now) (c .before .before .before .before .before .before .loop .at)), omega (arith, c .before .before .before .before .before .before .before .before .before .before .before .pre .1 .1 .1 .0, c .before .before .before .before .before .loop-test .taken, as-many _ _ _ _ _ _ _ (c .before .before .before .before .before .before .loop .inv .1) (omega (arith, c .before .before .before .before .before .before .before .before .before .before .before .pre .1 .1 .1 .0, c .before .before .before .before .before .loop-test .taken))))))
 
 add-at : tie.Need-add-at Inv-loop μ-loop
-add-at c = omega (arith, c .before .before .before .before .before .before .before .before .before .before .before .before .before .before .before .before .before .before .before .pre .1 .0, placing-there ported _ _ _ _ _ _ (c .before .before .before .before .before .before .before .before .before .before .before .before .before .before .loop .inv .1 .placing) (c .before .before .before .before .before .before .before .before .before .before .column-named .result) (named-at _ _ (c .before .before .before .before .before .before .before .before .before .before .before .before .before .loop-test .taken) (c .before .before .before .before .before .before .before .before .before .before .column-named .ensures)) _ (rest-is (c .before .before .before .before .before .before .before .before .before .before .before .before .before .before .before .before .before .before .before .args .«data» .now) (c .before .before .before .before .before .before .before .before .before .before .before .before .before .before .loop .at)), c .before .before .before .before .before .before .before .piece-write .ensures .1 .0, c .before .before .before .before .before .before .before .before .before .before .before .before .before .before .loop .inv .1 .placing .going .within, ap length (rest-is (c .before .before .before .before .before .before .before .before .before .before .before .before .before .before .before .before .before .before .before .args .«data» .now) (c .before .before .before .before .before .before .before .before .before .before .before .before .before .before .loop .at)), length-drop (c .before .before .before .before .before .before .before .before .before .before .before .before .before .before .loop .at) (c .before .before .before .before .before .before .before .before .before .before .before .before .before .before .before .before .before .before .before .args .«data» .now))
+add-at c = omega (arith, c .before .before .before .before .before .before .before .before .before .before .before .before .before .before .before .before .before .pre .1 .0, placing-there ported _ _ _ _ _ _ (c .before .before .before .before .before .before .before .before .before .before .before .before .loop .inv .1 .placing) _ (named-at _ _ (c .before .before .before .before .before .before .before .before .before .before .before .loop-test .taken) refl) _ (rest-is (c .before .before .before .before .before .before .before .before .before .before .before .before .before .before .before .before .before .args .«data» .now) (c .before .before .before .before .before .before .before .before .before .before .before .before .loop .at)), c .before .before .before .before .before .put-column .ensures .0, c .before .before .before .before .before .before .before .before .before .before .before .before .loop .inv .1 .placing .going .within, ap length (rest-is (c .before .before .before .before .before .before .before .before .before .before .before .before .before .before .before .before .before .args .«data» .now) (c .before .before .before .before .before .before .before .before .before .before .before .before .loop .at)), length-drop (c .before .before .before .before .before .before .before .before .before .before .before .before .loop .at) (c .before .before .before .before .before .before .before .before .before .before .before .before .before .before .before .before .before .args .«data» .now))
 
 add-next : tie.Need-add-next Inv-loop μ-loop
-add-next c = omega (arith, c .before .before .before .before .before .before .before .before .before .before .before .before .before .before .before .before .before .before .before .before .good, placing-within ported _ _ _ _ _ _ (c .before .before .before .before .before .before .before .before .before .before .before .before .before .before .before .loop .inv .1 .placing) (c .before .before .before .before .before .before .before .before .before .before .before .column-named .result) (named-at _ _ (c .before .before .before .before .before .before .before .before .before .before .before .before .before .before .loop-test .taken) (c .before .before .before .before .before .before .before .before .before .before .before .column-named .ensures)) _ (rest-is (c .before .before .before .before .before .before .before .before .before .before .before .before .before .before .before .before .before .before .before .before .args .«data» .now) (c .before .before .before .before .before .before .before .before .before .before .before .before .before .before .before .loop .at)) _ (c .before .before .before .before .before .before .before .before .piece-write .ensures .1 .1 .0))
+add-next c = omega (arith, c .before .before .before .before .before .before .before .before .before .before .before .before .before .before .before .before .before .before .good, placing-within ported _ _ _ _ _ _ (c .before .before .before .before .before .before .before .before .before .before .before .before .before .loop .inv .1 .placing) _ (named-at _ _ (c .before .before .before .before .before .before .before .before .before .before .before .before .loop-test .taken) refl) _ (rest-is (c .before .before .before .before .before .before .before .before .before .before .before .before .before .before .before .before .before .before .args .«data» .now) (c .before .before .before .before .before .before .before .before .before .before .before .before .before .loop .at)) _ (c .before .before .before .before .before .before .put-column .ensures .1 .0))
 
 add-i : tie.Need-add-i Inv-loop μ-loop
-add-i c = omega (arith, c .before .before .before .before .before .before .before .before .before .before .before .before .before .before .before .before .before .before .before .before .good, c .before .before .before .before .before .before .before .before .before .before .before .before .before .before .loop-test .taken, c .before .before .before .before .before .before .before .before .before .before .before .before .before .before .before .before .before .before .before .before .pre .1 .1 .1 .0)
+add-i c = omega (arith, c .before .before .before .before .before .before .before .before .before .before .before .before .before .before .before .before .before .before .good, c .before .before .before .before .before .before .before .before .before .before .before .before .loop-test .taken, c .before .before .before .before .before .before .before .before .before .before .before .before .before .before .before .before .before .before .pre .1 .1 .1 .0)
 
 loop-less : tie.Need-loop-less Inv-loop μ-loop
-loop-less c = omega (arith, c .before .before .before .before .before .before .before .before .before .before .before .before .before .before .loop-test .taken)
+loop-less c = omega (arith, c .before .before .before .before .before .before .before .before .before .before .before .before .loop-test .taken)
 
 loop-again : tie.Need-loop-again Inv-loop μ-loop
-loop-again c = (omega (arith, c .before .before .before .before .before .before .before .before .before .before .before .before .before .before .loop-test .taken), (rw (c .before .before .before .before .put-value .ensures) (putting-step _ _ _ _ _ _ _ (c .before .before .before .before .before .before .before .before .before .before .before .before .before .before .before .loop .inv .1) (c .before .before .before .before .before .before .before .before .before .before .before .column-named .result) (named-at _ _ (c .before .before .before .before .before .before .before .before .before .before .before .before .before .before .loop-test .taken) (c .before .before .before .before .before .before .before .before .before .before .before .column-named .ensures)) _ (rest-is (c .before .before .before .before .before .before .before .before .before .before .before .before .before .before .before .before .before .before .before .before .args .«data» .now) (c .before .before .before .before .before .before .before .before .before .before .before .before .before .before .before .loop .at)) _ _ (c .before .before .before .before .before .before .before .before .piece-write .ensures .1 .0) (c .before .before .before .before .before .before .before .before .piece-write .ensures .1 .1 .0) _ (c .before .before .before .before .before .before .before .before .piece-write .ensures .1 .1 .1) (omega (arith, c .before .before .before .before .before .before .before .before .before .before .before .before .before .before .before .before .before .before .before .before .pre .1 .1 .1 .0, c .before .before .before .before .before .before .before .before .before .before .before .before .before .before .loop-test .taken)) _ (c .before .before .before .before .before .before .before .before .piece-write .ensures .0))))
+loop-again c = (omega (arith, c .before .before .before .before .before .before .before .before .before .before .before .before .loop-test .taken), (rw (c .before .before .before .before .before .before .put-column .ensures .1 .1 .1) (putting-step _ _ _ _ _ _ _ (c .before .before .before .before .before .before .before .before .before .before .before .before .before .loop .inv .1) _ (named-at _ _ (c .before .before .before .before .before .before .before .before .before .before .before .before .loop-test .taken) refl) _ (rest-is (c .before .before .before .before .before .before .before .before .before .before .before .before .before .before .before .before .before .before .args .«data» .now) (c .before .before .before .before .before .before .before .before .before .before .before .before .before .loop .at)) _ _ (c .before .before .before .before .before .before .put-column .ensures .0) (c .before .before .before .before .before .before .put-column .ensures .1 .0) _ (c .before .before .before .before .before .before .put-column .ensures .1 .1 .0) (omega (arith, c .before .before .before .before .before .before .before .before .before .before .before .before .before .before .before .before .before .before .pre .1 .1 .1 .0, c .before .before .before .before .before .before .before .before .before .before .before .before .loop-test .taken)) _ refl)))
 
 same-length : tie.Need-same-length Inv-loop μ-loop
 same-length c = as-many _ _ _ _ _ _ _ (c .before .loop .inv .1) (omega (arith, c .before .loop .inv .0, c .before .before .before .before .before .before .pre .1 .1 .1 .0))
@@ -122,21 +116,19 @@ write-columns-spec =
     μ-loop
     loop-holds
     mul-k
-    mul-column-named
-    shared-slice-read-column-named
-    add-column-named
-    mul-column-named-2
-    shared-slice-read-column-named-2
-    column-named-requires
-    sub-piece-write
-    part-piece-write-start
-    part-piece-write-end
-    sub-piece-write-2
-    part-piece-write-start-2
-    part-piece-write-end-2
-    piece-write-requires
-    mul-put-value
-    put-value-requires
+    sub-put-column
+    part-put-column-start
+    part-put-column-end
+    mul-put-column
+    shared-slice-read-put-column
+    add-put-column
+    mul-put-column-2
+    shared-slice-read-put-column-2
+    sub-put-column-2
+    part-put-column-start-2
+    part-put-column-end-2
+    mul-put-column-3
+    put-column-requires
     add-at
     add-next
     add-i

@@ -103,6 +103,8 @@ fn skip_of(data: &[u8]) -> usize
     0
 }
 
+// How many bytes a column takes that is a number and has no indicator; else 0. Such columns are common, and their first word says all that is
+// needed: no column is made of the two words, which would go through memory.
 fn number_width(first: u64) -> usize
     ensures { λ r. ⌜ r ≡ numberWidth first ⌝ }
 {

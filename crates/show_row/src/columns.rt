@@ -29,7 +29,7 @@ fn with_number(line: Line, name: &[u8], n: u16) -> Line {
 }
 
 // A type by the name that the library has for it, with the numbers that it holds.
-fn type_name(line: Line, t: Db2Type) -> Line {
+pub fn type_name(line: Line, t: Db2Type) -> Line {
     match t {
         Db2Type::SmallInt => line.text(b"SmallInt"),
         Db2Type::Integer => line.text(b"Integer"),

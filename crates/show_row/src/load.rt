@@ -44,9 +44,14 @@ fn load_from(fd: i32, name: &[u8], is_hex: bool, out: &mut [u8]) -> Loaded {
     load_raw(fd, name, out)
 }
 
-// Says why a call of the system failed.
-fn failed(name: &[u8]) -> Loaded {
+// Says why the system could not open or read a file.
+fn say_unreadable(name: &[u8]) {
+    io::write_all(libc::STDERR_FILENO, b"show_row: cannot read ");
     os::fail(name);
+}
+
+fn failed(name: &[u8]) -> Loaded {
+    say_unreadable(name);
     Loaded::Failed
 }
 
@@ -136,6 +141,7 @@ fn stopped(at: usize, failed: bool) -> Progress {
 }
 
 fn say_no_digit(name: &[u8], b: u8) {
+    io::write_all(libc::STDERR_FILENO, b"show_row: ");
     io::write_all(libc::STDERR_FILENO, name);
     io::write_all(libc::STDERR_FILENO, b": no hexadecimal digit: byte ");
     io::print_hex(libc::STDERR_FILENO, b as u64, 2);
@@ -175,7 +181,7 @@ fn read_hex(fd: i32, name: &[u8], p: Progress, out: &mut [u8]) -> Progress {
     let mut chunk = io::buffer();
     let got = libc::read(fd, &mut chunk);
     if got < 0 {
-        os::fail(name);
+        say_unreadable(name);
         return stopped(0, true);
     }
     if got == 0 {
@@ -188,6 +194,7 @@ fn read_hex(fd: i32, name: &[u8], p: Progress, out: &mut [u8]) -> Progress {
 // The end of the text: no digit waits.
 fn end_hex(name: &[u8], p: Progress) -> Progress {
     if p.high < NONE {
+        io::write_all(libc::STDERR_FILENO, b"show_row: ");
         io::write_all(libc::STDERR_FILENO, name);
         io::write_all(
             libc::STDERR_FILENO,

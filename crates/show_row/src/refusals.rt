@@ -1,7 +1,10 @@
 // A refusal as a line: its number, its meaning, its numbers and, where a column is to blame, which.
+use crate::columns::type_name;
 use printing::Line;
 use refusal::Outcome;
 use types::Columns;
+use types::Db2Type;
+use types::MAX_COLUMNS;
 
 // The first column with which the row is refused with this number: the row call is made with the first column alone, with the first two, and so on.
 fn column_of(row: &[u8], columns: Columns, number: u32, text: &mut [u8]) -> usize {
@@ -47,14 +50,27 @@ pub fn show_refused_description(outcome: Outcome) {
     meaning(outcome.number()).end().flush();
 }
 
+fn with_column(line: Line, column: usize, t: Db2Type) -> Line {
+    let numbered = line.text(b": column ").decimal(column as u64);
+    type_name(numbered.text(b", "), t)
+}
+
+// The type of a column; Null where there is no such column.
+fn type_at(columns: Columns, i: usize) -> Db2Type {
+    if MAX_COLUMNS <= i {
+        return Db2Type::Null;
+    }
+    let column = columns.columns[i];
+    column.db2_type
+}
+
 // The row's refusal, where this column is the first with which it is given.
-fn refused_row(number: u32, first: u64, second: u64, column: usize) -> Line {
+fn refused_row(number: u32, first: u64, second: u64, column: usize, t: Db2Type) -> Line {
     let line = meaning(number);
     match number {
-        5 => line.text(b": column ").decimal(column as u64),
-        8 => line.text(b": column ")
-            .decimal(column as u64)
-            .text(b", expected ")
+        5 => with_column(line, column, t),
+        8 => with_column(line, column, t)
+            .text(b": expected ")
             .decimal(first)
             .text(b" bytes, actual ")
             .decimal(second),
@@ -68,5 +84,6 @@ pub fn show_refused_row(outcome: Outcome, row: &[u8], columns: Columns, text: &m
     let first = outcome.first_value() as u64;
     let second = outcome.second_value() as u64;
     let column = column_of(row, columns, number, text);
-    refused_row(number, first, second, column).end().flush();
+    let t = type_at(columns, column);
+    refused_row(number, first, second, column, t).end().flush();
 }

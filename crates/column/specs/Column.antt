@@ -42,8 +42,8 @@ column c n m nullable t order =
       nullable = nullable;
       ccsid = m .ccsid;
       «db2_type» = t;
-      «extdta_reference_length» = referenceLength c n;
       «byte_order» = order;
+      «extdta_reference_length» = referenceLength c n;
     }
 
 -- "CCSID at 3 and 4; base 0C has precision and scale at 3 and 4 and CCSID at 5 and 6"; "precision and scale are there only together"

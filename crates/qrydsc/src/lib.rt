@@ -40,8 +40,8 @@ fn blank_column() -> ColumnDescriptor
         nullable: false,
         ccsid: 0,
         db2_type: Db2Type::Null,
-        extdta_reference_length: ReferenceLength::Absent,
         byte_order: ByteOrder::BigEndian,
+        extdta_reference_length: ReferenceLength::Absent,
     }
 }
 

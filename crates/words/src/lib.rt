@@ -263,8 +263,8 @@ pub fn column_named(first: u64, second: u64) -> ColumnDescriptor
         nullable: first / 0x1_0000_0000_0000 % 2 == 1,
         ccsid: (second / 0x1_0000_0000 % 0x1_0000) as u16,
         db2_type,
-        extdta_reference_length,
         byte_order,
+        extdta_reference_length,
     }
 }
 

@@ -13,10 +13,10 @@ use Rattle.types.specs.declared.ByteOrder.{ByteOrder}
 use Rattle.types.specs.declared.ReferenceLength.{ReferenceLength}
 use Rattle.types.specs.declared.ReferenceLength.the-variants.{Absent, Width}
 use Rattle.types.specs.declared.ColumnDescriptor.{ColumnDescriptor}
-use Rattle.types.specs.Names.{namedIn}
+use Rattle.types.specs.Names.{ownNumbers, namedIn}
 use Rattle.numbers.specs.Number.{Number}
 use Rattle.rules.specs.Extent.{bit8000, low15, isReference, isShortReference, saysHeader}
-use Rattle.rules.specs.OwnEnd.{ownLength, isAbsent}
+use Rattle.rules.specs.OwnEnd.{isAbsent}
 
 -- the sorts of value that are a part of the row, and those that are a text
 pub data ByteSort : Type 0 where
@@ -179,8 +179,8 @@ typeRefers t c s =
     (namedIn (type.Blob ∷ type.Clob ∷ type.DbClob ∷ type.Xml ∷ []) t
     && (not (isAbsent (c .«extdta_reference_length»)) || (isReference s || (eqb (c .length) 0 && not (namedIn (type.Xml ∷ []) t)))))
     || (namedIn (type.BlobLocator ∷ type.ClobLocator ∷ type.DbClobLocator ∷ []) t
-    || ((namedIn (type.VarChar 0 ∷ type.VarGraphic 0 ∷ []) t && bit8000 (ownLength t))
-    || (namedIn (type.LobBytes 0 ∷ type.LobChar 0 ∷ []) t && isShortReference (low15 (ownLength t)) s)))
+    || ((namedIn (type.VarChar 0 ∷ type.VarGraphic 0 ∷ []) t && bit8000 (ownNumbers t))
+    || (namedIn (type.LobBytes 0 ∷ type.LobChar 0 ∷ []) t && isShortReference (low15 (ownNumbers t)) s)))
 
 -- a value that is there refers to data outside the row
 unfoldable pub refersIn : Conversions → ColumnDescriptor → List ℕ → Bool

@@ -6,7 +6,7 @@ use mathlib.Core.List.{List, [], _∷_}
 use mathlib.Core.Option.{Option, some, none}
 use native.Mathlib.Omega.{arith}
 use borrow.Author.Tests.{eq-eqb}
-use Rattle.types.specs.Names.{nameOf}
+use Rattle.types.specs.Names.{nameOf, ownNumbers}
 use Rattle.types.specs.declared.ByteOrder.{ByteOrder}
 use Rattle.types.specs.declared.ByteOrder.the-variants.{BigEndian, LittleEndian}
 use Rattle.types.specs.declared.ReferenceLength.{ReferenceLength}
@@ -15,7 +15,7 @@ use Rattle.types.specs.declared.ColumnDescriptor.{ColumnDescriptor}
 use lib.Dec.{eqb}
 use lib.ListN.{length, drop, getD, drop-of-length-le}
 use lib.Seq.{drop-cons}
-use Rattle.words.specs.Words.{ownNumbers, packType, littleEndianBit, referenceBit, referenceWidth, firstWord, secondWord, packColumns, typeNamed}
+use Rattle.words.specs.Words.{packType, littleEndianBit, referenceBit, referenceWidth, firstWord, secondWord, packColumns, typeNamed}
 use Rattle.words.specs.Reading.{orderNamed, referenceNamed, columnNamed, isColumn, readColumn, joined, readColumns}
 use Rattle.words.proofs.TypeWords.{Fitting, Named, named}
 use Rattle.words.proofs.Fields.{Widths, Fields, fields}

@@ -13,8 +13,8 @@ ghost use lib.Dec.{eqb};
 ghost use lib.Ieee.{binary32, binary64};
 ghost use mir.Syntax.{w64};
 ghost use mir.Val.{ofZ};
-ghost use Rattle.types.specs.Names.{nameOf};
-ghost use Rattle.words.specs.Words.{ownNumbers, packType, littleEndianBit, referenceBit, referenceWidth, firstWord, secondWord, typeNamed, toldType, readType};
+ghost use Rattle.types.specs.Names.{nameOf, ownNumbers};
+ghost use Rattle.words.specs.Words.{packType, littleEndianBit, referenceBit, referenceWidth, firstWord, secondWord, typeNamed, toldType, readType};
 ghost use Rattle.words.specs.Reading.{orderNamed, referenceNamed, columnNamed, isColumn};
 ghost use Rattle.words.specs.Values.{sortWord, bitsOf, numberWord, lengthWord, kindWord};
 

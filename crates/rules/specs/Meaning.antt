@@ -81,8 +81,11 @@ abbrev pub isEmptyHeader : List ℕ → Bool
 isEmptyHeader h = isReference h && allZero (take 8 (drop 1 h))
 
 module _ (L : Conversions) where
+  abbrev pub headerIn : List ℕ → Item
+  headerIn h = cond (isEmptyHeader h) (text clob []) (text clob (L .locator h))
+
   unfoldable pub headerItem : List ℕ → Item
-  headerItem s = cond (isEmptyHeader (headerBytes s)) (text clob []) (text clob (L .locator (headerBytes s)))
+  headerItem s = headerIn (headerBytes s)
 
   -- a reference or a locator: a Blob shows its first four bytes, the others a text
   unfoldable pub lobReference : Lob → List ℕ → Item
@@ -96,12 +99,18 @@ module _ (L : Conversions) where
   lobInline clobs s = text clob (L .inlineText (drop 4 s))
   lobInline xmls s = text xml (L .inlineText (drop 4 s))
 
-  -- With a reference length the value is a reference, empty also where all its bytes are zero. Without one it is a reference of nine bytes, or a locator of
-  -- four (`located`: Blob, Clob or DbClob of length 0), or within the row
-  unfoldable pub lobItem : ReferenceLength → Bool → Lob → List ℕ → Item
-  lobItem (Width w) located k s = cond (allZero s || isEmptyReference s) (lobEmpty k) (lobReference k s)
-  lobItem Absent located k s =
+  -- With a reference length the value is a reference, empty also where all its bytes are zero
+  abbrev pub declaredLob : Lob → List ℕ → Item
+  declaredLob k s = cond (allZero s || isEmptyReference s) (lobEmpty k) (lobReference k s)
+
+  -- Without one it is a reference of nine bytes, or a locator of four (`located`: Blob, Clob or DbClob of length 0), or within the row
+  abbrev pub undeclaredLob : Bool → Lob → List ℕ → Item
+  undeclaredLob located k s =
       cond (isReference s) (cond (allZero (drop 1 s)) (lobEmpty k) (lobReference k s)) (cond located (lobReference k s) (lobInline k s))
+
+  unfoldable pub lobItem : ReferenceLength → Bool → Lob → List ℕ → Item
+  lobItem (Width w) located k s = declaredLob k s
+  lobItem Absent located k s = undeclaredLob located k s
 
   unfoldable pub varyingItem : ℕ → List ℕ → List ℕ → Item
   varyingItem n converted s = cond (bit8000 n) (headerItem s) (text varChar converted)

@@ -14,7 +14,7 @@ use Rattle.types.specs.declared.ReferenceLength.{ReferenceLength}
 use Rattle.types.specs.declared.ReferenceLength.the-variants.{Absent, Width}
 use Rattle.types.specs.declared.ColumnDescriptor.{ColumnDescriptor}
 use Rattle.numbers.specs.Number.{number}
-use Rattle.packed.specs.Packed.{packedLength}
+use Rattle.types.specs.FixedLength.{packedLength}
 use Rattle.rules.specs.declared.Extent.{Extent}
 use Rattle.rules.specs.declared.Extent.the-variants.{Fixed, Counted, Header, Inline, Locator, Materialized}
 

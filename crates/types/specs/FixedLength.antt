@@ -13,13 +13,17 @@ abbrev pub toldLength : FixedLength → Option ℕ
 toldLength (Bytes n) = some n
 toldLength Varies = none
 
+-- a packed decimal: "a column's byte count is (precision + 2) / 2 rounded down"
+abbrev pub packedLength : ℕ → ℕ
+packedLength precision = (precision + 2) / 2
+
 abbrev pub fixedLength : Db2Type → Option ℕ
 fixedLength type.SmallInt = some 2
 fixedLength type.Integer = some 4
 fixedLength type.BigInt = some 8
 fixedLength type.Real = some 4
 fixedLength type.Double = some 8
-fixedLength (type.Decimal p s) = some ((p + 2) / 2)
+fixedLength (type.Decimal p s) = some (packedLength p)
 fixedLength (type.DecFloat d) = some (cond (eqb d 34) 16 8)
 fixedLength (type.Char n) = some n
 fixedLength (type.VarChar n) = none

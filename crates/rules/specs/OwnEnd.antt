@@ -7,8 +7,7 @@ use Rattle.types.specs.declared.Db2Type.the-variants as type
 use Rattle.types.specs.declared.ReferenceLength.{ReferenceLength}
 use Rattle.types.specs.declared.ReferenceLength.the-variants.{Absent, Width}
 use Rattle.types.specs.declared.ColumnDescriptor.{ColumnDescriptor}
-use Rattle.types.specs.Names.{ownNumbers, namedIn}
-use Rattle.rules.specs.Extent.{bit8000, low15}
+use Rattle.types.specs.Names.{ownNumbers, bit8000, low15, namedIn}
 
 abbrev pub isAbsent : ReferenceLength → Bool
 isAbsent Absent = true

@@ -1,8 +1,9 @@
 -- The byte count of a type's values, where the type alone tells it (document 01, "Types"; the Rust: fixed_length). Assumes nothing.
-use Prim.Native.Nat.{ℕ, _+_, _*_, _/_, _%_}
+use Prim.Native.Nat.{ℕ, _+_, _*_, _/_}
 use mathlib.Core.Bool.{cond}
 use mathlib.Core.Option.{Option, some, none}
 use lib.Dec.{eqb}
+use Rattle.types.specs.Names.{low15}
 use Rattle.types.specs.declared.Db2Type.{Db2Type}
 use Rattle.types.specs.declared.Db2Type.the-variants as type
 use Rattle.types.specs.declared.FixedLength.{FixedLength}
@@ -41,8 +42,8 @@ fixedLength (type.VarGraphic n) = none
 fixedLength type.DbClob = none
 fixedLength type.ClobLocator = some 4
 fixedLength type.DbClobLocator = some 4
-fixedLength (type.LobBytes n) = some (n % 0x8000)
-fixedLength (type.LobChar n) = some (n % 0x8000)
+fixedLength (type.LobBytes n) = some (low15 n)
+fixedLength (type.LobChar n) = some (low15 n)
 fixedLength (type.RowId n) = some n
 fixedLength type.Boolean = some 1
 fixedLength type.Xml = none

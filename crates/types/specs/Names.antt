@@ -1,8 +1,8 @@
--- A type's name and the numbers that it holds; whether a type is one of a list of types by name, whatever its numbers. Assumes nothing.
-use Prim.Native.Nat.{ℕ, _+_, _*_, _^_}
+-- A type's name, the numbers that it holds, and the two parts of a length; whether a type is one of a list of types by name, whatever its numbers. Assumes nothing.
+use Prim.Native.Nat.{ℕ, _+_, _*_, _%_, _^_}
 use mathlib.Core.Bool.{Bool, false, _||_}
 use mathlib.Core.List.{List, [], _∷_}
-use lib.Dec.{eqb}
+use lib.Dec.{leb, eqb}
 use Rattle.types.specs.declared.Db2Type.{Db2Type}
 use Rattle.types.specs.declared.Db2Type.the-variants as type
 
@@ -70,6 +70,13 @@ ownNumbers (type.RowId n) = n
 ownNumbers type.Boolean = 0
 ownNumbers type.Xml = 0
 ownNumbers type.Null = 0
+
+-- of a length of 16 bits: its bit 8000, and its low 15 bits
+abbrev pub bit8000 : ℕ → Bool
+bit8000 n = leb 0x8000 n
+
+abbrev pub low15 : ℕ → ℕ
+low15 n = n % 0x8000
 
 -- t has the name of one of the types us
 abbrev pub namedIn : List Db2Type → Db2Type → Bool

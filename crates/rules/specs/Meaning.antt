@@ -191,6 +191,6 @@ typeRefers t c s =
     || ((namedIn (type.VarChar 0 ∷ type.VarGraphic 0 ∷ []) t && bit8000 (ownNumbers t))
     || (namedIn (type.LobBytes 0 ∷ type.LobChar 0 ∷ []) t && isShortReference (low15 (ownNumbers t)) s)))
 
--- a value that is there refers to data outside the row
+-- "the external columns (those that decode_row_body names)", document 01's term: a value that is there refers to data outside the row
 unfoldable pub refersIn : Conversions → ColumnDescriptor → List ℕ → Bool
 refersIn L c s = not (isEmptyLob (itemIn L c s)) && typeRefers (c .«db2_type») c s

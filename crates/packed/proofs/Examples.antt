@@ -1,4 +1,4 @@
--- Worked examples of packed decimals as text, beside F to I of document 01, which stand in crates/decimal. Assumes nothing.
+-- Worked examples of packed decimals as text. The edges of document 01 stand in crates/edges. Assumes nothing.
 use mathlib.Core.List.{[], _∷_}
 use mathlib.Core.Path.{_≡_, refl}
 use Rattle.packed.specs.Packed.{nibbles, sign, digits, trimmed, fraction, decimalText}

@@ -17,7 +17,8 @@ use Rattle.types.specs.declared.ReferenceLength.{ReferenceLength}
 use Rattle.types.specs.declared.ReferenceLength.the-variants.{Absent}
 use Rattle.types.specs.declared.ColumnDescriptor.{ColumnDescriptor}
 use Rattle.numbers.specs.Number.{Number as RowNumber, numberValue}
-use Rattle.packed.specs.Packed.{packedLength, mostBytes}
+use Rattle.packed.specs.Packed.{mostBytes}
+use Rattle.types.specs.FixedLength.{packedLength}
 use Rattle.rules.specs.declared.Extent.{Extent}
 use Rattle.rules.specs.declared.Extent.the-variants.{Fixed, Counted, Inline, Locator}
 use Rattle.rules.specs.Extent.{be32, isReference, referenceMark, lobNeed, need, lobExtent, lengthExtent, typeExtent, extentOf}

@@ -15,7 +15,8 @@ use Rattle.types.specs.declared.ColumnDescriptor.{ColumnDescriptor}
 use Rattle.conversion.specs.Conversion.{locatorText}
 use Rattle.conversion.proofs.PlainText.{locator-length}
 use Rattle.rules.specs.declared.Extent.the-variants.{Fixed}
-use Rattle.rules.specs.Extent.{bit8000, low15, hexDigits, isReference, isShortReference, need, extentOf}
+use Rattle.types.specs.Names.{bit8000, low15}
+use Rattle.rules.specs.Extent.{hexDigits, isReference, isShortReference, need, extentOf}
 use Rattle.rules.specs.OwnEnd.{isAbsent}
 use Rattle.rules.specs.Meaning.{Item, Lob, blobs, clobs, xmls, ByteSort, TextSort, allZero, isEmptyReference, isEmptyHeader, headerBytes, headerItem, lobEmpty, lobReference}
 use Rattle.rules.specs.Meaning.{lobInline, lobItem, varyingItem, lobBytesItem, lobCharItem, isLobText, isEmptyLob, typeItem, itemIn, typeRefers, refersIn}

@@ -1,14 +1,13 @@
 -- For inner functions; no public promise rests on it. What a column's value, as the code holds it, says of the value's own bytes. Assumes nothing.
 use Prim.Native.Nat.{ℕ, _+_, _≤_, _<_}
 use mathlib.Core.Path.{_≡_}
-use mathlib.Core.Bool.{Bool, cond, _||_}
-use mathlib.Core.List.{List, []}
+use mathlib.Core.List.{List}
 use lib.ListN.{length, take, drop}
 use Rattle.numbers.specs.Number.{Number as RowNumber, numberValue}
 use Rattle.packed.specs.Packed.{decimalText, mostBytes}
 use Rattle.conversion.specs.Conversion.{textIn}
 use Rattle.types.specs.declared.ColumnDescriptor.{ColumnDescriptor}
-use Rattle.rules.specs.Extent.{isReference, need, extentOf}
+use Rattle.rules.specs.Extent.{need, extentOf}
 use Rattle.rules.specs.Conversions.{ported}
 use Rattle.rules.specs.Meaning as meaning
 use Rattle.cell.specs.declared.ByteSort.{ByteSort}
@@ -59,20 +58,6 @@ Holds (Number v) s i = (x : RowNumber) × ((i ≡ meaning.Item.number x) × (v �
 Holds (Boolean b) s i = i ≡ meaning.Item.boolean b
 Holds (Part k from len) s i = (i ≡ meaning.Item.part (byteSort k) from len) × (from + len ≤ length s)
 Holds (Text k reading from len) s i = (i ≡ meaning.Item.text (textSort k) (textBy reading (take len (drop from s)))) × ((from + len ≤ length s) × Readable reading len)
-
--- the two cases of a LOB's item, and a header's item by its bytes: what rules' lobItem and headerItem compute to
-module _ (L : meaning.Conversions) where
-  unfoldable pub declaredLob : meaning.Lob → List ℕ → meaning.Item
-  declaredLob k s = cond (meaning.allZero s || meaning.isEmptyReference s) (meaning.lobEmpty k) (meaning.lobReference L k s)
-
-  unfoldable pub undeclaredLob : Bool → meaning.Lob → List ℕ → meaning.Item
-  undeclaredLob located k s =
-      cond (isReference s)
-      (cond (meaning.allZero (drop 1 s)) (meaning.lobEmpty k) (meaning.lobReference L k s))
-      (cond located (meaning.lobReference L k s) (meaning.lobInline L k s))
-
-  unfoldable pub headerIn : List ℕ → meaning.Item
-  headerIn h = cond (meaning.isEmptyHeader h) (meaning.Item.text meaning.TextSort.clob []) (meaning.Item.text meaning.TextSort.clob (L .locator h))
 
 -- the item of the column c, where s is the rest of the row and the value's bytes are there
 abbrev pub Decodes : CellItem → ColumnDescriptor → List ℕ → Type 0

@@ -27,13 +27,13 @@ ghost use mathlib.Core.Path.{_≡_};
 ghost use mathlib.Core.List.{[]};
 ghost use Prim.Native.Nat.{_<_, _≤_, _-_};
 ghost use lib.ListN.{length, drop};
-ghost use Rattle.rules.specs.Meaning.{Item, Lob, decimal, lobEmpty, lobReference, lobInline, lobItem, headerItem, lobBytesItem, lobCharItem, itemIn};
+ghost use Rattle.rules.specs.Meaning.{Item, Lob, decimal, lobEmpty, lobReference, lobInline, declaredLob, undeclaredLob, lobItem, headerIn, headerItem, lobBytesItem, lobCharItem, itemIn};
 ghost use Rattle.rules.specs.Extent.{need, extentOf};
 ghost use Rattle.types.specs.declared.ReferenceLength.{ReferenceLength};
 ghost use Rattle.rules.specs.Conversions.{ported};
 ghost use Rattle.conversion.specs.Conversion.{textIn, characterText, graphicText};
 ghost use Rattle.packed.specs.Packed.{decimalText, mostBytes};
-ghost use Rattle.cell.specs.Cell.{byteSort, textSort, lobOf, Holds, Decodes, declaredLob, undeclaredLob, headerIn};
+ghost use Rattle.cell.specs.Cell.{byteSort, textSort, lobOf, Holds, Decodes};
 
 // The sorts of value that are a part of the row, and those that are a text.
 pub enum ByteSort {

@@ -11,7 +11,7 @@ use lib.Seq.{drop-drop}
 use Rattle.unicode.specs.Unicode.{utf8, textOf, pieceText}
 use Rattle.unicode.proofs.ScalarBytes.{utf8-one, utf8-two}
 use Rattle.buffer.proofs.Writing.{next}
-use Rattle.codepage.specs.CodePage.{bytePieces, byteText, same}
+use Rattle.codepage.specs.CodePage.{bytePieces, byteText, codePoint819}
 use Rattle.codepage.specs.Blocks.{highs}
 use Rattle.codepage.proofs.ByteText.{byte-length}
 
@@ -49,25 +49,25 @@ small-length v h = go (ltb v 0x80) refl
     go false e = let k : 0x80 ≤ v = ltb-false v 0x80 e in ap length (utf8-two v k (omega arith)) ∙ omega arith
 
 -- a text's length, of bytes below 100
-pub text-length : (s : List ℕ) → ((i : ℕ) → getD s i 0 < 0x100) → length (byteText same s) ≡ length s + highs s
+pub text-length : (s : List ℕ) → ((i : ℕ) → getD s i 0 < 0x100) → length (byteText codePoint819 s) ≡ length s + highs s
 unfolding byteText bytePieces textOf pieceText highs
 text-length [] h = refl
 text-length (b ∷ s) h =
-    length-append (utf8 b) (byteText same s) ∙ omega (arith, small-length b (h 0), text-length s (λ i. h (suc i)))
+    length-append (utf8 b) (byteText codePoint819 s) ∙ omega (arith, small-length b (h 0), text-length s (λ i. h (suc i)))
 
 -- two bytes of text at least, where two bytes are left
-pub two-left : (s : List ℕ) (i : ℕ) → ((j : ℕ) → getD s j 0 < 0x100) → i + 1 < length s → 2 ≤ length (byteText same (drop i s))
+pub two-left : (s : List ℕ) (i : ℕ) → ((j : ℕ) → getD s j 0 < 0x100) → i + 1 < length s → 2 ≤ length (byteText codePoint819 (drop i s))
 two-left s i h k =
     omega
-    (arith, byte-length same s i (omega arith), byte-length same s (i + 1) k, small-length (getD s i 0) (h i), small-length (getD s (i + 1) 0) (h (i + 1)))
+    (arith, byte-length codePoint819 s i (omega arith), byte-length codePoint819 s (i + 1) k, small-length (getD s i 0) (h i), small-length (getD s (i + 1) 0) (h (i + 1)))
 
 -- where no byte is 80 or above, the bytes are their text
-pub plain-text : (s : List ℕ) → highs s ≡ 0 → byteText same s ≡ s
+pub plain-text : (s : List ℕ) → highs s ≡ 0 → byteText codePoint819 s ≡ s
 unfolding byteText bytePieces textOf pieceText highs
 plain-text [] e = refl
 plain-text (b ∷ s) e =
     let k : b < 0x80 = omega arith in
-    ap (λ (l : List ℕ). l ++ byteText same s) (utf8-one b k) ∙ ap (λ (l : List ℕ). b ∷ l) (plain-text s (omega arith))
+    ap (λ (l : List ℕ). l ++ byteText codePoint819 s) (utf8-one b k) ∙ ap (λ (l : List ℕ). b ∷ l) (plain-text s (omega arith))
 
 pub highs-next : (s : List ℕ) (i : ℕ) → i < length s → highs (drop i s) ≡ getD s i 0 / 128 + highs (drop (i + 1) s)
 unfolding highs

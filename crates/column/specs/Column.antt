@@ -1,10 +1,11 @@
 -- The column that an SDA describes (document 01, "Descriptors": "An SDA column ..."). Assumes nothing.
-use Prim.Native.Nat.{ℕ, _+_, _*_, _%_}
+use Prim.Native.Nat.{ℕ, _+_, _*_}
 use mathlib.Core.Bool.{Bool, cond}
 use mathlib.Core.List.{List}
 use lib.Dec.{leb, eqb}
 use lib.ListN.{length, getD}
 use Rattle.types.specs.Types.{baseOf, nullableBit, fromDrdaType}
+use Rattle.types.specs.Names.{bit8000, low15}
 use Rattle.types.specs.declared.Db2Type.{Db2Type}
 use Rattle.types.specs.declared.Db2Type.the-variants as type
 use Rattle.types.specs.declared.ByteOrder.{ByteOrder}
@@ -25,7 +26,7 @@ field16 d at = cond (leb (at + 2) (length d)) (be16 (getD d at 0) (getD d (at + 
 -- "A reference length exists exactly for type codes C8 to CF with length bit 8000: the low 15 bits"
 unfoldable pub referenceLength : ℕ → ℕ → ReferenceLength
 referenceLength c n =
-    cond (leb 0xC8 c) (cond (leb c 0xCF) (cond (leb 0x8000 n) (Width (n % 0x8000)) Absent) Absent) Absent
+    cond (leb 0xC8 c) (cond (leb c 0xCF) (cond (bit8000 n) (Width (low15 n)) Absent) Absent) Absent
 
 abbrev pub numbers : ℕ → ℕ → ℕ → Numbers
 numbers precision scale ccsid = record { precision = precision; scale = scale; ccsid = ccsid }
@@ -42,8 +43,8 @@ column c n m nullable t order =
       nullable = nullable;
       ccsid = m .ccsid;
       «db2_type» = t;
-      «extdta_reference_length» = referenceLength c n;
       «byte_order» = order;
+      «extdta_reference_length» = referenceLength c n;
     }
 
 -- "CCSID at 3 and 4; base 0C has precision and scale at 3 and 4 and CCSID at 5 and 6"; "precision and scale are there only together"

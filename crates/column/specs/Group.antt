@@ -1,9 +1,10 @@
 -- The column of a LID of a D0 group, and the environment entries that declare LIDs (document 01, "Descriptors": 70 and 76). Assumes nothing.
-use Prim.Native.Nat.{ℕ, _+_, _/_}
+use Prim.Native.Nat.{ℕ}
 use mathlib.Core.Bool.{Bool, true, false, cond}
 use mathlib.Core.List.{List, [], _∷_}
 use lib.Dec.{eqb}
 use Rattle.types.specs.Types.{baseOf, nullableBit, listedOr, fromDrdaType}
+use Rattle.types.specs.FixedLength.{packedLength}
 use Rattle.types.specs.Names.{namedIn}
 use Rattle.types.specs.declared.Db2Type.{Db2Type}
 use Rattle.types.specs.declared.Db2Type.the-variants as type
@@ -64,7 +65,7 @@ unfoldable pub undeclaredColumn : ℕ → ℕ → ℕ → ColumnDescriptor
 undeclaredColumn l a b =
     let n = be16 a b in
     let t = groupType l n in
-    cond (eqb (baseOf l) 0x0E) (column l ((a + 2) / 2) (numbers a b 0) (nullableBit l) (type.Decimal a b) BigEndian)
+    cond (eqb (baseOf l) 0x0E) (column l (packedLength a) (numbers a b 0) (nullableBit l) (type.Decimal a b) BigEndian)
     (column l n (numbers 0 0 (groupCcsid t)) (nullableBit l) t BigEndian)
 
 -- "A declared LID gives the entry's type and CCSID, the length from the attributes, precision and scale 0"; "declared ones use

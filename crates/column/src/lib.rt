@@ -112,8 +112,8 @@ pub fn column(said: Said) -> ColumnDescriptor
         nullable: said.nullable,
         ccsid: numbers.ccsid,
         db2_type,
-        extdta_reference_length: reference,
         byte_order,
+        extdta_reference_length: reference,
     }
 }
 

@@ -6,7 +6,7 @@ use lib.Dec.{eqb}
 use lib.ListN.{length}
 use Rattle.unicode.specs.Unicode.{utf8Text, utf16Text}
 use Rattle.unicode.specs.Ascii.{allAscii}
-use Rattle.codepage.specs.CodePage.{byteText, same, codePoint037}
+use Rattle.codepage.specs.CodePage.{byteText, codePoint819, codePoint037}
 use Rattle.conversion.specs.Hex.{hexText}
 use Rattle.conversion.specs.declared.Conversion.{Conversion}
 use Rattle.conversion.specs.declared.Conversion.the-variants.{Plain, Utf8, Latin1, Ebcdic037, Utf16, Locator, RowId}
@@ -22,7 +22,7 @@ rowIdMark = 0x30 ∷ 0x78 ∷ []
 unfoldable pub textIn : Conversion → List ℕ → List ℕ
 textIn Plain s = s
 textIn Utf8 s = utf8Text s
-textIn Latin1 s = byteText same s
+textIn Latin1 s = byteText codePoint819 s
 textIn Ebcdic037 s = byteText codePoint037 s
 textIn Utf16 s = utf16Text s
 textIn Locator s = locatorMark ++ hexText s

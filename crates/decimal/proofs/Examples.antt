@@ -1,4 +1,4 @@
--- Document 01, "At the edges", F to I, through the call's definitions. Assumes nothing.
+-- Worked examples of packed decimals through the call's definitions, for every text buffer. Document 01's edges F to I stand in crates/edges. Assumes nothing.
 use Prim.Native.Nat.{ℕ}
 use mathlib.Core.List.{List, [], _∷_}
 use mathlib.Core.Path.{_≡_, refl}
@@ -10,16 +10,16 @@ use Rattle.decimal.specs.Decimal.{decimalAnswer, decimalBuffer}
 abbrev pub Gives : ℕ → List ℕ → List ℕ → Type 0
 Gives scale s t = (d : List ℕ) → (decimalAnswer scale s d ≡ textAnswer t d) × (decimalBuffer scale s d ≡ textBuffer t d)
 
-pub record Edges : Type 0 where
+pub record Examples : Type 0 where
   -- `0.05`
-  pub F : Gives 2 (0x00 ∷ 0x5C ∷ []) (0x30 ∷ 0x2E ∷ 0x30 ∷ 0x35 ∷ [])
+  pub fraction-zeros : Gives 2 (0x00 ∷ 0x5C ∷ []) (0x30 ∷ 0x2E ∷ 0x30 ∷ 0x35 ∷ [])
   -- `0.001`
-  pub G : Gives 3 (0x1C ∷ []) (0x30 ∷ 0x2E ∷ 0x30 ∷ 0x30 ∷ 0x31 ∷ [])
+  pub digits-lacking : Gives 3 (0x1C ∷ []) (0x30 ∷ 0x2E ∷ 0x30 ∷ 0x30 ∷ 0x31 ∷ [])
   -- `-0`
-  pub H : Gives 0 (0x0D ∷ []) (0x2D ∷ 0x30 ∷ [])
-  -- `123`
-  pub I : Gives 0 (0x12 ∷ 0x3B ∷ []) (0x31 ∷ 0x32 ∷ 0x33 ∷ [])
+  pub minus-zero : Gives 0 (0x0D ∷ []) (0x2D ∷ 0x30 ∷ [])
+  -- sign nibble B is plus: `123`
+  pub sign-B : Gives 0 (0x12 ∷ 0x3B ∷ []) (0x31 ∷ 0x32 ∷ 0x33 ∷ [])
 
-pub edges : Edges
+pub examples : Examples
 unfolding decimalAnswer decimalBuffer decimalText nibbles sign digits trimmed fraction
-edges = record { F = λ d. (refl, refl); G = λ d. (refl, refl); H = λ d. (refl, refl); I = λ d. (refl, refl) }
+examples = record { fraction-zeros = λ d. (refl, refl); digits-lacking = λ d. (refl, refl); minus-zero = λ d. (refl, refl); sign-B = λ d. (refl, refl) }

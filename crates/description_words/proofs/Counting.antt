@@ -17,19 +17,13 @@ use Rattle.column.specs.declared.EnvEntry.{EnvEntry}
 use Rattle.column.specs.Column.{sdaColumn}
 use Rattle.triplets.specs.declared.Pending.{Pending}
 use Rattle.triplets.specs.declared.Pending.the-variants as pending
-use Rattle.triplets.specs.declared.Cursor.the-variants as cursor
 use Rattle.triplets.specs.Descriptors.{pendingAfter, noEntries, environmentAfter, sdaColumns, outerSda, lidColumns, innerColumns, groupColumns, tripletColumns, columnsFrom, columnsOf}
 use Rattle.triplets.specs.Triplets.{triplet, readingOf, reading}
 use Rattle.triplets.specs.Steps.{outerFrom, toCome}
-use Rattle.triplets.proofs.Slices.{slice-all}
 use Rattle.triplets.proofs.StepLaws.{first-byte, no-data}
 use Rattle.triplets.proofs.ReadingLaws.{Found}
+use Rattle.qrydsc.proofs.Progress.{all-to-come}
 use Rattle.description_words.specs.Counted.{sdaCount, Counts, Counted}
-
--- at the start all columns are to come
-pub all-to-come : (s : List ℕ) → toCome s noEntries (cursor.Outer pending.Nothing 0) ≡ columnsOf s
-unfolding toCome columnsOf
-all-to-come s = ap (λ (t : List ℕ). columnsFrom pending.Nothing noEntries (reading 2 t .triplets)) (slice-all s)
 
 -- ---- SDAs
 sdas : (s : List ℕ) (k a e : ℕ) → a ≤ e → e ≤ length s → length (cond (eqb k 0x70) (sdaColumns (slice a e s)) []) ≡ sdaCount k a e

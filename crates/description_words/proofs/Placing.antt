@@ -17,8 +17,8 @@ use Rattle.triplets.specs.declared.Step.the-variants as step
 use Rattle.triplets.specs.Descriptors.{noEntries, declare, columnsOf}
 use Rattle.triplets.specs.Steps.{toCome, Within, Goes, Leads}
 use Rattle.qrydsc.specs.Qrydsc.{number, numbered}
+use Rattle.qrydsc.proofs.Progress.{all-to-come}
 use Rattle.words.specs.Words.{firstWord, secondWord, packColumns}
-use Rattle.description_words.proofs.Counting.{all-to-come}
 
 -- the words of columns that are numbered from k on
 abbrev pub wordsFrom : ℕ → List ColumnDescriptor → List ℕ

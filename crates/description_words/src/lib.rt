@@ -1,6 +1,7 @@
 // Inner. The columns of a description as plain words, for the calls of C and Rust: first counted, then written into lent words. What it costs
 // grows with the description and with the columns in it, and not with the places of a column list. It tests no limit of the description's length.
 use column::EnvEntry;
+use qrydsc::LID_COUNT;
 use triplets::Cursor;
 use triplets::Next;
 use triplets::Pending;
@@ -24,9 +25,6 @@ const TRIPLET_TYPE_SDA: u8 = 0x70;
 const TRIPLET_TYPE_GDA: u8 = 0x76;
 
 const TRIPLET_TYPE_MDD: u8 = 0x78;
-
-// How many LIDs there are.
-const LID_COUNT: usize = 256;
 
 // An SDA with data is a column.
 fn count_sda(kind: u8, start: usize, end: usize) -> usize

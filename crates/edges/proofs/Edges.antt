@@ -1,4 +1,4 @@
--- The table of edges holds: one computed fact. Assumes nothing.
+-- The table of edges holds: one computed fact. Its letters are A to P. Assumes nothing.
 use mathlib.Core.Path.{refl}
 use Rattle.edges.specs.Ascii.{ascii}
 use Rattle.edges.specs.Edges.{outcomeOf, edges}
@@ -23,8 +23,12 @@ use Rattle.rules.specs.Walk.{skipOf, nullableNeed, columnNeed, cellPiece, consP
 use Rattle.rules.specs.Value.{bytesAt, valueBytes}
 use Rattle.rules.specs.Row.{startOf, valueOf, textOf as textOf-row, pieceItem, pieceValue, rowValues, rowTexts, anyDecFloat, walkDecision, bodyDecision, rowDecision, answerOf, textAfter}
 use Rattle.rules.specs.Conversions.{rowAnswer, rowText}
-use Rattle.edges.specs.Edges.{EdgesHold}
+use Rattle.edges.specs.Edges.{EdgesHold, LettersInOrder}
 
 pub edges-hold : EdgesHold
 unfolding ascii outcomeOf edges baseTypes listedOr fromDrdaType filled blankValue columnList field16 referenceLength sdaNumbers sdaType sdaColumn entryOf noEntry firstEntry groupType undeclaredColumn declaredColumn lidColumn readingOf reading lastOf pendingAfter noEntries declare environmentAfter sdaColumns outerSda lidColumns groupColumns tripletColumns columnsFrom columnsOf numbered listed description number nibbles sign digits trimmed fraction decimalText decimalAnswer decimalBuffer textAnswer textBuffer textIn characterConversion characterText hexDigit hexText utf8 pieceText textOf table037 codePoint037 bytePieces byteText isReference saysHeader lobNeed need allZero lobEmpty headerItem lobReference lobItem varyingItem itemIn isEmptyLob refersIn skipOf nullableNeed columnNeed cellPiece consPiece cellShort walk walkBody bytesAt valueBytes startOf valueOf textOf-row pieceItem pieceValue rowValues rowTexts anyDecFloat walkDecision bodyDecision rowDecision answerOf textAfter rowAnswer rowText
 edges-hold = refl
+
+pub letters-in-order : LettersInOrder
+unfolding ascii edges
+letters-in-order = refl

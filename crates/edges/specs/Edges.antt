@@ -1,6 +1,6 @@
 -- Document 01, "At the edges": the cases A to P, each with the outcome that it gives. Assumes nothing.
 use Prim.Native.Nat.{ℕ}
-use Prim.Native.Char.{Char}
+use Prim.Native.Char.{Char, code}
 use mathlib.Core.Path.{_≡_}
 use mathlib.Core.Bool.{true, false}
 use mathlib.Core.List.{List, [], _∷_, map}
@@ -111,3 +111,7 @@ edges =
 -- "All of A to P are proved, as rows of one table that a single fact covers": every outcome that the definitions give is the one in the table
 abbrev pub EdgesHold : Type 0
 EdgesHold = map (λ e. outcomeOf (e .given)) edges ≡ map (λ e. e .outcome) edges
+
+-- the cases bear document 01's letters, in its order
+abbrev pub LettersInOrder : Type 0
+LettersInOrder = map (λ e. code (e .letter)) edges ≡ ascii "ABCDEFGHIJKLMNOP"

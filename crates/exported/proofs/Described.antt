@@ -1,30 +1,27 @@
 -- What vejupa_parse_qrydsc promises, at each of its ways out. Assumes nothing.
-use Prim.Native.Nat.{ℕ, suc, _+_, _-_, _*_, _≤_, _<_}
-use mathlib.Core.Path.{_≡_, refl, sym, ap, _∙_}
-use mathlib.Core.List.{List, [], _∷_, _++_}
+use Prim.Native.Nat.{ℕ, _*_, _≤_, _<_}
+use mathlib.Core.Path.{_≡_, refl, sym, _∙_}
+use mathlib.Core.List.{List}
 use native.Mathlib.Omega.{arith}
 use mathlib.Core.Bool.{true, false}
-use lib.ListN.{length, replicate}
-use lib.Seq.{take-at}
+use lib.ListN.{length}
 use borrow.Author.Tests.{lt-ltb, le-ltb}
 use Rattle.refusal.specs.Refusal.{accepted}
 use Rattle.buffer.specs.Buffer.{written}
 use Rattle.types.specs.declared.ColumnDescriptor.{ColumnDescriptor}
 use Rattle.types.specs.declared.Columns.{Columns}
-use Rattle.types.specs.Places.{maxColumns, filled, blankColumn, columnList}
+use Rattle.types.specs.Places.{maxColumns, columnList}
 use Rattle.triplets.specs.Descriptors.{columnsOf}
-use Rattle.qrydsc.specs.Qrydsc.{DescriptionTold, refusal, number, numbered, listed, description}
+use Rattle.qrydsc.specs.Qrydsc.{DescriptionTold, numbered, listed, description}
+use Rattle.qrydsc.proofs.Lists.{length-numbered}
+use Rattle.rules.specs.Row.{covered}
 use Rattle.words.specs.Words.{packColumns}
-use Rattle.exported.specs.Descriptions.{columnsIn, tooFew, descriptionNumber, descriptionWords}
+use Rattle.exported.specs.Descriptions.{tooFew, descriptionNumber, descriptionWords}
+use Rattle.exported.proofs.RowCall.{covered-list}
 
 -- what the call hands out: a number, a count and the words
 abbrev pub Promised : DescriptionTold → List ℕ → ℕ → ℕ → List ℕ → Type 0
 Promised d w r n out = (r ≡ descriptionNumber d w) × ((n ≡ d .columns .count) × (out ≡ descriptionWords d w))
-
-length-numbered : (k : ℕ) (cs : List ColumnDescriptor) → length (numbered k cs) ≡ length cs
-unfolding numbered
-length-numbered k [] = refl
-length-numbered k (c ∷ cs) = ap suc (length-numbered (k + 1) cs)
 
 -- a list of columns in its places
 listing : List ColumnDescriptor → Columns
@@ -34,9 +31,9 @@ count-listing : (cs : List ColumnDescriptor) → listing cs .count ≡ length cs
 unfolding listing columnList
 count-listing cs = length-numbered 0 cs
 
-columns-listing : (cs : List ColumnDescriptor) → columnsIn (listing cs) ≡ numbered 0 cs
-unfolding listing columnList filled
-columns-listing cs = take-at (numbered 0 cs) (replicate (maxColumns - length (numbered 0 cs)) blankColumn) (length (numbered 0 cs)) refl
+columns-listing : (cs : List ColumnDescriptor) → covered (listing cs) ≡ numbered 0 cs
+unfolding listing
+columns-listing cs = covered-list (numbered 0 cs)
 
 module _ (s w : List ℕ) where
   pub too-long : 65536 < length s → Promised (description s) w 1 0 w

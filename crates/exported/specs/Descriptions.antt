@@ -5,19 +5,15 @@ use mathlib.Core.Bool.{Bool, cond}
 use mathlib.Core.List.{List}
 use mathlib.Core.Option.{Option, some, none}
 use lib.Dec.{ltb}
-use lib.ListN.{length, take}
+use lib.ListN.{length}
 use Rattle.refusal.specs.Refusal.{Told, accepted, refused}
 use Rattle.buffer.specs.Buffer.{written}
 use Rattle.types.specs.declared.Db2Type.{Db2Type}
-use Rattle.types.specs.declared.ColumnDescriptor.{ColumnDescriptor}
 use Rattle.types.specs.declared.Columns.{Columns}
 use Rattle.types.specs.FixedLength.{fixedLength}
 use Rattle.qrydsc.specs.Qrydsc.{DescriptionTold}
+use Rattle.rules.specs.Row.{covered}
 use Rattle.words.specs.Words.{packColumns}
-
--- the columns that a column list holds
-abbrev pub columnsIn : Columns → List ColumnDescriptor
-columnsIn c = take (c .count) (c .columns)
 
 -- the lent words w are fewer than two for each column
 abbrev pub tooFew : Columns → List ℕ → Bool
@@ -37,7 +33,7 @@ abbrev pub descriptionNumber : DescriptionTold → List ℕ → ℕ
 descriptionNumber d w = numberBy (d .outcome) (tooFew (d .columns) w)
 
 abbrev pub descriptionWords : DescriptionTold → List ℕ → List ℕ
-descriptionWords d w = wordsBy (d .outcome) (tooFew (d .columns) w) (packColumns (columnsIn (d .columns))) w
+descriptionWords d w = wordsBy (d .outcome) (tooFew (d .columns) w) (packColumns (covered (d .columns))) w
 
 -- of the type that a word is read as: 102 where it is none; whether its values have a fixed length, as 1 and 0; and the length, or 0
 abbrev pub typeNumber : Option Db2Type → ℕ

@@ -3,6 +3,7 @@
 // refusal 9 the length needed. A column is two words and a type is one: crates/words has the layout. It has no rules of its own: each promise
 // cites what the call within promises, or what the call that it stands for does.
 use buffer::TextAnswer;
+use qrydsc::MAX_QRYDSC;
 use refusal::INPUT_LIMIT;
 use refusal::Outcome;
 use row_words::Checked;
@@ -25,9 +26,6 @@ ghost use Rattle.row_words.specs.Rows.{valuesAfter};
 ghost use Rattle.exported.specs.Exported.{numberTold, lengthTold};
 ghost use Rattle.exported.specs.Rows.{wordsDecision, rowNumber, rowFirst, rowSecond};
 ghost use Rattle.exported.specs.Descriptions.{descriptionNumber, descriptionWords, typeNumber, lengthOf, flagOf, bytesOf};
-
-// How many bytes a description may have.
-const MAX_QRYDSC: usize = 65536;
 
 // What a function answers beside the refusals: the lent words are too few; a word is no type's; words are no column's.
 const TOO_FEW_WORDS: u32 = 101;

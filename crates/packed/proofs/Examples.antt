@@ -1,7 +1,7 @@
--- Worked examples of packed decimals as text, beside F to I of document 01, which stand in crates/decimal. Assumes nothing.
+-- Worked examples of packed decimals as text. The edges of document 01 stand in crates/edges. Assumes nothing.
 use mathlib.Core.List.{[], _∷_}
 use mathlib.Core.Path.{_≡_, refl}
-use Rattle.packed.specs.Packed.{nibbles, sign, digits, trimmed, fraction, decimalText, packedLength, mostBytes}
+use Rattle.packed.specs.Packed.{nibbles, sign, digits, trimmed, fraction, decimalText}
 
 pub record Examples : Type 0 where
   -- the decimal of document 01, "At the edges", B: `123.45`
@@ -10,9 +10,7 @@ pub record Examples : Type 0 where
   pub above-9 : decimalText 0 (0x0A ∷ 0xBC ∷ 0xDE ∷ 0xFC ∷ []) ≡ 0x3A ∷ 0x3B ∷ 0x3C ∷ 0x3D ∷ 0x3E ∷ 0x3F ∷ []
   -- a sign nibble that is a digit is plus: `1`
   pub digit-sign : decimalText 0 (0x19 ∷ []) ≡ 0x31 ∷ []
-  -- no column has more bytes than a packed decimal called alone may have
-  pub widest : packedLength 255 ≡ mostBytes
 
 pub examples : Examples
 unfolding decimalText nibbles sign digits trimmed fraction
-examples = record { B = refl; above-9 = refl; digit-sign = refl; widest = refl }
+examples = record { B = refl; above-9 = refl; digit-sign = refl }

@@ -49,11 +49,7 @@ fraction scale ds = cond (eqb scale 0) [] (0x2E ∷ (zeros (scale - length ds) +
 unfoldable pub decimalText : ℕ → List ℕ → List ℕ
 decimalText scale s = sign s ++ (trimmed (whole scale (digits s)) ++ fraction scale (digits s))
 
--- "a column's byte count is (precision + 2) / 2 rounded down"
-abbrev pub packedLength : ℕ → ℕ
-packedLength precision = (precision + 2) / 2
-
--- the most bytes that a packed decimal called alone may have ("What the call hands back", refusal 7). A precision fits 8 bits, so no column has
--- more: packedLength 255 is 128
+-- the most bytes that a packed decimal called alone may have ("What the call hands back", refusal 7). A precision fits 8 bits, so no column
+-- has more
 abbrev pub mostBytes : ℕ
 mostBytes = 128

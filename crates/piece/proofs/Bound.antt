@@ -21,7 +21,8 @@ use Rattle.conversion.specs.Conversion.{textIn, characterConversion, graphicCon
 use Rattle.conversion.proofs.PlainText.{text-bound}
 use Rattle.packed.specs.Packed.{signNibble, sign, digits, trimmed, fraction, decimalText}
 use Rattle.packed.proofs.Nibbles.{digits-length, no-fraction, fraction-length}
-use Rattle.rules.specs.Extent.{bit8000, low15, isReference, isShortReference, saysHeader}
+use Rattle.types.specs.Names.{bit8000, low15}
+use Rattle.rules.specs.Extent.{isReference, isShortReference, saysHeader}
 use Rattle.rules.specs.Meaning.{blob, TextSort, Item, nothing, number, boolean, part, text, Lob, blobs, clobs, xmls, allZero, isEmptyReference, headerBytes, isEmptyHeader, headerItem, lobEmpty, lobReference, lobInline, lobItem, varyingItem, lobBytesItem, lobCharItem, typeItem, itemIn}
 use Rattle.rules.specs.Walk.{columnNeed, Piece, absent, present, cellPiece, Walk, done, short, walk, walkBody}
 use Rattle.rules.specs.Row.{textOf, pieceItem, rowTexts}

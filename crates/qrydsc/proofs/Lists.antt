@@ -26,7 +26,7 @@ pub record Ordered (c : Columns) : Type 0 where
   pub numbers : (i : ℕ) → i < c .count → columnAt c i .«column_index» ≡ i
   pub blanks : (i : ℕ) → c .count ≤ i → columnAt c i ≡ blankColumn
 
-length-numbered : (k : ℕ) (cs : List ColumnDescriptor) → length (numbered k cs) ≡ length cs
+pub length-numbered : (k : ℕ) (cs : List ColumnDescriptor) → length (numbered k cs) ≡ length cs
 unfolding numbered
 length-numbered k [] = refl
 length-numbered k (c ∷ cs) = ap suc (length-numbered (k + 1) cs)

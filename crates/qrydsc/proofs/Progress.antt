@@ -26,7 +26,7 @@ pub record Progress (s : List ℕ) (cs : List ColumnDescriptor) (k : ℕ) (env :
   pub same : fill cs k (toCome s env c) ≡ listed (columnsOf s)
 
 -- at the start all columns are to come
-all-to-come : (s : List ℕ) → toCome s noEntries (cursor.Outer pending.Nothing 0) ≡ columnsOf s
+pub all-to-come : (s : List ℕ) → toCome s noEntries (cursor.Outer pending.Nothing 0) ≡ columnsOf s
 unfolding toCome columnsOf
 all-to-come s = ap (λ (t : List ℕ). columnsFrom pending.Nothing noEntries (reading 2 t .triplets)) (slice-all s)
 

@@ -23,8 +23,8 @@ number k c =
       nullable = c .nullable;
       ccsid = c .ccsid;
       «db2_type» = c .«db2_type»;
-      «extdta_reference_length» = c .«extdta_reference_length»;
       «byte_order» = c .«byte_order»;
+      «extdta_reference_length» = c .«extdta_reference_length»;
     }
 
 -- columns numbered in order, from k on

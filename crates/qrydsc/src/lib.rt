@@ -17,10 +17,10 @@ ghost use Rattle.types.specs.Places.{blankColumn};
 ghost use Rattle.qrydsc.specs.Qrydsc.{toldDescription, description, refusal};
 
 // How many bytes a description may have. specs/Qrydsc.antt calls it maxQrydsc.
-const MAX_QRYDSC: usize = 65536;
+pub const MAX_QRYDSC: usize = 65536;
 
 // How many LIDs there are.
-const LID_COUNT: usize = 256;
+pub const LID_COUNT: usize = 256;
 
 // What parse_qrydsc answers. After a refusal no column is there.
 pub struct Description {
@@ -40,8 +40,8 @@ fn blank_column() -> ColumnDescriptor
         nullable: false,
         ccsid: 0,
         db2_type: Db2Type::Null,
-        extdta_reference_length: ReferenceLength::Absent,
         byte_order: ByteOrder::BigEndian,
+        extdta_reference_length: ReferenceLength::Absent,
     }
 }
 

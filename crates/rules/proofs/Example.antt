@@ -36,8 +36,8 @@ nullable t n =
       nullable = true;
       ccsid = 0;
       «db2_type» = t;
-      «extdta_reference_length» = Absent;
       «byte_order» = BigEndian;
+      «extdta_reference_length» = Absent;
     }
 
 unfoldable pub columnsB : Columns

@@ -5,11 +5,12 @@ use mathlib.Core.Bool.{true, false, true≢false}
 use mathlib.Core.List.{List, [], _∷_}
 use mathlib.Core.Option.{Option, some, none}
 use mathlib.Core.Path.{_≡_, refl}
-use Rattle.types.specs.FixedLength.{fixedLength}
+use Rattle.types.specs.FixedLength.{packedLength, fixedLength}
 use Rattle.types.specs.Names.{namedIn}
 use Rattle.types.specs.declared.Db2Type.{Db2Type}
 use Rattle.types.specs.declared.Db2Type.the-variants as type
 use Rattle.types.specs.declared.ColumnDescriptor.{ColumnDescriptor}
+use Rattle.packed.specs.Packed.{mostBytes}
 use Rattle.rules.specs.declared.Extent.{Extent}
 use Rattle.rules.specs.declared.Extent.the-variants.{Fixed}
 use Rattle.rules.specs.Extent.{typeExtent, extentOf}
@@ -55,3 +56,7 @@ type-agrees type.Null c h = tt
 
 pub fixed-length-agrees : (c : ColumnDescriptor) → namedIn others (c .«db2_type») ≡ false → Agrees (fixedLength (c .«db2_type»)) (extentOf c)
 fixed-length-agrees c h = type-agrees (c .«db2_type») c h
+
+-- no column has more bytes than a packed decimal called alone may have
+pub widest : packedLength 255 ≡ mostBytes
+widest = refl

@@ -12,9 +12,9 @@ use Rattle.types.specs.declared.Db2Type.the-variants as type
 use Rattle.types.specs.declared.ReferenceLength.{ReferenceLength}
 use Rattle.types.specs.declared.ReferenceLength.the-variants.{Absent, Width}
 use Rattle.types.specs.declared.ColumnDescriptor.{ColumnDescriptor}
-use Rattle.types.specs.Names.{namedIn}
+use Rattle.types.specs.Names.{bit8000, low15, namedIn}
 use Rattle.numbers.specs.Number.{Number}
-use Rattle.rules.specs.Extent.{bit8000, low15, isReference, isShortReference}
+use Rattle.rules.specs.Extent.{isReference, isShortReference}
 use Rattle.rules.specs.Meaning.{ByteSort, TextSort, Item, nothing, number, boolean, part, text, Conversions, Lob, blobs, clobs, xmls, allZero, isEmptyReference, headerBytes, isEmptyHeader, headerItem, lobEmpty, lobReference, lobInline, lobItem, varyingItem, lobBytesItem, lobCharItem, typeItem}
 use Rattle.rules.specs.Sorts.{Sort, sortsOf, Among}
 

@@ -23,7 +23,8 @@ use Rattle.types.specs.declared.ColumnDescriptor.{ColumnDescriptor}
 use Rattle.types.specs.declared.ValuePlace.{ValuePlace}
 use Rattle.types.specs.Places.{maxColumns, filled, blankValue}
 use Rattle.buffer.specs.Buffer.{written}
-use Rattle.rules.specs.Extent.{bit8000, low15, isReference, isShortReference, saysHeader}
+use Rattle.types.specs.Names.{bit8000, low15}
+use Rattle.rules.specs.Extent.{isReference, isShortReference, saysHeader}
 use Rattle.rules.specs.Meaning.{Item, nothing, number, boolean, part, text, Lob, blobs, clobs, xmls, clob, varChar, blob, allZero, isEmptyReference, headerBytes, isEmptyHeader, lobEmpty, headerItem, lobReference, lobInline, lobItem, varyingItem, lobBytesItem, lobCharItem, typeItem, itemIn}
 use Rattle.rules.specs.Walk.{columnNeed, Piece, absent, present, cellPiece, Walk, done, short, consPiece, walk, walkBody, walkRow, skipOf}
 use Rattle.rules.specs.Value.{heldBy, bytesAt}

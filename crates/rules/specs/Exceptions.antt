@@ -27,8 +27,8 @@ column t n =
       nullable = false;
       ccsid = 1208;
       «db2_type» = t;
-      «extdta_reference_length» = Absent;
       «byte_order» = BigEndian;
+      «extdta_reference_length» = Absent;
     }
 
 -- a column behind others that carry their own end; an input, and one that begins with the bytes that the first uses

@@ -1,11 +1,13 @@
 -- How many bytes a column's value takes, of the bytes of the row that are left (document 01, "Rows"; the Rust: decode_column_value). Each type has one of six
 -- kinds of extent, and `need` is the number that the bytes at hand make of it: the value is there where `need` is at most their number. Else it is too short,
 -- with `need` and their number as the Rust's `expected` and `actual`. Assumes nothing.
-use Prim.Native.Nat.{ℕ, _+_, _*_, _%_}
+use Prim.Native.Nat.{ℕ, _+_, _*_}
 use mathlib.Core.Bool.{Bool, cond, _&&_, _||_}
 use mathlib.Core.List.{List, [], _∷_}
 use lib.ListN.{length, take, getD}
 use lib.Dec.{ltb, leb, eqb}
+use Rattle.types.specs.FixedLength.{packedLength}
+use Rattle.types.specs.Names.{bit8000, low15}
 use Rattle.types.specs.declared.Db2Type.{Db2Type}
 use Rattle.types.specs.declared.Db2Type.the-variants as type
 use Rattle.types.specs.declared.ByteOrder.{ByteOrder}
@@ -14,7 +16,6 @@ use Rattle.types.specs.declared.ReferenceLength.{ReferenceLength}
 use Rattle.types.specs.declared.ReferenceLength.the-variants.{Absent, Width}
 use Rattle.types.specs.declared.ColumnDescriptor.{ColumnDescriptor}
 use Rattle.numbers.specs.Number.{number}
-use Rattle.packed.specs.Packed.{packedLength}
 use Rattle.rules.specs.declared.Extent.{Extent}
 use Rattle.rules.specs.declared.Extent.the-variants.{Fixed, Counted, Header, Inline, Locator, Materialized}
 
@@ -24,13 +25,6 @@ be16 s = number BigEndian (take 2 s)
 
 abbrev pub be32 : List ℕ → ℕ
 be32 s = number BigEndian (take 4 s)
-
--- bit 8000 of a number of 16 bits, and its low 15 bits
-abbrev pub bit8000 : ℕ → Bool
-bit8000 n = leb 0x8000 n
-
-abbrev pub low15 : ℕ → ℕ
-low15 n = n % 0x8000
 
 -- the Rust: externalized_lob_reference_len. Nine bytes or more, of which the first is 02, begin a reference of nine
 abbrev pub referenceMark : ℕ

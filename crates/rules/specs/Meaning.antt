@@ -13,10 +13,10 @@ use Rattle.types.specs.declared.ByteOrder.{ByteOrder}
 use Rattle.types.specs.declared.ReferenceLength.{ReferenceLength}
 use Rattle.types.specs.declared.ReferenceLength.the-variants.{Absent, Width}
 use Rattle.types.specs.declared.ColumnDescriptor.{ColumnDescriptor}
-use Rattle.types.specs.Names.{namedIn}
+use Rattle.types.specs.Names.{ownNumbers, bit8000, low15, namedIn}
 use Rattle.numbers.specs.Number.{Number}
-use Rattle.rules.specs.Extent.{bit8000, low15, isReference, isShortReference, saysHeader}
-use Rattle.rules.specs.OwnEnd.{ownLength, isAbsent}
+use Rattle.rules.specs.Extent.{isReference, isShortReference, saysHeader}
+use Rattle.rules.specs.OwnEnd.{isAbsent}
 
 -- the sorts of value that are a part of the row, and those that are a text
 pub data ByteSort : Type 0 where
@@ -81,8 +81,11 @@ abbrev pub isEmptyHeader : List ℕ → Bool
 isEmptyHeader h = isReference h && allZero (take 8 (drop 1 h))
 
 module _ (L : Conversions) where
+  abbrev pub headerIn : List ℕ → Item
+  headerIn h = cond (isEmptyHeader h) (text clob []) (text clob (L .locator h))
+
   unfoldable pub headerItem : List ℕ → Item
-  headerItem s = cond (isEmptyHeader (headerBytes s)) (text clob []) (text clob (L .locator (headerBytes s)))
+  headerItem s = headerIn (headerBytes s)
 
   -- a reference or a locator: a Blob shows its first four bytes, the others a text
   unfoldable pub lobReference : Lob → List ℕ → Item
@@ -96,12 +99,18 @@ module _ (L : Conversions) where
   lobInline clobs s = text clob (L .inlineText (drop 4 s))
   lobInline xmls s = text xml (L .inlineText (drop 4 s))
 
-  -- With a reference length the value is a reference, empty also where all its bytes are zero. Without one it is a reference of nine bytes, or a locator of
-  -- four (`located`: Blob, Clob or DbClob of length 0), or within the row
-  unfoldable pub lobItem : ReferenceLength → Bool → Lob → List ℕ → Item
-  lobItem (Width w) located k s = cond (allZero s || isEmptyReference s) (lobEmpty k) (lobReference k s)
-  lobItem Absent located k s =
+  -- With a reference length the value is a reference, empty also where all its bytes are zero
+  abbrev pub declaredLob : Lob → List ℕ → Item
+  declaredLob k s = cond (allZero s || isEmptyReference s) (lobEmpty k) (lobReference k s)
+
+  -- Without one it is a reference of nine bytes, or a locator of four (`located`: Blob, Clob or DbClob of length 0), or within the row
+  abbrev pub undeclaredLob : Bool → Lob → List ℕ → Item
+  undeclaredLob located k s =
       cond (isReference s) (cond (allZero (drop 1 s)) (lobEmpty k) (lobReference k s)) (cond located (lobReference k s) (lobInline k s))
+
+  unfoldable pub lobItem : ReferenceLength → Bool → Lob → List ℕ → Item
+  lobItem (Width w) located k s = declaredLob k s
+  lobItem Absent located k s = undeclaredLob located k s
 
   unfoldable pub varyingItem : ℕ → List ℕ → List ℕ → Item
   varyingItem n converted s = cond (bit8000 n) (headerItem s) (text varChar converted)
@@ -179,9 +188,9 @@ typeRefers t c s =
     (namedIn (type.Blob ∷ type.Clob ∷ type.DbClob ∷ type.Xml ∷ []) t
     && (not (isAbsent (c .«extdta_reference_length»)) || (isReference s || (eqb (c .length) 0 && not (namedIn (type.Xml ∷ []) t)))))
     || (namedIn (type.BlobLocator ∷ type.ClobLocator ∷ type.DbClobLocator ∷ []) t
-    || ((namedIn (type.VarChar 0 ∷ type.VarGraphic 0 ∷ []) t && bit8000 (ownLength t))
-    || (namedIn (type.LobBytes 0 ∷ type.LobChar 0 ∷ []) t && isShortReference (low15 (ownLength t)) s)))
+    || ((namedIn (type.VarChar 0 ∷ type.VarGraphic 0 ∷ []) t && bit8000 (ownNumbers t))
+    || (namedIn (type.LobBytes 0 ∷ type.LobChar 0 ∷ []) t && isShortReference (low15 (ownNumbers t)) s)))
 
--- a value that is there refers to data outside the row
+-- "the external columns (those that decode_row_body names)", document 01's term: a value that is there refers to data outside the row
 unfoldable pub refersIn : Conversions → ColumnDescriptor → List ℕ → Bool
 refersIn L c s = not (isEmptyLob (itemIn L c s)) && typeRefers (c .«db2_type») c s

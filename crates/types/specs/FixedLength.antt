@@ -1,8 +1,9 @@
 -- The byte count of a type's values, where the type alone tells it (document 01, "Types"; the Rust: fixed_length). Assumes nothing.
-use Prim.Native.Nat.{ℕ, _+_, _*_, _/_, _%_}
+use Prim.Native.Nat.{ℕ, _+_, _*_, _/_}
 use mathlib.Core.Bool.{cond}
 use mathlib.Core.Option.{Option, some, none}
 use lib.Dec.{eqb}
+use Rattle.types.specs.Names.{low15}
 use Rattle.types.specs.declared.Db2Type.{Db2Type}
 use Rattle.types.specs.declared.Db2Type.the-variants as type
 use Rattle.types.specs.declared.FixedLength.{FixedLength}
@@ -13,13 +14,17 @@ abbrev pub toldLength : FixedLength → Option ℕ
 toldLength (Bytes n) = some n
 toldLength Varies = none
 
+-- a packed decimal: "a column's byte count is (precision + 2) / 2 rounded down"
+abbrev pub packedLength : ℕ → ℕ
+packedLength precision = (precision + 2) / 2
+
 abbrev pub fixedLength : Db2Type → Option ℕ
 fixedLength type.SmallInt = some 2
 fixedLength type.Integer = some 4
 fixedLength type.BigInt = some 8
 fixedLength type.Real = some 4
 fixedLength type.Double = some 8
-fixedLength (type.Decimal p s) = some ((p + 2) / 2)
+fixedLength (type.Decimal p s) = some (packedLength p)
 fixedLength (type.DecFloat d) = some (cond (eqb d 34) 16 8)
 fixedLength (type.Char n) = some n
 fixedLength (type.VarChar n) = none
@@ -37,8 +42,8 @@ fixedLength (type.VarGraphic n) = none
 fixedLength type.DbClob = none
 fixedLength type.ClobLocator = some 4
 fixedLength type.DbClobLocator = some 4
-fixedLength (type.LobBytes n) = some (n % 0x8000)
-fixedLength (type.LobChar n) = some (n % 0x8000)
+fixedLength (type.LobBytes n) = some (low15 n)
+fixedLength (type.LobChar n) = some (low15 n)
 fixedLength (type.RowId n) = some n
 fixedLength type.Boolean = some 1
 fixedLength type.Xml = none

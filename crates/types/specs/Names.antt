@@ -1,8 +1,8 @@
--- Whether a type is one of a list of types by name, whatever numbers it holds. Assumes nothing.
-use Prim.Native.Nat.{ℕ}
+-- A type's name, the numbers that it holds, and the two parts of a length; whether a type is one of a list of types by name, whatever its numbers. Assumes nothing.
+use Prim.Native.Nat.{ℕ, _+_, _*_, _%_, _^_}
 use mathlib.Core.Bool.{Bool, false, _||_}
 use mathlib.Core.List.{List, [], _∷_}
-use lib.Dec.{eqb}
+use lib.Dec.{leb, eqb}
 use Rattle.types.specs.declared.Db2Type.{Db2Type}
 use Rattle.types.specs.declared.Db2Type.the-variants as type
 
@@ -37,6 +37,46 @@ nameOf (type.RowId n) = 25
 nameOf type.Boolean = 26
 nameOf type.Xml = 27
 nameOf type.Null = 28
+
+-- "A column's type may hold numbers of its own, as Char, VarChar, LobBytes, Graphic and Decimal do. Those count wherever such a type is read": as
+-- one number. Of Decimal the precision is in the low 8 bits and the scale in the high 8; 0 where a type holds none
+abbrev pub ownNumbers : Db2Type → ℕ
+ownNumbers type.SmallInt = 0
+ownNumbers type.Integer = 0
+ownNumbers type.BigInt = 0
+ownNumbers type.Real = 0
+ownNumbers type.Double = 0
+ownNumbers (type.Decimal p s) = p + s * 2 ^ 8
+ownNumbers (type.DecFloat d) = d
+ownNumbers (type.Char n) = n
+ownNumbers (type.VarChar n) = n
+ownNumbers type.LongVarChar = 0
+ownNumbers type.Clob = 0
+ownNumbers (type.Binary n) = n
+ownNumbers (type.VarBinary n) = n
+ownNumbers type.Blob = 0
+ownNumbers type.BlobLocator = 0
+ownNumbers type.Date = 0
+ownNumbers type.Time = 0
+ownNumbers type.Timestamp = 0
+ownNumbers (type.Graphic n) = n
+ownNumbers (type.VarGraphic n) = n
+ownNumbers type.DbClob = 0
+ownNumbers type.ClobLocator = 0
+ownNumbers type.DbClobLocator = 0
+ownNumbers (type.LobBytes n) = n
+ownNumbers (type.LobChar n) = n
+ownNumbers (type.RowId n) = n
+ownNumbers type.Boolean = 0
+ownNumbers type.Xml = 0
+ownNumbers type.Null = 0
+
+-- of a length of 16 bits: its bit 8000, and its low 15 bits
+abbrev pub bit8000 : ℕ → Bool
+bit8000 n = leb 0x8000 n
+
+abbrev pub low15 : ℕ → ℕ
+low15 n = n % 0x8000
 
 -- t has the name of one of the types us
 abbrev pub namedIn : List Db2Type → Db2Type → Bool

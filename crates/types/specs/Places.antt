@@ -31,8 +31,8 @@ blankColumn =
       nullable = false;
       ccsid = 0;
       «db2_type» = type.Null;
-      «extdta_reference_length» = Absent;
       «byte_order» = BigEndian;
+      «extdta_reference_length» = Absent;
     }
 
 -- "unused value places hold Null and are not external"

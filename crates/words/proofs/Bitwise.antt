@@ -8,10 +8,10 @@ use borrow.Author.Needs.{needs}
 use borrow.Author.Tests.{eq-eqb, ne-eqb, eqb-true, eqb-false}
 use lib.Dec.{eqb}
 use lib.ListN.{getD}
-use Rattle.types.specs.Names.{nameOf}
+use Rattle.types.specs.Names.{nameOf, ownNumbers}
 use Rattle.types.specs.declared.Db2Type.{Db2Type}
 use Rattle.types.specs.declared.Db2Type.the-variants as type
-use Rattle.words.specs.Words.{ownNumbers, packType, littleEndianBit, referenceBit, referenceWidth, firstWord, secondWord, typesWith, typeNamed}
+use Rattle.words.specs.Words.{packType, littleEndianBit, referenceBit, referenceWidth, firstWord, secondWord, typesWith, typeNamed}
 use Rattle.words.specs.Reading.{orderNamed, referenceNamed, columnNamed, isColumn}
 
 -- ---- the word of a type that bits name has 24 bits, and the place of its name has 8

@@ -6,7 +6,7 @@ use mathlib.Core.List.{List, [], _∷_}
 use mathlib.Core.Option.{Option, some, none}
 use native.Mathlib.Omega.{arith}
 use borrow.Author.Tests.{eq-eqb}
-use Rattle.types.specs.Names.{nameOf}
+use Rattle.types.specs.Names.{nameOf, ownNumbers}
 use Rattle.types.specs.declared.ByteOrder.{ByteOrder}
 use Rattle.types.specs.declared.ByteOrder.the-variants.{BigEndian, LittleEndian}
 use Rattle.types.specs.declared.ReferenceLength.{ReferenceLength}
@@ -15,26 +15,10 @@ use Rattle.types.specs.declared.ColumnDescriptor.{ColumnDescriptor}
 use lib.Dec.{eqb}
 use lib.ListN.{length, drop, getD, drop-of-length-le}
 use lib.Seq.{drop-cons}
-use Rattle.words.specs.Words.{ownNumbers, packType, littleEndianBit, referenceBit, referenceWidth, firstWord, secondWord, packColumns, typeNamed}
+use Rattle.words.specs.Words.{packType, littleEndianBit, referenceBit, referenceWidth, firstWord, secondWord, packColumns, typeNamed}
 use Rattle.words.specs.Reading.{orderNamed, referenceNamed, columnNamed, isColumn, readColumn, joined, readColumns}
-use Rattle.words.proofs.TypeWords.{Fitting, Named, named}
-use Rattle.words.proofs.Fields.{Widths, Fields, fields}
-
--- a reference length has 16 bits
-abbrev pub WidthFits : ReferenceLength → Type 0
-WidthFits Absent = Unit {0}
-WidthFits (Width n) = n < 2 ^ 16
-
--- every number of a column has its bits, as those of the code have: the column's own number has 8
-pub record Fits (c : ColumnDescriptor) : Type 0 where
-  pub kind : Fitting (c .«db2_type»)
-  pub code : c .«drda_type» < 2 ^ 8
-  pub index : c .«column_index» < 2 ^ 8
-  pub long : c .length < 2 ^ 16
-  pub digits : c .precision < 2 ^ 8
-  pub point : c .scale < 2 ^ 8
-  pub page : c .ccsid < 2 ^ 16
-  pub width : WidthFits (c .«extdta_reference_length»)
+use Rattle.words.proofs.TypeWords.{Named, named}
+use Rattle.words.proofs.Fields.{WidthFits, Fits, Fields, fields}
 
 order-named : (o : ByteOrder) → orderNamed (littleEndianBit o) ≡ o
 order-named BigEndian = refl
@@ -65,20 +49,8 @@ module _ (c : ColumnDescriptor) (f : Fits c) where
   of-type : Named (c .«db2_type»)
   of-type = named (c .«db2_type») (f .kind)
 
-  widths : Widths c
-  widths =
-      record {
-        kind = omega (arith, of-type .place, of-type .numbers);
-        code = f .code;
-        index = omega (arith, f .index);
-        long = f .long;
-        digits = f .digits;
-        point = f .point;
-        page = f .page;
-      }
-
   here : Fields c
-  here = fields c widths
+  here = fields c f
 
   -- words that have the column's fields name it
   named-by : (a b : ℕ) → a % 2 ^ 8 ≡ nameOf (c .«db2_type») → a / 2 ^ 8 % 2 ^ 16 ≡ ownNumbers (c .«db2_type») → a / 2 ^ 24 % 2 ^ 8 ≡ c .«drda_type»

@@ -1,4 +1,4 @@
--- The fields of a column's two words, as a caller takes them out: each is the column's own, since no field runs into the next. Assumes nothing.
+-- A step to the law of reading (proofs/Columns.antt): each field of a column's two words is the column's own, since no field runs into the next. Assumes nothing.
 use Prim.Native.Nat.{ℕ, _+_, _*_, _/_, _%_, _≤_, _<_, _^_}
 use mathlib.Core.Path.{_≡_}
 use mathlib.Core.Bool.{Bool, true, false, cond}
@@ -9,16 +9,23 @@ use Rattle.types.specs.declared.ReferenceLength.{ReferenceLength}
 use Rattle.types.specs.declared.ReferenceLength.the-variants.{Absent, Width}
 use Rattle.types.specs.declared.ColumnDescriptor.{ColumnDescriptor}
 use Rattle.words.specs.Words.{packType, littleEndianBit, referenceBit, referenceWidth, firstWord, secondWord}
+use Rattle.words.proofs.TypeWords.{Fitting, named}
 
--- the column's numbers have the widths of their fields
-pub record Widths (c : ColumnDescriptor) : Type 0 where
-  pub kind : packType (c .«db2_type») < 2 ^ 24
+-- a reference length has 16 bits
+abbrev pub WidthFits : ReferenceLength → Type 0
+WidthFits Absent = Unit {0}
+WidthFits (Width n) = n < 2 ^ 16
+
+-- every number of a column has its bits, as those of the code have: the column's own number has 8
+pub record Fits (c : ColumnDescriptor) : Type 0 where
+  pub kind : Fitting (c .«db2_type»)
   pub code : c .«drda_type» < 2 ^ 8
-  pub index : c .«column_index» < 2 ^ 16
+  pub index : c .«column_index» < 2 ^ 8
   pub long : c .length < 2 ^ 16
   pub digits : c .precision < 2 ^ 8
   pub point : c .scale < 2 ^ 8
   pub page : c .ccsid < 2 ^ 16
+  pub width : WidthFits (c .«extdta_reference_length»)
 
 pub record Fields (c : ColumnDescriptor) : Type 0 where
   pub kind : firstWord c % 2 ^ 24 ≡ packType (c .«db2_type»)
@@ -41,10 +48,12 @@ order-bit : (o : ByteOrder) → littleEndianBit o ≤ 1
 order-bit BigEndian = omega arith
 order-bit LittleEndian = omega arith
 
-pub fields : (c : ColumnDescriptor) → Widths c → Fields c
-fields c w =
+pub fields : (c : ColumnDescriptor) → Fits c → Fields c
+fields c f =
     let n = bit (c .nullable) in
     let o = order-bit (c .«byte_order») in
+    let t = named (c .«db2_type») (f .kind) in
+    let k : packType (c .«db2_type») < 2 ^ 24 = omega (arith, t .place, t .numbers) in
     record {
       kind = omega arith;
       code = omega arith;

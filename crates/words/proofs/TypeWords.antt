@@ -6,10 +6,10 @@ use mathlib.Core.Option.{Option, some, none}
 use native.Mathlib.Omega.{arith}
 use lib.Dec.{ltb, eqb}
 use borrow.Author.Tests.{lt-ltb, le-ltb, eq-eqb, ne-eqb, eqb-true}
-use Rattle.types.specs.Names.{nameOf}
+use Rattle.types.specs.Names.{nameOf, ownNumbers}
 use Rattle.types.specs.declared.Db2Type.{Db2Type}
 use Rattle.types.specs.declared.Db2Type.the-variants as type
-use Rattle.words.specs.Words.{ownNumbers, packType, typeNamed, readType}
+use Rattle.words.specs.Words.{packType, typeNamed, readType}
 
 -- x is none of the numbers below n: what the last arm of a match on 0, 1, .. is told
 abbrev pub NoneBelow : ℕ → ℕ → Type 0

@@ -30,8 +30,8 @@ columnNamed first second =
       nullable = eqb (first / 2 ^ 48 % 2) 1;
       ccsid = second / 2 ^ 32 % 2 ^ 16;
       «db2_type» = typeNamed (first % 2 ^ 8) (first / 2 ^ 8 % 2 ^ 16);
-      «extdta_reference_length» = referenceNamed (first / 2 ^ 50 % 2) (second / 2 ^ 48 % 2 ^ 16);
       «byte_order» = orderNamed (first / 2 ^ 49 % 2);
+      «extdta_reference_length» = referenceNamed (first / 2 ^ 50 % 2) (second / 2 ^ 48 % 2 ^ 16);
     }
 
 -- two words are a column's: they are the words of the column that their bits name

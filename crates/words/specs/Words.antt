@@ -5,7 +5,7 @@ use mathlib.Core.List.{List, [], _∷_}
 use mathlib.Core.Option.{Option, some, none}
 use lib.Dec.{ltb, eqb}
 use lib.ListN.{getD}
-use Rattle.types.specs.Names.{nameOf}
+use Rattle.types.specs.Names.{nameOf, ownNumbers}
 use Rattle.types.specs.declared.Db2Type.{Db2Type}
 use Rattle.types.specs.declared.Db2Type.the-variants as type
 use Rattle.types.specs.declared.ByteOrder.{ByteOrder}
@@ -15,38 +15,6 @@ use Rattle.types.specs.declared.ReferenceLength.the-variants.{Absent, Width}
 use Rattle.types.specs.declared.ColumnDescriptor.{ColumnDescriptor}
 use Rattle.words.specs.declared.TypeRead.{TypeRead}
 use Rattle.words.specs.declared.TypeRead.the-variants.{Known, NoType}
-
--- the numbers that a type holds, as one: Decimal's precision is in the low 8 bits and its scale in the high 8
-abbrev pub ownNumbers : Db2Type → ℕ
-ownNumbers type.SmallInt = 0
-ownNumbers type.Integer = 0
-ownNumbers type.BigInt = 0
-ownNumbers type.Real = 0
-ownNumbers type.Double = 0
-ownNumbers (type.Decimal p s) = p + s * 2 ^ 8
-ownNumbers (type.DecFloat d) = d
-ownNumbers (type.Char n) = n
-ownNumbers (type.VarChar n) = n
-ownNumbers type.LongVarChar = 0
-ownNumbers type.Clob = 0
-ownNumbers (type.Binary n) = n
-ownNumbers (type.VarBinary n) = n
-ownNumbers type.Blob = 0
-ownNumbers type.BlobLocator = 0
-ownNumbers type.Date = 0
-ownNumbers type.Time = 0
-ownNumbers type.Timestamp = 0
-ownNumbers (type.Graphic n) = n
-ownNumbers (type.VarGraphic n) = n
-ownNumbers type.DbClob = 0
-ownNumbers type.ClobLocator = 0
-ownNumbers type.DbClobLocator = 0
-ownNumbers (type.LobBytes n) = n
-ownNumbers (type.LobChar n) = n
-ownNumbers (type.RowId n) = n
-ownNumbers type.Boolean = 0
-ownNumbers type.Xml = 0
-ownNumbers type.Null = 0
 
 -- a type word: bits 0 to 7 the place of the type's name, bits 8 to 23 the numbers that it holds
 abbrev pub packType : Db2Type → ℕ

@@ -13,8 +13,8 @@ ghost use lib.Dec.{eqb};
 ghost use lib.Ieee.{binary32, binary64};
 ghost use mir.Syntax.{w64};
 ghost use mir.Val.{ofZ};
-ghost use Rattle.types.specs.Names.{nameOf};
-ghost use Rattle.words.specs.Words.{ownNumbers, packType, littleEndianBit, referenceBit, referenceWidth, firstWord, secondWord, typeNamed, toldType, readType};
+ghost use Rattle.types.specs.Names.{nameOf, ownNumbers};
+ghost use Rattle.words.specs.Words.{packType, littleEndianBit, referenceBit, referenceWidth, firstWord, secondWord, typeNamed, toldType, readType};
 ghost use Rattle.words.specs.Reading.{orderNamed, referenceNamed, columnNamed, isColumn};
 ghost use Rattle.words.specs.Values.{sortWord, bitsOf, numberWord, lengthWord, kindWord};
 
@@ -263,8 +263,8 @@ pub fn column_named(first: u64, second: u64) -> ColumnDescriptor
         nullable: first / 0x1_0000_0000_0000 % 2 == 1,
         ccsid: (second / 0x1_0000_0000 % 0x1_0000) as u16,
         db2_type,
-        extdta_reference_length,
         byte_order,
+        extdta_reference_length,
     }
 }
 

@@ -1,6 +1,5 @@
 -- `cell::declared_lob` meets its contract: the tests on the way to each `return` decide the definition's. Assumes nothing.
 use mathlib.Core.Path.{sym, _∙_}
-use Rattle.cell.specs.Cell.{declaredLob}
 use borrow.Author.Needs.{needs}
 use Rattle.cell.proofs.declared_lob.Statement.{statement}
 use Rattle.cell.proofs.declared_lob.Tie as tie
@@ -12,7 +11,6 @@ lob-empty-requires : tie.Need-lob-empty-requires
 lob-empty-requires c κs = search needs
 
 returns : tie.Need-returns
-unfolding declaredLob
 returns c = rw (sym (c .before .before .all-zero .ensures) ∙ c .before .if1 .taken) (c .lob-empty .ensures)
 
 is-empty-reference-requires : tie.Need-is-empty-reference-requires
@@ -22,14 +20,12 @@ lob-empty-requires-2 : tie.Need-lob-empty-requires-2
 lob-empty-requires-2 c κs = search needs
 
 returns-2 : tie.Need-returns-2
-unfolding declaredLob
 returns-2 c = rw (sym (c .before .before .before .before .all-zero .ensures) ∙ c .before .before .before .if1 .left, sym (c .before .before .is-empty-reference .ensures) ∙ c .before .if2 .taken) (c .lob-empty2 .ensures)
 
 lob-reference-requires : tie.Need-lob-reference-requires
 lob-reference-requires c κs = search needs
 
 returns-3 : tie.Need-returns-3
-unfolding declaredLob
 returns-3 c = rw (sym (c .before .before .before .before .all-zero .ensures) ∙ c .before .before .before .if1 .left, sym (c .before .before .is-empty-reference .ensures) ∙ c .before .if2 .left) (c .lob-reference .ensures)
 
 pub declared-lob-spec : {M : Type 1} → statement M

@@ -1,6 +1,5 @@
 -- `cell::lob_item` meets its contract: in each arm the reference length is known. Assumes nothing.
 use Rattle.rules.specs.Meaning.{lobItem}
-use Rattle.cell.specs.Cell.{declaredLob, undeclaredLob}
 use borrow.Author.Needs.{needs}
 use Rattle.cell.proofs.lob_item.Statement.{statement}
 use Rattle.cell.proofs.lob_item.Tie as tie
@@ -18,11 +17,11 @@ undeclared-lob-requires : tie.Need-undeclared-lob-requires
 undeclared-lob-requires c κs = c .before .before .before .pre (c .enum-told2 .given .1)
 
 returns : tie.Need-returns
-unfolding lobItem declaredLob
+unfolding lobItem
 returns c = rw (c .before .enum-told .given .1) (c .declared-lob .ensures)
 
 returns-2 : tie.Need-returns-2
-unfolding lobItem undeclaredLob
+unfolding lobItem
 returns-2 c = rw (c .before .enum-told2 .given .1) (c .undeclared-lob .ensures)
 
 pub lob-item-spec : {M : Type 1} → statement M

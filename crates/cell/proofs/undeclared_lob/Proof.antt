@@ -2,7 +2,6 @@
 use mathlib.Core.Path.{sym, ap, _∙_}
 use denote.Ref.{now}
 use Rattle.rules.specs.Meaning.{allZero}
-use Rattle.cell.specs.Cell.{undeclaredLob}
 use Rattle.cell.proofs.ItemLaws.{all-from}
 use borrow.Author.Needs.{needs}
 use Rattle.cell.proofs.undeclared_lob.Statement.{statement}
@@ -27,7 +26,6 @@ lob-empty-requires : tie.Need-lob-empty-requires
 lob-empty-requires c κs = search needs
 
 returns : tie.Need-returns
-unfolding undeclaredLob
 returns c = let z = sym (ap allZero (all-from 1 (now (c .before .before .before .before .before .before .before .args .bytes)))) ∙ sym (c .before .before .all-zero .ensures) ∙ c .before .if2 .taken in
     rw (sym (c .before .before .before .before .before .is-reference .ensures) ∙ c .before .before .before .before .if1 .taken, z) (c .lob-empty .ensures)
 
@@ -35,7 +33,6 @@ lob-reference-requires : tie.Need-lob-reference-requires
 lob-reference-requires c κs = search needs
 
 returns-2 : tie.Need-returns-2
-unfolding undeclaredLob
 returns-2 c = let z = sym (ap allZero (all-from 1 (now (c .before .before .before .before .before .before .before .args .bytes)))) ∙ sym (c .before .before .all-zero .ensures) ∙ c .before .if2 .left in
     rw (sym (c .before .before .before .before .before .is-reference .ensures) ∙ c .before .before .before .before .if1 .taken, z) (c .lob-reference .ensures)
 
@@ -43,14 +40,12 @@ lob-reference-requires-2 : tie.Need-lob-reference-requires-2
 lob-reference-requires-2 c κs = search needs
 
 returns-3 : tie.Need-returns-3
-unfolding undeclaredLob
 returns-3 c = rw (sym (c .before .before .before .is-reference .ensures) ∙ c .before .before .if1 .left, c .before .if3 .taken) (c .lob-reference2 .ensures)
 
 lob-inline-requires : tie.Need-lob-inline-requires
 lob-inline-requires c κs = search needs
 
 returns-4 : tie.Need-returns-4
-unfolding undeclaredLob
 returns-4 c = rw (sym (c .before .before .before .is-reference .ensures) ∙ c .before .before .if1 .left, c .before .if3 .left) (c .lob-inline .ensures)
 
 pub undeclared-lob-spec : {M : Type 1} → statement M

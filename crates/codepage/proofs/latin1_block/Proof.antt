@@ -4,7 +4,7 @@ use native.Mathlib.Omega.{arith}
 use borrow.Author.Needs.{needs}
 use denote.Ref.{now}
 use lib.ListN.{length}
-use Rattle.codepage.specs.CodePage.{byteText, same}
+use Rattle.codepage.specs.CodePage.{byteText, codePoint819}
 use Rattle.codepage.proofs.Blocks.{plain-text, highs-most}
 use Rattle.codepage.proofs.latin1_block.Statement.{statement}
 use Rattle.codepage.proofs.latin1_block.Tie as tie
@@ -13,7 +13,7 @@ high-count-requires : tie.Need-high-count-requires
 high-count-requires c κs = search needs
 
 -- where the count is 0
-plain : (c : tie.Then1) → byteText same (now (c .before .before .before .before .args .s)) ≡ now (c .before .before .before .before .args .s)
+plain : (c : tie.Then1) → byteText codePoint819 (now (c .before .before .before .before .args .s)) ≡ now (c .before .before .before .before .args .s)
 plain c = plain-text _ (sym (c .before .high-count .ensures) ∙ c .if1 .taken)
 
 copy-requires : tie.Need-copy-requires

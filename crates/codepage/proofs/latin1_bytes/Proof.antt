@@ -5,14 +5,14 @@ use native.Mathlib.Omega.{arith}
 use borrow.Author.Needs.{needs}
 use denote.Ref.{now}
 use lib.ListN.{length, take, drop}
-use Rattle.codepage.specs.CodePage.{byteText, same}
+use Rattle.codepage.specs.CodePage.{byteText, codePoint819}
 use Rattle.buffer.proofs.Writing.{Writing, start, fits, as-long, all, end}
 use Rattle.codepage.proofs.ByteText.{turn-fits, turn, byte-end}
 use Rattle.codepage.proofs.latin1_bytes.Statement.{statement}
 use Rattle.codepage.proofs.latin1_bytes.Tie as tie
 
 abbrev Inv-loop : tie.InvT-loop
-Inv-loop s out₀ o₀ i₀ out o i = (i ≤ length s) × Writing (byteText same s) out₀ (byteText same (drop i s)) out o
+Inv-loop s out₀ o₀ i₀ out o i = (i ≤ length s) × Writing (byteText codePoint819 s) out₀ (byteText codePoint819 (drop i s)) out o
 
 abbrev μ-loop : tie.MeasureT-loop
 μ-loop s out₀ o₀ i₀ out o i = length s - i
@@ -38,7 +38,7 @@ part-write-small-end c = omega arith
 write-small-requires : tie.Need-write-small-requires Inv-loop μ-loop
 write-small-requires c κs =
     let at = c .before in
-    (omega (arith, at .wide .ensures .1), turn-fits same (now (at .before .before .before .before .before .before .args .s)) (at .before .before .before .loop .i) (at .before .before .before .loop .inv .1) (at .before .before .loop-test .taken) (at .wide .result) (at .wide .ensures .0))
+    (omega (arith, at .wide .ensures .1), turn-fits codePoint819 (now (at .before .before .before .before .before .before .args .s)) (at .before .before .before .loop .i) (at .before .before .before .loop .inv .1) (at .before .before .loop-test .taken) (at .wide .result) (at .wide .ensures .0))
 
 -- where the code point is written
 module _ (c : tie.After-write-small Inv-loop μ-loop) where
@@ -48,9 +48,9 @@ module _ (c : tie.After-write-small Inv-loop μ-loop) where
   abbrev turned : tie.At-loop Inv-loop μ-loop
   turned = at .before .before .before
 
-  w : Writing (byteText same (now (turned .before .before .before .args .s))) (now (turned .before .before .before .args .out)) (byteText same (drop (turned .loop .i + 1) (now (turned .before .before .before .args .s))))
+  w : Writing (byteText codePoint819 (now (turned .before .before .before .args .s))) (now (turned .before .before .before .args .out)) (byteText codePoint819 (drop (turned .loop .i + 1) (now (turned .before .before .before .args .s))))
       (take (turned .loop .o) (turned .loop .out) ++ (c .write-small .last .1 .0 ++ drop (length (turned .loop .out) - turned .loop .o) (drop (turned .loop .o) (turned .loop .out)))) (turned .loop .o + c .write-small .result)
-  w = turn same (now (turned .before .before .before .args .s)) (turned .loop .i) (turned .loop .inv .1) (at .before .before .loop-test .taken) (at .wide .result) (at .wide .ensures .0) (c .write-small .last .1 .0) (c .write-small .ensures .1) (c .write-small .result) (c .write-small .ensures .0)
+  w = turn codePoint819 (now (turned .before .before .before .args .s)) (turned .loop .i) (turned .loop .inv .1) (at .before .before .loop-test .taken) (at .wide .result) (at .wide .ensures .0) (c .write-small .last .1 .0) (c .write-small .ensures .1) (c .write-small .result) (c .write-small .ensures .0)
 
 add-o : tie.Need-add-o Inv-loop μ-loop
 add-o c =
@@ -71,7 +71,7 @@ same-length c = as-long (c .before .loop .inv .1)
 
 returns : tie.Need-returns Inv-loop μ-loop
 returns c =
-    let done = byte-end same _ _ (c .loop-test .left) in
+    let done = byte-end codePoint819 _ _ (c .loop-test .left) in
     (all (c .before .loop .inv .1) done, end (c .before .loop .inv .1) done)
 
 pub latin1-bytes-spec : {M : Type 1} → statement M

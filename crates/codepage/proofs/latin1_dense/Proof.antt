@@ -9,7 +9,7 @@ use denote.Ref.{now}
 use lib.ListN.{length, take, drop, getD, set, length-set, length-drop, length-append}
 use lib.Seq.{length-take-le}
 use Rattle.unicode.specs.Unicode.{utf8}
-use Rattle.codepage.specs.CodePage.{byteText, same}
+use Rattle.codepage.specs.CodePage.{byteText, codePoint819}
 use Rattle.buffer.proofs.Writing.{Writing, start, fits, as-long, all, end}
 use Rattle.codepage.proofs.ByteText.{byte-next, byte-end}
 use Rattle.codepage.proofs.Blocks.{small-length, two-left}
@@ -18,7 +18,7 @@ use Rattle.codepage.proofs.latin1_dense.Statement.{statement}
 use Rattle.codepage.proofs.latin1_dense.Tie as tie
 
 abbrev Inv-loop : tie.InvT-loop
-Inv-loop s out₀ last o₀ i₀ out o i = (i ≤ last) × (last + 1 ≡ length s) × Loose (byteText same s) out₀ (byteText same (drop i s)) out o
+Inv-loop s out₀ last o₀ i₀ out o i = (i ≤ last) × (last + 1 ≡ length s) × Loose (byteText codePoint819 s) out₀ (byteText codePoint819 (drop i s)) out o
 
 abbrev μ-loop : tie.MeasureT-loop
 μ-loop s out₀ last o₀ i₀ out o i = last - i
@@ -55,7 +55,7 @@ module _ (c : tie.After-wide Inv-loop μ-loop) where
   abbrev Cp : ℕ
   Cp = c .wide .result
 
-  w : Loose (byteText same S) D (byteText same (drop I S)) Out O
+  w : Loose (byteText codePoint819 S) D (byteText codePoint819 (drop I S)) Out O
   w = c .before .before .before .loop .inv .2
 
   left : I + 1 < length S
@@ -64,8 +64,8 @@ module _ (c : tie.After-wide Inv-loop μ-loop) where
   room : O + 2 ≤ length Out
   room = omega (arith, loose-fits w, two-left S I (λ j. omega (arith, c .before .shared-slice-known2 .given j)) left)
 
-  text : byteText same (drop I S) ≡ utf8 Cp ++ byteText same (drop (I + 1) S)
-  text = byte-next same S I (omega (arith, left)) ∙ ap (λ (v : ℕ). utf8 v ++ byteText same (drop (I + 1) S)) (sym (c .wide .ensures .0))
+  text : byteText codePoint819 (drop I S) ≡ utf8 Cp ++ byteText codePoint819 (drop (I + 1) S)
+  text = byte-next codePoint819 S I (omega (arith, left)) ∙ ap (λ (v : ℕ). utf8 v ++ byteText codePoint819 (drop (I + 1) S)) (sym (c .wide .ensures .0))
 
 add-p : tie.Need-add-p Inv-loop μ-loop
 add-p c = omega (arith, room c, loose-long (w c))
@@ -93,7 +93,7 @@ module _ (c : tie.After-small-len Inv-loop μ-loop) where
   abbrev at : tie.After-wide Inv-loop μ-loop
   at = c .before .before
 
-  w₁ : Loose (byteText same (S at)) (D at) (byteText same (drop (I at + 1) (S at))) (set (set (Out at) (O at + 1) (0x80 + Cp at % 64)) (O at) (c .before .lead .result)) (O at + c .small-len .result)
+  w₁ : Loose (byteText codePoint819 (S at)) (D at) (byteText codePoint819 (drop (I at + 1) (S at))) (set (set (Out at) (O at + 1) (0x80 + Cp at % 64)) (O at) (c .before .lead .result)) (O at + c .small-len .result)
   w₁ = loose-step (w at) (Cp at) (at .wide .ensures .1) _ (text at) (c .small-len .result) (c .small-len .ensures .0) (c .before .lead .result) (c .before .lead .ensures) (O at + 1) refl
 
 add-o : tie.Need-add-o Inv-loop μ-loop
@@ -128,19 +128,19 @@ module _ (c : tie.After-wide2 Inv-loop μ-loop) where
   abbrev Out₂ : List ℕ
   Out₂ = c .before .before .before .loop .out
 
-  w₂ : Loose (byteText same S₂) (now (c .before .before .before .before .before .before .args .out)) (byteText same (drop I₂ S₂)) Out₂ O₂
+  w₂ : Loose (byteText codePoint819 S₂) (now (c .before .before .before .before .before .before .args .out)) (byteText codePoint819 (drop I₂ S₂)) Out₂ O₂
   w₂ = c .before .before .before .loop .inv .2
 
   there : I₂ ≡ length S₂ - 1
   there = omega (arith, c .before .before .before .loop .inv .0, c .before .before .before .loop .inv .1, c .before .before .loop-test .left)
 
-  text₂ : byteText same (drop I₂ S₂) ≡ utf8 (c .wide2 .result) ++ byteText same (drop (I₂ + 1) S₂)
+  text₂ : byteText codePoint819 (drop I₂ S₂) ≡ utf8 (c .wide2 .result) ++ byteText codePoint819 (drop (I₂ + 1) S₂)
   text₂ =
-      byte-next same S₂ I₂ (omega (arith, there, c .before .before .before .loop .inv .1))
-      ∙ ap (λ (v : ℕ). utf8 v ++ byteText same (drop (I₂ + 1) S₂)) (ap (λ (k : ℕ). getD S₂ k 0) there ∙ sym (c .wide2 .ensures .0))
+      byte-next codePoint819 S₂ I₂ (omega (arith, there, c .before .before .before .loop .inv .1))
+      ∙ ap (λ (v : ℕ). utf8 v ++ byteText codePoint819 (drop (I₂ + 1) S₂)) (ap (λ (k : ℕ). getD S₂ k 0) there ∙ sym (c .wide2 .ensures .0))
 
   room₂ : O₂ + length (utf8 (c .wide2 .result)) ≤ length Out₂
-  room₂ = omega (arith, loose-fits w₂, ap length text₂, length-append (utf8 (c .wide2 .result)) (byteText same (drop (I₂ + 1) S₂)))
+  room₂ = omega (arith, loose-fits w₂, ap length text₂, length-append (utf8 (c .wide2 .result)) (byteText codePoint819 (drop (I₂ + 1) S₂)))
 
 sub-write-small : tie.Need-sub-write-small Inv-loop μ-loop
 sub-write-small c = omega (arith, room₂ c)
@@ -163,12 +163,12 @@ module _ (c : tie.After-write-small Inv-loop μ-loop) where
   abbrev at₂ : tie.After-wide2 Inv-loop μ-loop
   at₂ = c .before .before
 
-  w₃ : Writing (byteText same (S₂ at₂)) (now (at₂ .before .before .before .before .before .before .args .out)) (byteText same (drop (I₂ at₂ + 1) (S₂ at₂)))
+  w₃ : Writing (byteText codePoint819 (S₂ at₂)) (now (at₂ .before .before .before .before .before .before .args .out)) (byteText codePoint819 (drop (I₂ at₂ + 1) (S₂ at₂)))
       (take (O₂ at₂) (Out₂ at₂) ++ (c .write-small .last .1 .0 ++ drop (length (Out₂ at₂) - O₂ at₂) (drop (O₂ at₂) (Out₂ at₂)))) (O₂ at₂ + c .write-small .result)
   w₃ = loose-rest (w₂ at₂) (utf8 (at₂ .wide2 .result)) _ (text₂ at₂) (omega (arith, small-length (at₂ .wide2 .result) (at₂ .wide2 .ensures .1))) (c .write-small .last .1 .0) (c .write-small .ensures .1) (c .write-small .result) (c .write-small .ensures .0)
 
-  done : byteText same (drop (I₂ at₂ + 1) (S₂ at₂)) ≡ []
-  done = byte-end same (S₂ at₂) (I₂ at₂ + 1) (omega (arith, there at₂))
+  done : byteText codePoint819 (drop (I₂ at₂ + 1) (S₂ at₂)) ≡ []
+  done = byte-end codePoint819 (S₂ at₂) (I₂ at₂ + 1) (omega (arith, there at₂))
 
 add-result : tie.Need-add-result Inv-loop μ-loop
 add-result c =

@@ -1,11 +1,13 @@
 // Inner. The calls by value, for the benchmarks: each hands one number of its answer to C, so that the answer has to be made. It promises nothing
 // that the calls themselves do not.
 use types::MAX_COLUMNS;
+use words::value_words;
 ghost use mathlib.Core.Path.{_≡_};
 ghost use Prim.Native.Nat.{_%_};
 ghost use Rattle.types.specs.Places.{maxColumns};
 ghost use Rattle.qrydsc.specs.Qrydsc.{description};
-ghost use Rattle.by_value.specs.ByValue.{lengthAt};
+ghost use Rattle.rules.specs.Conversions.{rowAnswer};
+ghost use Rattle.by_value.specs.ByValue.{lengthAt, numberAt};
 
 // The length of the column at a place of the list. The place is not known to the compiler: so every column is written.
 #[no_mangle]
@@ -28,4 +30,34 @@ pub extern "C" fn by_value_count_columns(data: &[u8]) -> u64
     let described = qrydsc::parse_qrydsc(data);
     let columns = described.columns;
     columns.count as u64
+}
+
+// The number of the value at a place of a row's answer. The description is read once; the row is decoded once and then `rounds` times again, each time
+// from the input: so what the columns cost is not counted in. decode_row has two callers here, and is not compiled into either.
+#[no_mangle]
+pub extern "C" fn by_value_decode_row(
+    described: &[u8],
+    row: &[u8],
+    text: &mut [u8],
+    rounds: u64,
+    index: u64,
+) -> u64
+    ensures { λ r. ⌜ r ≡ numberAt (rowAnswer (description (now (described .entry)) .columns) (now (row .entry)) (now (text .entry))) (index % maxColumns) ⌝ }
+{
+    let d = qrydsc::parse_qrydsc(described);
+    let columns = d.columns;
+    let place = index as usize % MAX_COLUMNS;
+    let once = row::decode_row(row, columns, text);
+    let value = once.places[place];
+    let first = value_words(value);
+    let mut number = first.number;
+    let mut i: u64 = 0;
+    while i < rounds {
+        let again = row::decode_row(row, columns, text);
+        let same = again.places[place];
+        let words = value_words(same);
+        number = words.number;
+        i += 1;
+    }
+    number
 }

@@ -1,5 +1,5 @@
 //! The lines of the table: which calls, on which inputs.
-use crate::{Call, Line, BATCH};
+use crate::{rows, Call, Line, BATCH};
 use differential::leaf::{Leaf, TEXT_LIMIT};
 use differential::random::Random;
 use std::rc::Rc;
@@ -13,7 +13,7 @@ const MIXED: &str = "Der Flor ist höher: 5 €, 高さ 12 mm \u{1F9F6} — ok. 
 const CJK: &str = "絨毯の高さは十二ミリです";
 
 /// Makes a text of so many bytes, or a description of so many columns.
-type Maker = fn(&mut Random, usize) -> Vec<u8>;
+pub type Maker = fn(&mut Random, usize) -> Vec<u8>;
 
 pub fn lines() -> Vec<Line> {
     const UTF8: Leaf = Leaf::Character { ccsid: 1208 };
@@ -55,6 +55,7 @@ pub fn lines() -> Vec<Line> {
         lines.push(line(&mut random, "Packed decimal", leaf, packed, length));
     }
     lines.extend(description_lines(&mut random));
+    lines.extend(rows::lines(&mut random));
     lines
 }
 
@@ -85,7 +86,7 @@ fn description_lines(random: &mut Random) -> Vec<Line> {
         for (form, texts) in &inputs {
             lines.push(Line {
                 name: format!("{name}, {form}"),
-                call,
+                call: call.clone(),
                 texts: Rc::clone(texts),
             });
         }
@@ -141,11 +142,11 @@ fn line(random: &mut Random, name: &str, leaf: Leaf, maker: Maker, length: usize
     }
 }
 
-fn uniform(random: &mut Random, length: usize) -> Vec<u8> {
+pub fn uniform(random: &mut Random, length: usize) -> Vec<u8> {
     (0..length).map(|_| random.byte()).collect()
 }
 
-fn ascii(random: &mut Random, length: usize) -> Vec<u8> {
+pub fn ascii(random: &mut Random, length: usize) -> Vec<u8> {
     (0..length).map(|_| b' ' + random.byte() % 95).collect()
 }
 
@@ -161,7 +162,7 @@ fn malformed(random: &mut Random, length: usize) -> Vec<u8> {
 }
 
 /// Letters, spaces and digits of code page 037, with a letter outside of ASCII now and then.
-fn ebcdic(random: &mut Random, length: usize) -> Vec<u8> {
+pub fn ebcdic(random: &mut Random, length: usize) -> Vec<u8> {
     let byte = |random: &mut Random| match random.below(30) {
         0..=4 => 0x40,
         5..=9 => 0xF0 + random.byte() % 10,
@@ -172,7 +173,7 @@ fn ebcdic(random: &mut Random, length: usize) -> Vec<u8> {
 }
 
 /// Digits, a zero in front, a plus behind.
-fn packed(random: &mut Random, length: usize) -> Vec<u8> {
+pub fn packed(random: &mut Random, length: usize) -> Vec<u8> {
     let mut bytes: Vec<u8> = (0..length)
         .map(|_| (random.below(10) << 4 | random.below(10)) as u8)
         .collect();
@@ -213,7 +214,7 @@ fn utf16(character: char) -> Vec<u8> {
     units.iter().flat_map(|unit| unit.to_be_bytes()).collect()
 }
 
-fn utf8_mixed(random: &mut Random, length: usize) -> Vec<u8> {
+pub fn utf8_mixed(random: &mut Random, length: usize) -> Vec<u8> {
     sampled(random, MIXED, length, utf8)
 }
 
@@ -226,7 +227,7 @@ fn utf16_ascii(random: &mut Random, length: usize) -> Vec<u8> {
     text.into_iter().flat_map(|byte| [0, byte]).collect()
 }
 
-fn utf16_mixed(random: &mut Random, length: usize) -> Vec<u8> {
+pub fn utf16_mixed(random: &mut Random, length: usize) -> Vec<u8> {
     sampled(random, MIXED, length, utf16)
 }
 

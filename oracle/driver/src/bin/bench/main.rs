@@ -2,9 +2,11 @@
 //! lines that have it in their name.
 mod by_value;
 mod inputs;
+mod rows;
 
 use differential::descriptions;
 use differential::descriptions::port_side::AMPLE;
+use differential::descriptions::COLUMN_LIMIT;
 use differential::leaf::{Leaf, TEXT_LIMIT};
 use differential::port_side::{ample, Archive, Library};
 use differential::rust_side;
@@ -28,19 +30,22 @@ struct Line {
     texts: Rc<Vec<Vec<u8>>>,
 }
 
-#[derive(Clone, Copy)]
+#[derive(Clone)]
 enum Call {
     Leaf(Leaf),
     /// Through the boundary: words in a lent buffer.
     Description,
     /// By value: a list of 128 places.
     DescriptionByValue,
+    /// Rows of one column list.
+    Row(rows::Form, Rc<rows::Table>),
 }
 
 /// What is lent to the port.
 struct Lent {
     text: Vec<u8>,
     words: [u64; AMPLE],
+    values: [u64; rows::VALUES],
 }
 
 impl Line {
@@ -59,8 +64,9 @@ struct Times {
 fn main() -> ExitCode {
     let word = std::env::args().nth(1).unwrap_or_default();
     let mut lent = Lent {
-        text: vec![0; ample(TEXT_LIMIT)],
+        text: vec![0; differential::rows::port_side::ample(COLUMN_LIMIT, TEXT_LIMIT)],
         words: [0; AMPLE],
+        values: [0; rows::VALUES],
     };
     println!("{}\n", heading());
     println!("| Call | Bytes | Rust ns | Port ns, any text fits | Ratio | Port ns, buffer exact | Ratio |");
@@ -127,9 +133,9 @@ fn shown(time: f64) -> String {
 /// Whether the two agree on every input of a line, with a buffer where any text fits.
 fn same<'a>(line: &'a Line, lent: &mut Lent) -> Result<(), &'a [u8]> {
     for text in line.texts.iter() {
-        let agree = match line.call {
+        let agree = match &line.call {
             Call::Leaf(Leaf::Likely) => rust_side::likely(text) == (Archive.likely(text) == 1),
-            Call::Leaf(leaf) => {
+            &Call::Leaf(leaf) => {
                 let rust = rust_side::text(leaf, text);
                 let outcome = Archive.write(leaf, text, &mut lent.text[..ample(text.len())]);
                 let written = &lent.text[..outcome.len as usize];
@@ -141,6 +147,7 @@ fn same<'a>(line: &'a Line, lent: &mut Lent) -> Result<(), &'a [u8]> {
                 descriptions::rust_side::describe(text) == port
             }
             Call::DescriptionByValue => by_value::same(text),
+            Call::Row(form, table) => rows::same(*form, table, text, lent),
         };
         if !agree {
             return Err(text);
@@ -151,7 +158,7 @@ fn same<'a>(line: &'a Line, lent: &mut Lent) -> Result<(), &'a [u8]> {
 
 fn measure(line: &Line, lent: &mut Lent) -> Times {
     let texts = &line.texts;
-    let times = match line.call {
+    let times = match &line.call {
         Call::Leaf(Leaf::Likely) => {
             let [rust, port] = by_turns(
                 lent,
@@ -162,9 +169,10 @@ fn measure(line: &Line, lent: &mut Lent) -> Times {
             );
             [rust, port, f64::NAN]
         }
-        Call::Leaf(leaf) => measure_leaf(leaf, texts, lent),
+        &Call::Leaf(leaf) => measure_leaf(leaf, texts, lent),
         Call::Description => measure_description(texts, lent),
         Call::DescriptionByValue => measure_by_value(texts, lent),
+        Call::Row(form, table) => rows::measure(*form, table, texts, lent),
     };
     let [rust, ample, exact] = times.map(|time| time / texts.len() as f64);
     Times {

@@ -1,5 +1,5 @@
-// Inner. What one SDA, or one LID of a D0 group, says: a column, or the environment entry that an SDA after an MDD declares. A column's number
-// is 0 until it is put into a list. It reads no triplets.
+// Inner. What one SDA, or one LID of a D0 group, says: of a column, or of the environment entry that an SDA after an MDD declares; and the column
+// that is made of it. A column's number is 0 until it is put into a list. It reads no triplets.
 use types::ByteOrder;
 use types::ColumnDescriptor;
 use types::Db2Type;
@@ -7,8 +7,9 @@ use types::ReferenceLength;
 ghost use mathlib.Core.Path.{_≡_};
 ghost use Prim.Native.Nat.{_≤_, _<_};
 ghost use lib.ListN.{length};
-ghost use Rattle.column.specs.Column.{be16, field16, referenceLength, column as columnOf, sdaNumbers, sdaType, sdaColumn};
-ghost use Rattle.column.specs.Group.{entryOf, firstEntry, groupType, groupCcsid, undeclaredColumn, declaredColumn, lidColumn};
+ghost use Rattle.column.specs.Column.{be16, field16, referenceLength, sdaNumbers, sdaColumn};
+ghost use Rattle.column.specs.Group.{entryOf, firstEntry, undeclaredColumn, declaredColumn, lidColumn};
+ghost use Rattle.column.specs.Said.{saidColumn, sdaCode, ListedFor, CcsidFor, NullableFor};
 
 // What an MDD and the SDA after it declare of a LID.
 pub struct EnvEntry {
@@ -34,6 +35,34 @@ pub struct Numbers {
     pub scale: u8,
     pub ccsid: u16,
 }
+
+// What an SDA or a LID says of its column, in numbers. `listed` is the code under which the table of from_drda_type has the column's type: it
+// is not always the column's own.
+pub struct Said {
+    pub drda_type: u8,
+    pub listed: u8,
+    pub length: u16,
+    pub numbers: Numbers,
+    pub nullable: bool,
+    pub byte_order: ByteOrder,
+}
+
+// Codes of the table.
+const REAL: u8 = 0x0A;
+
+const DECIMAL: u8 = 0x0C;
+
+const DOUBLE: u8 = 0x0E;
+
+const GRAPHIC: u8 = 0x3C;
+
+const VARGRAPHIC: u8 = 0x3E;
+
+const BINARY: u8 = 0x60;
+
+const VARBINARY: u8 = 0x62;
+
+const CLOB: u8 = 0xCA;
 
 fn be16_of(high: u8, low: u8) -> u16
     ensures { λ r. ⌜ r ≡ be16 high low ⌝ }
@@ -65,24 +94,22 @@ fn declared_lob_reference_length(drda_type: u8, length: u16) -> ReferenceLength
     ReferenceLength::Absent
 }
 
-fn column(
-    drda_type: u8,
-    length: u16,
-    numbers: Numbers,
-    nullable: bool,
-    db2_type: Db2Type,
-    byte_order: ByteOrder,
-) -> ColumnDescriptor
-    ensures { λ r. ⌜ r ≡ columnOf «drda_type» length numbers nullable «db2_type» «byte_order» ⌝ }
+// The column of what is said. It alone looks the type up: the look-up is then compiled into the reader of descriptions.
+pub fn column(said: Said) -> ColumnDescriptor
+    ensures { λ r. ⌜ r ≡ saidColumn said ⌝ }
 {
-    let reference = declared_lob_reference_length(drda_type, length);
+    let numbers = said.numbers;
+    let byte_order = said.byte_order;
+    let reference = declared_lob_reference_length(said.drda_type, said.length);
+    let read = Db2Type::from_drda_type(said.listed, said.length, numbers.precision, numbers.scale);
+    let db2_type = read.db2_type;
     ColumnDescriptor {
         column_index: 0,
-        drda_type,
-        length,
+        drda_type: said.drda_type,
+        length: said.length,
         precision: numbers.precision,
         scale: numbers.scale,
-        nullable,
+        nullable: said.nullable,
         ccsid: numbers.ccsid,
         db2_type,
         extdta_reference_length: reference,
@@ -120,41 +147,39 @@ fn sda_numbers(data: &[u8]) -> Numbers
     }
 }
 
-// The type of an SDA column: CCSID 0 turns CHAR and VARCHAR into BINARY and VARBINARY.
-fn sda_type(code: u8, length: u16, numbers: Numbers) -> Db2Type
-    ensures { λ r. ⌜ r ≡ sdaType code length numbers ⌝ }
+// The code under which the table has an SDA column's type: CCSID 0 turns CHAR and VARCHAR into BINARY and VARBINARY.
+fn sda_code(code: u8, ccsid: u16) -> u8
+    ensures { λ r. ⌜ r ≡ sdaCode code ccsid ⌝ }
 {
-    let read = Db2Type::from_drda_type(code, length, numbers.precision, numbers.scale);
-    let listed = read.db2_type;
     let base = code - code % 2;
-    if numbers.ccsid == 0 {
+    if ccsid == 0 {
         if base == 0x30 {
-            return Db2Type::Binary(length);
+            return BINARY;
         }
         if base == 0x32 {
-            return Db2Type::VarBinary(length);
+            return VARBINARY;
         }
     }
-    listed
+    code
 }
 
-// The column that an SDA with data describes.
-pub fn parse_sda_triplet(data: &[u8]) -> ColumnDescriptor
+// What an SDA with data says of its column.
+pub fn parse_sda_triplet(data: &[u8]) -> Said
     requires { ⌜ 0 < length (now «data») ⌝ }
-    ensures { λ r. ⌜ r ≡ sdaColumn (now («data» .entry)) ⌝ }
+    ensures { λ r. ⌜ saidColumn r ≡ sdaColumn (now («data» .entry)) ⌝ }
 {
     let code = data[0];
     let length = field16_at(data, 1);
     let numbers = sda_numbers(data);
-    let db2_type = sda_type(code, length, numbers);
-    column(
-        code,
+    let listed = sda_code(code, numbers.ccsid);
+    Said {
+        drda_type: code,
+        listed,
         length,
         numbers,
-        code % 2 == 1,
-        db2_type,
-        ByteOrder::LittleEndian,
-    )
+        nullable: code % 2 == 1,
+        byte_order: ByteOrder::LittleEndian,
+    }
 }
 
 // The entry that an SDA declares after an MDD whose last byte is mdd_type.
@@ -169,109 +194,130 @@ pub fn parse_environmental_sda(data: &[u8], mdd_type: u8) -> EnvEntry
     }
 }
 
-// The type of an undeclared LID other than 0E.
-fn compact_gda_descriptor_type(lid: u8, length: u16) -> Db2Type
-    ensures { λ r. ⌜ r ≡ groupType lid length ⌝ }
+// The code under which the table has the type of an undeclared LID other than 0E.
+fn compact_gda_code(lid: u8) -> u8
+    ensures { λ r. ⌜ ListedFor lid r ⌝ }
 {
     let base = lid - lid % 2;
     match base {
-        0x0A => Db2Type::Double,
-        0x0C => Db2Type::Real,
-        0x36 => Db2Type::Graphic(length),
-        0x38 => Db2Type::VarGraphic(length),
-        0x3A => Db2Type::VarGraphic(length),
-        0xCE => Db2Type::Clob,
-        _ => {
-            let read = Db2Type::from_drda_type(lid, length, 0, 0);
-            let db2_type = read.db2_type;
-            db2_type
-        }
+        0x0A => DOUBLE,
+        0x0C => REAL,
+        0x36 => GRAPHIC,
+        0x38 => VARGRAPHIC,
+        0x3A => VARGRAPHIC,
+        0xCE => CLOB,
+        _ => lid,
     }
 }
 
-// The CCSID of an undeclared LID's column.
-fn compact_gda_ccsid(t: Db2Type) -> u16
-    ensures { λ r. ⌜ r ≡ groupCcsid t ⌝ }
+// The CCSID of an undeclared LID's column. The code tells it as the type would, and sooner.
+fn compact_gda_ccsid(lid: u8) -> u16
+    ensures { λ r. ⌜ CcsidFor lid r ⌝ }
 {
-    match t {
-        Db2Type::Char(_)
-        | Db2Type::VarChar(_)
-        | Db2Type::LongVarChar
-        | Db2Type::Clob
-        | Db2Type::ClobLocator
-        | Db2Type::DbClobLocator
-        | Db2Type::LobChar(_)
-        | Db2Type::Date
-        | Db2Type::Time
-        | Db2Type::Timestamp
-        | Db2Type::Xml => 1208,
-        _ => 0,
+    if lid == 0x51 {
+        return 1208;
+    }
+    let base = lid - lid % 2;
+    match base {
+        0x02
+        | 0x04
+        | 0x0A
+        | 0x0C
+        | 0x0E
+        | 0x16
+        | 0x18
+        | 0x1E
+        | 0x36
+        | 0x38
+        | 0x3A
+        | 0x3C
+        | 0x3E
+        | 0x50
+        | 0x60
+        | 0x62
+        | 0xBA
+        | 0xBE
+        | 0xC8
+        | 0xCC => 0,
+        _ => 1208,
     }
 }
 
-fn undeclared_column(lid: u8, first: u8, second: u8) -> ColumnDescriptor
-    ensures { λ r. ⌜ r ≡ undeclaredColumn lid first second ⌝ }
+fn undeclared_lid(lid: u8, first: u8, second: u8) -> Said
+    ensures { λ r. ⌜ saidColumn r ≡ undeclaredColumn lid first second ⌝ }
 {
     let nullable = lid % 2 == 1;
     let base = lid - lid % 2;
     if base == 0x0E {
-        let t = Db2Type::Decimal {
-            precision: first,
-            scale: second,
-        };
         let numbers = Numbers {
             precision: first,
             scale: second,
             ccsid: 0,
         };
-        return column(
-            lid,
-            (first as u16 + 2) / 2,
+        return Said {
+            drda_type: lid,
+            listed: DECIMAL,
+            length: (first as u16 + 2) / 2,
             numbers,
             nullable,
-            t,
-            ByteOrder::BigEndian,
-        );
+            byte_order: ByteOrder::BigEndian,
+        };
     }
+    let listed = compact_gda_code(lid);
     let length = be16_of(first, second);
-    let t = compact_gda_descriptor_type(lid, length);
-    let ccsid = compact_gda_ccsid(t);
+    let ccsid = compact_gda_ccsid(lid);
     let numbers = Numbers {
         precision: 0,
         scale: 0,
         ccsid,
     };
-    column(lid, length, numbers, nullable, t, ByteOrder::BigEndian)
+    Said {
+        drda_type: lid,
+        listed,
+        length,
+        numbers,
+        nullable,
+        byte_order: ByteOrder::BigEndian,
+    }
 }
 
-fn declared_column(entry: EnvEntry, first: u8, second: u8) -> ColumnDescriptor
-    ensures { λ r. ⌜ r ≡ declaredColumn entry first second ⌝ }
+// Whether from_drda_type calls a code nullable.
+fn declared_nullable(code: u8) -> bool
+    ensures { λ r. ⌜ NullableFor code r ⌝ }
+{
+    if code == 0x51 {
+        return false;
+    }
+    code % 2 == 1
+}
+
+fn declared_lid(entry: EnvEntry, first: u8, second: u8) -> Said
+    ensures { λ r. ⌜ saidColumn r ≡ declaredColumn entry first second ⌝ }
 {
     let code = entry.drda_type;
     let length = be16_of(first, second);
-    let read = Db2Type::from_drda_type(code, length, 0, 0);
-    let db2_type = read.db2_type;
+    let nullable = declared_nullable(code);
     let numbers = Numbers {
         precision: 0,
         scale: 0,
         ccsid: entry.ccsid,
     };
-    column(
-        code,
+    Said {
+        drda_type: code,
+        listed: code,
         length,
         numbers,
-        read.nullable,
-        db2_type,
-        ByteOrder::BigEndian,
-    )
+        nullable,
+        byte_order: ByteOrder::BigEndian,
+    }
 }
 
-// The column of a LID of a D0 group and its two attribute bytes. The entry is the environment's for that LID.
-pub fn parse_compact_gda_lid(entry: EnvEntry, lid: u8, first: u8, second: u8) -> ColumnDescriptor
-    ensures { λ r. ⌜ r ≡ lidColumn entry lid first second ⌝ }
+// What a LID of a D0 group and its two attribute bytes say of their column. The entry is the environment's for that LID.
+pub fn parse_compact_gda_lid(entry: EnvEntry, lid: u8, first: u8, second: u8) -> Said
+    ensures { λ r. ⌜ saidColumn r ≡ lidColumn entry lid first second ⌝ }
 {
     if entry.declared {
-        return declared_column(entry, first, second);
+        return declared_lid(entry, first, second);
     }
-    undeclared_column(lid, first, second)
+    undeclared_lid(lid, first, second)
 }

@@ -1,3 +1,4 @@
 pub mod HexLaws
 pub mod PlainText
 pub mod Arms
+pub mod Utf8Texts

@@ -74,3 +74,12 @@ module _ {s d out : List ℕ} {k : ℕ} {env : List EnvEntry} {c : Cursor} (i : 
         let w = stored (stored (i .writing) first (second ∷ wordsFrom (k + 1) (toCome s env n)) split) second (wordsFrom (k + 1) (toCome s env n)) refl in
         let e : 2 * k + 1 + 1 ≡ 2 * (k + 1) = omega arith in
         record { within = g .within; total = omega (arith, i .total, ap length (g .same env)); writing = (rw e at w) }
+
+-- no columns have no words
+pub none-written : (s d : List ℕ) → length (columnsOf s) ≡ 0 → d ≡ written (wordsFrom 0 (columnsOf s)) d
+unfolding packColumns numbered
+none-written s d h = go (columnsOf s) h
+  where
+    go : (cs : List ColumnDescriptor) → length cs ≡ 0 → d ≡ written (wordsFrom 0 cs) d
+    go [] e = refl
+    go (c ∷ cs) e = absurd (omega arith)

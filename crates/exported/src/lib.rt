@@ -129,7 +129,7 @@ pub extern "C" fn vejupa_bytes_are_likely_text(bytes: &[u8]) -> u32
 }
 
 // The columns that a description describes, in order: two words for each, and how many they are. It reads the description twice, to count and
-// to write, and makes no column list.
+// to write (once where it has no columns), and makes no column list.
 #[no_mangle]
 pub extern "C" fn vejupa_parse_qrydsc(data: &[u8], words: &mut [u64], count: &mut u64) -> u32
     ensures number { λ r. ⌜ r ≡ descriptionNumber (description (now («data» .entry))) (now (words .entry)) ⌝ }
@@ -148,7 +148,7 @@ pub extern "C" fn vejupa_parse_qrydsc(data: &[u8], words: &mut [u64], count: &mu
     if words.len() < 2 * n {
         return TOO_FEW_WORDS;
     }
-    description_words::write_columns(data, words);
+    description_words::write_columns(data, n, words);
     0
 }
 

@@ -1,5 +1,7 @@
-// Inner. The parts of a line of the list of stored answers: fields parted by one space, decimal numbers, bytes in upper-case hexadecimal. It
-// knows no kind of line.
+// Inner. The parts of a line of the list of stored answers: fields parted by one space, decimal numbers, bytes in upper-case hexadecimal; and, in
+// `place`, what stands at a place of a line. It knows no kind of line.
+pub mod place;
+
 ghost use mathlib.Core.Path.{_≡_};
 ghost use mathlib.Core.Bool.{true, false};
 ghost use Prim.Native.Nat.{ℕ, _+_, _/_, _%_, _<_, _≤_};
@@ -78,7 +80,7 @@ pub fn field_count(s: &[u8]) -> usize {
 }
 
 // The place behind the first k spaces, or the length of s where there are fewer.
-fn field_start(s: &[u8], k: usize) -> usize
+pub fn field_start(s: &[u8], k: usize) -> usize
     ensures { λ r. ⌜ r ≤ length (now (s .entry)) ⌝ }
 {
     let mut left = k;

@@ -71,15 +71,17 @@ pub fn shortage(rest: &[u8], offset: usize, column: ColumnDescriptor) -> Lacking
         };
     }
     if rest.len() == 0 {
+        let expected = offset + 1;
         return Lacking {
-            expected: offset + 1,
+            expected,
             actual: offset,
         };
     }
     let m = column_need(&rest[1..], column);
+    let actual = rest.len() - 1;
     Lacking {
         expected: m,
-        actual: rest.len() - 1,
+        actual,
     }
 }
 
@@ -135,10 +137,8 @@ pub fn piece_length(rest: &[u8], column: ColumnDescriptor) -> PieceLength
         return PieceLength { used: 1, len: 0 };
     }
     let v = value_length(&rest[1..], column);
-    PieceLength {
-        used: 1 + v.used,
-        len: v.len,
-    }
+    let used = 1 + v.used;
+    PieceLength { used, len: v.len }
 }
 
 // A column's value where it is there, which begins with the first byte, at place `at` of the input.
@@ -199,14 +199,16 @@ pub fn piece_write(
     if !column.nullable {
         return value_write(rest, at, column, next, out);
     }
-    if rest[0] == 0xFF {
+    let indicator = rest[0];
+    if indicator == 0xFF {
         return null_piece();
     }
     let v = value_write(&rest[1..], at + 1, column, next, out);
     let place = v.place;
+    let used = 1 + v.used;
     PieceWritten {
         place,
-        used: 1 + v.used,
+        used,
         written: v.written,
     }
 }

@@ -1,4 +1,4 @@
--- What a caller can rely on in the column list of every answer: its count is within the places, the columns' numbers are 0, 1, .., and the
+-- What a caller can rely on in the column list of every answer: it has all its places, its count is within them, the columns' numbers are 0, 1, .., and the
 -- places after them are blank. Assumes nothing.
 use mathlib.Core.Path.{_≡_, refl, sym, ap, _∙_}
 use mathlib.Core.Bool.{Bool, true, false, cond}
@@ -7,7 +7,7 @@ use Prim.Native.Nat.{ℕ, zero, suc, _+_, _-_, _≤_, _<_}
 use native.Mathlib.Omega.{arith}
 use native.Mathlib.Nat.{not-suc-le-zero, le-of-suc-le-suc}
 use lib.Dec.{ltb}
-use lib.ListN.{length, getD, replicate, List·getD-append, List·getD-eq-default, getD-replicate, length-replicate}
+use lib.ListN.{length, getD, replicate, length-append, List·getD-append, List·getD-eq-default, getD-replicate, length-replicate}
 use lib.Seq.{getD-append-add}
 use borrow.Author.Tests.{ltb-false, leb-true, leb-false}
 use Rattle.types.specs.declared.ColumnDescriptor.{ColumnDescriptor}
@@ -21,6 +21,7 @@ abbrev pub columnAt : Columns → ℕ → ColumnDescriptor
 columnAt c i = getD (c .columns) i blankColumn
 
 pub record Ordered (c : Columns) : Type 0 where
+  pub all-places : length (c .columns) ≡ maxColumns
   pub count-fits : c .count ≤ maxColumns
   pub numbers : (i : ℕ) → i < c .count → columnAt c i .«column_index» ≡ i
   pub blanks : (i : ℕ) → c .count ≤ i → columnAt c i ≡ blankColumn
@@ -46,6 +47,7 @@ unfolding columnList filled
 ordered cs h =
     let l = length-numbered 0 cs in
     record {
+      all-places = omega (arith, length-append (numbered 0 cs) (replicate (maxColumns - length (numbered 0 cs)) blankColumn), length-replicate (maxColumns - length (numbered 0 cs)) blankColumn);
       count-fits = omega arith;
       numbers = λ i k.
           ap (λ (c : ColumnDescriptor). c .«column_index») (List·getD-append (numbered 0 cs) (replicate (maxColumns - length (numbered 0 cs)) blankColumn) blankColumn i k)

@@ -40,7 +40,7 @@ module _ (s : List ℕ) (cs : List ColumnDescriptor) (k : ℕ) (env : List EnvEn
   pub progress-skip : (n : Cursor) → Leads s c (step.Skip n) → Progress s cs k env n
   progress-skip n g = record { within = g .within; same = (rw (g .same env) at (i .same)) }
 
-  pub progress-declared : (l : ℕ) (e : EnvEntry) (n : Cursor) → Leads s c (step.Declare l e n) → Progress s cs k (set env l (firstEntry (getD env l noEntry) e)) n
+  pub progress-declared : (l : ℕ) (e : EnvEntry) (n : Cursor) → Leads s c (step.Declare n e l) → Progress s cs k (set env l (firstEntry (getD env l noEntry) e)) n
   unfolding declare
   progress-declared l e n g = record { within = g .1 .within; same = (rw (g .1 .same env) at (i .same)) }
 

@@ -86,34 +86,20 @@ pub fn parse_qrydsc(data: &[u8]) -> Description
             Step::Skip(next) => {
                 cursor = next;
             }
-            Step::Declare { lid, entry, next } => {
+            Step::Declare { next, entry, lid } => {
                 let place = lid as usize;
                 let known = environment[place];
                 environment[place] = known.first(entry);
                 cursor = next;
             }
-            Step::Column { column, next } => {
+            Step::Column { next, source } => {
                 if MAX_COLUMNS <= count {
                     return refused(Refusal::TooManyColumns);
                 }
-                let mut numbered = column;
-                numbered.column_index = count as u8;
-                columns[count] = numbered;
-                count += 1;
-                cursor = next;
-            }
-            Step::Lid {
-                lid,
-                first,
-                second,
-                next,
-            } => {
-                if MAX_COLUMNS <= count {
-                    return refused(Refusal::TooManyColumns);
-                }
+                let lid = triplets::lid_at(data, source);
                 let place = lid as usize;
                 let entry = environment[place];
-                let mut numbered = column::parse_compact_gda_lid(entry, lid, first, second);
+                let mut numbered = triplets::column_at(data, source, entry);
                 numbered.column_index = count as u8;
                 columns[count] = numbered;
                 count += 1;

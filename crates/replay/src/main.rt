@@ -1,14 +1,24 @@
 // Program. Replays stored answers of the Rust: for each line of standard input, a request and the Rust's answer behind ` A `, it makes the
 // call and compares. It writes a line for each line that differs or is no request, and at the end how many lines there were and how many were
-// the same. The kinds of line: T decode_character_bytes, G decode_graphic_bytes, L bytes_are_likely_text, P decode_packed_decimal.
+// the same. The kinds of line: T decode_character_bytes, G decode_graphic_bytes, L bytes_are_likely_text, P decode_packed_decimal, F fixed_length,
+// Q parse_qrydsc. The row of a Q line is not decoded.
+use answers::columns_at;
+use answers::type_of;
 use buffer::TextAnswer;
 use check::same;
 use lines::answer_start;
 use lines::bytes;
 use lines::field;
 use lines::field_count;
+use lines::field_start;
 use lines::find;
 use lines::number;
+use lines::place::decimal_at;
+use lines::place::text_at;
+use qrydsc::parse_qrydsc;
+use types::Columns;
+use types::FixedLength;
+use words::TypeRead;
 ghost use Prim.Native.Nat.{_≤_};
 ghost use lib.ListN.{length};
 
@@ -218,6 +228,49 @@ fn likely_line(request: &[u8], answer: &[u8], data: &mut [u8]) -> Verdict {
     judged(same(answer, b"0"))
 }
 
+fn length_line(request: &[u8], answer: &[u8]) -> Verdict {
+    if field_count(request) != 2 {
+        return Verdict::NoRequest;
+    }
+    let TypeRead::Known(t) = type_of(field(request, 1)) else {
+        return Verdict::NoRequest;
+    };
+    match t.fixed_length() {
+        FixedLength::Bytes(n) => judged(decimal_at(answer, 0, n as u64) == answer.len()),
+        FixedLength::Varies => judged(same(answer, b"-")),
+    }
+}
+
+// Whether these columns are told: `C`, their number, and each of them.
+fn are_told(columns: Columns, told: &[u8]) -> bool {
+    let count = text_at(told, 0, b"C ");
+    columns_at(told, count, columns) == told.len()
+}
+
+// A line of kind Q: `Q <description> R <row> C <columns>`.
+fn description_line(request: &[u8], answer: &[u8], data: &mut [u8]) -> Verdict {
+    if !same(field(request, 2), b"R") {
+        return Verdict::NoRequest;
+    }
+    let d = bytes(field(request, 1), data);
+    let n = d.value;
+    if !d.valid {
+        return Verdict::NoRequest;
+    }
+    let described = parse_qrydsc(&data[0..n]);
+    let outcome = described.outcome;
+    let columns = described.columns;
+    let refusal = outcome.number();
+    let told = &request[field_start(request, 4)..];
+    if refusal == 0 {
+        return judged(are_told(columns, told));
+    }
+    if !same(told, b"C -") {
+        return Verdict::Differs;
+    }
+    judged(refusal_number(answer) == refusal as usize)
+}
+
 // A line, by its kind. Each kind has a function of its own.
 fn replay_line(line: &[u8], data: &mut [u8], want: &mut [u8], text: &mut [u8]) -> Verdict {
     let a = answer_start(line);
@@ -231,7 +284,9 @@ fn replay_line(line: &[u8], data: &mut [u8], want: &mut [u8], text: &mut [u8]) -
         return Verdict::NoRequest;
     }
     match kind[0] {
+        b'F' => length_line(request, answer),
         b'L' => likely_line(request, answer, data),
+        b'Q' => description_line(request, answer, data),
         b'T' | b'G' | b'P' => text_line(kind[0], request, answer, data, want, text),
         _ => Verdict::NoRequest,
     }

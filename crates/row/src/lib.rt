@@ -134,15 +134,15 @@ fn decode_row_body(data: &[u8], start: usize, columns: Columns, text: &mut [u8])
     let mut places = [blank; MAX_COLUMNS];
     let mut at = start;
     let mut next: usize = 0;
-    let mut i: usize = 0;
-    while i < count {
-        let column = columns.columns[i];
+    let mut k: usize = 0;
+    while k < count {
+        let column = columns.columns[k];
         let p = piece_write(&data[at..], at, column, next, &mut text[next..]);
         let place = p.place;
-        places[i] = place;
+        places[k] = place;
         at += p.used;
         next += p.written;
-        i += 1;
+        k += 1;
     }
     RowAnswer {
         outcome: Outcome::Accepted,

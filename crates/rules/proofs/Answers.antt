@@ -69,7 +69,7 @@ unfolding walkBody
 row-placed cs s d = walk-placed (usedOf (walkRow cs s)) (skipOf s) cs (skipOf s) (drop (skipOf s) s) d refl
 
 -- who holds each sort of value
-number-held : (x : Number) → heldBy (numberValue x) ≡ nowhere
+pub number-held : (x : Number) → heldBy (numberValue x) ≡ nowhere
 number-held (Number.smallInt z) = refl
 number-held (Number.integer z) = refl
 number-held (Number.bigInt z) = refl
@@ -78,11 +78,11 @@ number-held (Number.realNan n) = refl
 number-held (Number.double x) = refl
 number-held (Number.doubleNan n) = refl
 
-part-held : (k : ByteSort) (p : Place) → heldBy (partValue k p) ≡ row p
+pub part-held : (k : ByteSort) (p : Place) → heldBy (partValue k p) ≡ row p
 part-held ByteSort.binary p = refl
 part-held ByteSort.blob p = refl
 
-text-held : (k : TextSort) (p : Place) → heldBy (textValue k p) ≡ textBuffer p
+pub text-held : (k : TextSort) (p : Place) → heldBy (textValue k p) ≡ textBuffer p
 text-held TextSort.decimal p = refl
 text-held TextSort.char p = refl
 text-held TextSort.varChar p = refl

@@ -153,15 +153,14 @@ module _ (L : Conversions) (columns : Columns) where
       let one = call-walked (f .few) (f .plain) (take m s) e (omega (arith, f .fits)) ∙ r .2 in
       (r .0, r .1, ap (answerOf L) one, ap (λ (x : Decision). textAfter L x e) one)
 
-  alone : (s d : List ℕ) → AcceptedRow (answerWith L) (textWith L) columns s d → Alone (answerWith L) (textWith L) columns s d
+  alone : (s d : List ℕ) → answerWith L columns s d .outcome ≡ accepted → Alone (answerWith L) (textWith L) columns s d
   alone s d a e room =
-      let f = facts s d (a .accepts) in
+      let f = facts s d a in
       let n = used-is s d f in
       let k = usedOf (walkRow cs s) in
-      let one : 1 ≤ k = rw n at (a .one) in
       let b = row-used cs s (f .over) in
       subst⁻¹ (λ (i : ℕ). Alike s d (take i s) e) n
-      (same-walk s d (take k s) e f (omega (arith, f .fits, length-take-le k s (b .1))) (row-cuts cs s (a .two) (f .over) one) (take-take k k s (omega arith))
+      (same-walk s d (take k s) e f (omega (arith, f .fits, length-take-le k s (b .1))) (row-cuts cs s (f .over)) (take-take k k s (omega arith))
       (omega (arith, texts-are s d f)))
 
 -- for every choice of the conversions

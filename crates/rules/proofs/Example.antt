@@ -80,4 +80,4 @@ pub shorter : (expected : ℕ) × (actual : ℕ) × (rowAnswer columnsB (take 6 
 shorter = demand3 .shorter columnsB own rowB bufferB accepted-row 6 otherB (omega arith) (omega (arith, answers .1))
 
 pub alone : Same rowAnswer rowText columnsB (take (rowAnswer columnsB rowB bufferB .used) rowB) otherB rowB bufferB
-alone = demand3 .alone columnsB rowB bufferB accepted-row otherB large
+alone = demand3 .alone columnsB rowB bufferB (answers .0) otherB large

@@ -9,3 +9,5 @@ pub mod Demand3
 pub mod Accepted
 pub mod Exceptions
 pub mod Example
+pub mod Utf8Texts
+pub mod FixedLengths

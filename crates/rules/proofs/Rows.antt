@@ -54,6 +54,26 @@ skip-begins s t n two one low fits e = ⊎-elim yes′ no′ (is-255 (getD s 0 0
     no′ : (getD s 0 0 ≡ 255 → ⊥) → skipOf t ≡ skipOf s
     no′ z = skip-none t (λ y. z (sym same ∙ y)) ∙ sym (skip-none s z)
 
+-- and so do the bytes that a row used, taken alone, also where they are fewer than two
+skip-short : (s : List ℕ) → length s < 2 → skipOf s ≡ 0
+unfolding skipOf
+skip-short s h = rw (lt-leb 2 (length s) h)
+
+skip-cut : (s : List ℕ) (n : ℕ) → skipOf s ≤ n → n ≤ length s → skipOf (take n s) ≡ skipOf s
+skip-cut s n low fits = ⊎-elim few many (lt-or-le n 2)
+  where
+    l : length (take n s) ≡ n
+    l = length-take-le n s fits
+
+    many : 2 ≤ n → skipOf (take n s) ≡ skipOf s
+    many h = skip-begins s (take n s) n (omega arith) (omega arith) low fits (take-take n n s (omega arith))
+
+    few : n < 2 → skipOf (take n s) ≡ skipOf s
+    few h = ⊎-elim (λ k. skip-short (take n s) (omega (arith, l)) ∙ sym (skip-short s k)) long (lt-or-le (length s) 2)
+      where
+        long : 2 ≤ length s → skipOf (take n s) ≡ skipOf s
+        long k = skip-short (take n s) (omega (arith, l)) ∙ sym (skip-none s (λ z. omega (arith, skip-two s k z)))
+
 pub skip-append : (s u : List ℕ) → 2 ≤ length s → skipOf (s ++ u) ≡ skipOf s
 unfolding skipOf
 skip-append s u h = rw (le-leb 2 (length s) h, le-leb 2 (length (s ++ u)) (omega (arith, length-append s u)), List·getD-append s u 0 0 (omega arith))
@@ -94,12 +114,12 @@ pub row-stays : (cs : List ColumnDescriptor) → allCarryOwnEnd cs ≡ true → 
     → walkRow cs (s ++ u) ≡ walkRow cs s
 row-stays cs own s u two d = stays-at cs own s u (skip-append s u two) d
 
-pub row-cuts : (cs : List ColumnDescriptor) (s : List ℕ) → 2 ≤ length s → isDone (walkRow cs s) ≡ true → 1 ≤ usedOf (walkRow cs s)
+pub row-cuts : (cs : List ColumnDescriptor) (s : List ℕ) → isDone (walkRow cs s) ≡ true
     → walkRow cs (take (usedOf (walkRow cs s)) s) ≡ walkRow cs s
-row-cuts cs s two d one =
+row-cuts cs s d =
     let n = usedOf (walkRow cs s) in
     let b = row-used cs s d in
-    let k = skip-begins s (take n s) n two one (b .0) (b .1) (take-take n n s (omega arith)) in
+    let k = skip-cut s n (b .0) (b .1) in
     let e = walkRow-at cs s (skipOf s) refl in
     walkRow-at cs (take n s) (skipOf s) k
     ∙ (rw (drop-take (skipOf s) n s))
@@ -112,10 +132,10 @@ row-begins cs own s t two d one e =
     let n = usedOf (walkRow cs s) in
     let b = row-used cs s d in
     let p = take n s in
-    let w = row-cuts cs s two d one in
+    let w = row-cuts cs s d in
     let split : p ++ drop n t ≡ t = ap (λ (l : List ℕ). l ++ drop n t) (sym e) ∙ take-append-drop n t in
     let kt : skipOf t ≡ skipOf s = skip-begins s t n two one (b .0) (b .1) e in
-    let kp : skipOf p ≡ skipOf s = skip-begins s p n two one (b .0) (b .1) (take-take n n s (omega arith)) in
+    let kp : skipOf p ≡ skipOf s = skip-cut s n (b .0) (b .1) in
     ap (walkRow cs) (sym split)
     ∙ stays-at cs own p (drop n t) (ap skipOf split ∙ kt ∙ sym kp) (ap isDone w ∙ d)
     ∙ w

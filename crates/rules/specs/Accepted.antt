@@ -5,9 +5,11 @@ use mathlib.Core.Path.{_≡_}
 use mathlib.Core.List.{List}
 use lib.ListN.{length, getD}
 use Rattle.refusal.specs.Refusal.{accepted}
+use Rattle.unicode.specs.Unicode.{utf8}
+use Rattle.unicode.specs.Laws.{WellFormed, Bytes}
 use Rattle.types.specs.declared.Columns.{Columns}
 use Rattle.types.specs.Places.{maxColumns, blankColumn, blankValue}
-use Rattle.rules.specs.Value.{Holder, nowhere, row, textBuffer, heldBy}
+use Rattle.rules.specs.Value.{Holder, nowhere, row, textBuffer, heldBy, bytesAt}
 use Rattle.rules.specs.Row.{RowTold, covered}
 use Rattle.rules.specs.Sorts.{Allows}
 
@@ -16,6 +18,12 @@ abbrev pub Fits : Holder → List ℕ → List ℕ → Type 0
 Fits nowhere s d = Unit {0}
 Fits (row p) s d = p .start + p .len ≤ length s
 Fits (textBuffer p) s d = p .start + p .len ≤ length d
+
+-- a value's text, where it has one, is well-formed UTF-8 in the text buffer d
+abbrev pub HoldsUtf8 : Holder → List ℕ → Type 0
+HoldsUtf8 nowhere d = Unit {0}
+HoldsUtf8 (row p) d = Unit {0}
+HoldsUtf8 (textBuffer p) d = WellFormed utf8 (bytesAt p d)
 
 module _ (answer : Columns → List ℕ → List ℕ → RowTold) (after : Columns → List ℕ → List ℕ → List ℕ) where
   -- an answer has as many value places as a list has places for columns
@@ -37,3 +45,9 @@ module _ (answer : Columns → List ℕ → List ℕ → RowTold) (after : Colum
   SortsAllowed =
       (columns : Columns) (s d : List ℕ) → answer columns s d .outcome ≡ accepted
       → (i : ℕ) → i < length (covered columns) → Allows (getD (covered columns) i blankColumn) (getD (answer columns s d .places) i blankValue .value)
+
+  -- "Texts come out as UTF-8 bytes": each text of an accepted answer to a row of bytes
+  abbrev pub TextsUtf8 : Type 0
+  TextsUtf8 =
+      (columns : Columns) (s d : List ℕ) → Bytes s → answer columns s d .outcome ≡ accepted
+      → (i : ℕ) → HoldsUtf8 (heldBy (getD (answer columns s d .places) i blankValue .value)) (after columns s d)

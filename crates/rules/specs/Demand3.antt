@@ -56,7 +56,8 @@ module _ (answer : Columns → List ℕ → List ℕ → RowTold) (after : Colum
       (e : List ℕ) → LargeEnough (answer columns s d) e → Same columns (take (answer columns s d .used) s) e s d
 
   -- "Its columns are those that the count covers." The first two are for columns that all carry their own end; the third is for all
+  -- columns, and for every accepted input, also one of fewer than two bytes and one of which none is used
   pub record Demand3 : Type 0 where
     pub longer : (columns : Columns) → allCarryOwnEnd (covered columns) ≡ true → (s d : List ℕ) → AcceptedRow columns s d → Longer columns s d
     pub shorter : (columns : Columns) → allCarryOwnEnd (covered columns) ≡ true → (s d : List ℕ) → AcceptedRow columns s d → Shorter columns s d
-    pub alone : (columns : Columns) (s d : List ℕ) → AcceptedRow columns s d → Alone columns s d
+    pub alone : (columns : Columns) (s d : List ℕ) → answer columns s d .outcome ≡ accepted → Alone columns s d

@@ -38,7 +38,7 @@ sortOf (value.Timestamp p) = some timestamp
 sortOf (value.Boolean b) = some boolean
 sortOf (value.Xml p) = some xml
 
--- the table: the sorts that each type allows besides Null
+-- the table: the sorts that each type allows besides Null. A DecFloat column is refused (5), so none comes of it
 abbrev pub sortsOf : Db2Type → List Sort
 sortsOf type.SmallInt = smallInt ∷ []
 sortsOf type.Integer = integer ∷ []
@@ -46,7 +46,7 @@ sortsOf type.BigInt = bigInt ∷ []
 sortsOf type.Real = real ∷ []
 sortsOf type.Double = double ∷ []
 sortsOf (type.Decimal precision scale) = decimal ∷ []
-sortsOf (type.DecFloat digits) = decimal ∷ []
+sortsOf (type.DecFloat digits) = []
 sortsOf (type.Char n) = char ∷ []
 sortsOf (type.VarChar n) = varChar ∷ clob ∷ []
 sortsOf type.LongVarChar = varChar ∷ []

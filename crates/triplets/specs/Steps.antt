@@ -8,12 +8,15 @@ use lib.ListN.{length, getD}
 use lib.Seq.{slice}
 use Rattle.types.specs.declared.ColumnDescriptor.{ColumnDescriptor}
 use Rattle.column.specs.declared.EnvEntry.{EnvEntry}
+use Rattle.column.specs.Column.{sdaColumn}
 use Rattle.column.specs.Group.{noEntry, lidColumn}
 use Rattle.triplets.specs.declared.Pending.the-variants as pending
 use Rattle.triplets.specs.declared.Next.{Next}
 use Rattle.triplets.specs.declared.Next.the-variants as next
 use Rattle.triplets.specs.declared.Cursor.{Cursor}
 use Rattle.triplets.specs.declared.Cursor.the-variants as cursor
+use Rattle.triplets.specs.declared.Source.{Source}
+use Rattle.triplets.specs.declared.Source.the-variants as source
 use Rattle.triplets.specs.declared.Step.{Step}
 use Rattle.triplets.specs.declared.Step.the-variants as step
 use Rattle.triplets.specs.Triplets.{Triplet, begins, reading}
@@ -49,6 +52,22 @@ ahead s (cursor.Outer p at) = 2 * (length s - at)
 ahead s (cursor.Lids at e) = 2 * (length s - at) + 1
 ahead s (cursor.Inner at e) = 2 * (length s - at) + 1
 
+-- where a column is described: its first byte, whether it is there, and the column, of which e is the environment's entry
+abbrev pub startOf : Source → ℕ
+startOf (source.Sda a e) = a
+startOf (source.Lid a) = a
+
+abbrev pub SourceWithin : List ℕ → Source → Type 0
+SourceWithin s (source.Sda a e) = (a < e) × (e ≤ length s)
+SourceWithin s (source.Lid a) = a + 2 < length s
+
+abbrev pub columnAt : List ℕ → EnvEntry → Source → ColumnDescriptor
+columnAt s entry (source.Sda a e) = sdaColumn (slice a e s)
+columnAt s entry (source.Lid a) = lidColumn entry (getD s a 0) (getD s (a + 1) 0) (getD s (a + 2) 0)
+
+abbrev pub columnIn : List ℕ → List EnvEntry → Source → ColumnDescriptor
+columnIn s env f = columnAt s (getD env (getD s (startOf f) 0) noEntry) f
+
 -- from the cursor c to the cursor n: what was to come at c, in an environment, is now `rest`
 pub record Goes (s : List ℕ) (c n : Cursor) (rest : List EnvEntry → List ColumnDescriptor) : Type 0 where
   pub within : Within s n
@@ -59,6 +78,5 @@ pub record Goes (s : List ℕ) (c n : Cursor) (rest : List EnvEntry → List Col
 abbrev pub Leads : List ℕ → Cursor → Step → Type 0
 Leads s c step.End = (env : List EnvEntry) → toCome s env c ≡ []
 Leads s c (step.Skip n) = Goes s c n (λ env. toCome s env n)
-Leads s c (step.Declare l e n) = (l < 256) × Goes s c n (λ env. toCome s (declare env l e) n)
-Leads s c (step.Column d n) = Goes s c n (λ env. d ∷ toCome s env n)
-Leads s c (step.Lid l a b n) = (l < 256) × Goes s c n (λ env. lidColumn (getD env l noEntry) l a b ∷ toCome s env n)
+Leads s c (step.Declare n e l) = (l < 256) × Goes s c n (λ env. toCome s (declare env l e) n)
+Leads s c (step.Column n f) = SourceWithin s f × Goes s c n (λ env. columnIn s env f ∷ toCome s env n)

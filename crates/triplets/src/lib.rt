@@ -1,14 +1,18 @@
-// Inner. The triplets of a description, a step at a time: a step gives a column, a LID of a D0 group, an environment entry to keep, or nothing of
-// these. It holds neither the columns nor the environment: its caller keeps both, in arrays of its own.
+// Inner. The triplets of a description, a step at a time: a step tells where a column is described, gives an environment entry to keep, or does
+// neither. It holds neither the columns nor the environment: its caller keeps both, in arrays of its own.
 use column::EnvEntry;
+use column::Said;
 use types::ColumnDescriptor;
 ghost use mathlib.Core.Path.{_≡_};
-ghost use Prim.Native.Nat.{_≤_};
-ghost use lib.ListN.{length};
+ghost use Prim.Native.Nat.{_+_, _≤_, _<_};
+ghost use lib.ListN.{length, getD};
 ghost use lib.Seq.{slice};
+ghost use Rattle.column.specs.Column.{sdaColumn};
+ghost use Rattle.column.specs.Said.{saidColumn};
 ghost use Rattle.triplets.specs.declared.Cursor.{Cursor};
+ghost use Rattle.triplets.specs.declared.Source.{Source};
 ghost use Rattle.triplets.specs.Descriptors.{lastOf};
-ghost use Rattle.triplets.specs.Steps.{nextOf, groupAt, Within, Leads};
+ghost use Rattle.triplets.specs.Steps.{nextOf, groupAt, Within, startOf, SourceWithin, columnAt, Leads};
 
 const TRIPLET_TYPE_SDA: u8 = 0x70;
 
@@ -30,35 +34,36 @@ pub enum Cursor {
     Inner { at: usize, end: usize },
 }
 
-// What stands at a cursor, and the cursor after it. A column's number is still 0.
+// Where a column is described: the data of an SDA, or the LID of a D0 group with its two attribute bytes.
+pub enum Source {
+    Sda { start: usize, end: usize },
+    Lid { start: usize },
+}
+
+// What stands at a cursor, and the cursor after it. The cursor comes first: so it has the same bytes in each variant, and is not moved through
+// memory.
 pub enum Step {
     End,
     Skip(Cursor),
     Declare {
-        lid: u8,
-        entry: EnvEntry,
         next: Cursor,
+        entry: EnvEntry,
+        lid: u8,
     },
     Column {
-        column: ColumnDescriptor,
         next: Cursor,
-    },
-    Lid {
-        lid: u8,
-        first: u8,
-        second: u8,
-        next: Cursor,
+        source: Source,
     },
 }
 
 // The triplet that begins at a place, up to its end, or that none does.
-enum Next {
+pub enum Next {
     Nothing,
     Triplet { kind: u8, end: usize },
 }
 
 // The triplet at a place of a part that ends at `end`, where at least `least` bytes remain.
-fn next_triplet(data: &[u8], at: usize, end: usize, least: usize) -> Next
+pub fn next_triplet(data: &[u8], at: usize, end: usize, least: usize) -> Next
     requires { ⌜ (at ≤ end) × (end ≤ length (now «data»)) ⌝ }
     requires { ⌜ 2 ≤ least ⌝ }
     ensures { λ r. ⌜ r ≡ nextOf least (slice at end (now («data» .entry))) at ⌝ }
@@ -81,7 +86,7 @@ fn next_triplet(data: &[u8], at: usize, end: usize, least: usize) -> Next
 }
 
 // What an MDD leaves.
-fn pending_of(data: &[u8], start: usize, end: usize) -> Pending
+pub fn pending_of(data: &[u8], start: usize, end: usize) -> Pending
     requires { ⌜ (start ≤ end) × (end ≤ length (now «data»)) ⌝ }
     ensures { λ r. ⌜ r ≡ lastOf (slice start end (now («data» .entry))) ⌝ }
 {
@@ -120,24 +125,23 @@ fn outer_step(data: &[u8], at: usize, pending: Pending) -> Step
             });
         }
         let Pending::Type(mdd) = pending else {
-            let column = column::parse_sda_triplet(&data[start..end]);
             return Step::Column {
-                column,
                 next: Cursor::Outer {
                     at: end,
                     pending: Pending::Nothing,
                 },
+                source: Source::Sda { start, end },
             };
         };
         let entry = column::parse_environmental_sda(&data[start..end], mdd);
         let lid = data[start];
         return Step::Declare {
-            lid,
-            entry,
             next: Cursor::Outer {
                 at: end,
                 pending: Pending::Nothing,
             },
+            entry,
+            lid,
         };
     }
     if kind == TRIPLET_TYPE_GDA {
@@ -168,11 +172,9 @@ fn lid_step(data: &[u8], at: usize, end: usize) -> Step
             pending: Pending::Nothing,
         });
     }
-    Step::Lid {
-        lid: data[at],
-        first: data[at + 1],
-        second: data[at + 2],
+    Step::Column {
         next: Cursor::Lids { at: at + 3, end },
+        source: Source::Lid { start: at },
     }
 }
 
@@ -189,10 +191,9 @@ fn inner_step(data: &[u8], at: usize, end: usize) -> Step
     let start = at + 2;
     if kind == TRIPLET_TYPE_SDA {
         if start < after {
-            let column = column::parse_sda_triplet(&data[start..after]);
             return Step::Column {
-                column,
                 next: Cursor::Inner { at: after, end },
+                source: Source::Sda { start, end: after },
             };
         }
     }
@@ -209,4 +210,48 @@ pub fn next_step(data: &[u8], cursor: Cursor) -> Step
         Cursor::Lids { at, end } => lid_step(data, at, end),
         Cursor::Inner { at, end } => inner_step(data, at, end),
     }
+}
+
+// The LID of a column, or the type code of an SDA: the place of the environment whose entry the column may need.
+pub fn lid_at(data: &[u8], source: Source) -> u8
+    requires { ⌜ SourceWithin (now «data») source ⌝ }
+    ensures { λ r. ⌜ r ≡ getD (now («data» .entry)) (startOf source) 0 ⌝ }
+{
+    match source {
+        Source::Sda { start, end: _ } => data[start],
+        Source::Lid { start } => data[start],
+    }
+}
+
+fn sda_said(data: &[u8], start: usize, end: usize) -> Said
+    requires { ⌜ (start < end) × (end ≤ length (now «data»)) ⌝ }
+    ensures { λ r. ⌜ saidColumn r ≡ sdaColumn (slice start end (now («data» .entry))) ⌝ }
+{
+    column::parse_sda_triplet(&data[start..end])
+}
+
+fn lid_said(data: &[u8], start: usize, entry: EnvEntry) -> Said
+    requires { ⌜ start + 2 < length (now «data») ⌝ }
+    ensures { λ r. ⌜ saidColumn r ≡ columnAt (now («data» .entry)) entry (Source.Lid start) ⌝ }
+{
+    column::parse_compact_gda_lid(entry, data[start], data[start + 1], data[start + 2])
+}
+
+fn said_at(data: &[u8], source: Source, entry: EnvEntry) -> Said
+    requires { ⌜ SourceWithin (now «data») source ⌝ }
+    ensures { λ r. ⌜ saidColumn r ≡ columnAt (now («data» .entry)) entry source ⌝ }
+{
+    match source {
+        Source::Sda { start, end } => sda_said(data, start, end),
+        Source::Lid { start } => lid_said(data, start, entry),
+    }
+}
+
+// The column that is described there. The entry is the environment's for its LID.
+pub fn column_at(data: &[u8], source: Source, entry: EnvEntry) -> ColumnDescriptor
+    requires { ⌜ SourceWithin (now «data») source ⌝ }
+    ensures { λ r. ⌜ r ≡ columnAt (now («data» .entry)) entry source ⌝ }
+{
+    let said = said_at(data, source, entry);
+    column::column(said)
 }

@@ -2,6 +2,7 @@
 //! still needs a pointer that is not null, and Rust's own, dangling, is one. Every entry that writes a text answers a number
 //! (0 accepted, else the refusal's) and a length (the bytes written; for refusal 9 the bytes needed; else 0).
 pub mod column;
+pub mod value;
 
 mod foreign {
     unsafe extern "C" {
@@ -53,6 +54,18 @@ mod foreign {
             count: *mut u64,
         ) -> u32;
         pub fn vejupa_fixed_length(type_word: u64, fixed: *mut u64, length: *mut u64) -> u32;
+        pub fn vejupa_decode_row(
+            columns: *const u64,
+            columns_length: usize,
+            data: *const u8,
+            data_length: usize,
+            values: *mut u64,
+            values_length: usize,
+            text: *mut u8,
+            text_length: usize,
+            first: *mut u64,
+            second: *mut u64,
+        ) -> u32;
     }
 }
 
@@ -151,6 +164,9 @@ pub const TOO_FEW_WORDS: u32 = 101;
 /// A word is no type word.
 pub const NO_TYPE_WORD: u32 = 102;
 
+/// Two words are no column's, or one is left over.
+pub const NO_COLUMN_WORDS: u32 = 102;
+
 /// What vejupa_parse_qrydsc answers beside the words.
 #[derive(Debug, Clone, Copy, PartialEq, Eq)]
 pub struct Described {
@@ -194,5 +210,41 @@ pub fn fixed_length(type_word: u64) -> FixedLength {
         number,
         fixed,
         length,
+    }
+}
+
+/// What vejupa_decode_row answers beside the values and the texts.
+#[derive(Debug, Clone, Copy, PartialEq, Eq)]
+pub struct Decoded {
+    /// 0 accepted, else the refusal's number, TOO_FEW_WORDS or NO_COLUMN_WORDS.
+    pub number: u32,
+    /// Accepted: the bytes used. Refusal 8: the bytes expected. Refusal 9: the texts' bytes. TOO_FEW_WORDS: the words needed. Else 0.
+    pub first: u64,
+    /// Accepted: the bytes of text written. Refusal 8: the bytes that are there. Else 0.
+    pub second: u64,
+}
+
+/// Column k stands in the words 2 k and 2 k + 1; its value takes the words 3 k to 3 k + 2.
+pub fn decode_row(columns: &[u64], data: &[u8], values: &mut [u64], text: &mut [u8]) -> Decoded {
+    let mut first = u64::MAX;
+    let mut second = u64::MAX;
+    let number = unsafe {
+        foreign::vejupa_decode_row(
+            columns.as_ptr(),
+            columns.len(),
+            data.as_ptr(),
+            data.len(),
+            values.as_mut_ptr(),
+            values.len(),
+            text.as_mut_ptr(),
+            text.len(),
+            &mut first,
+            &mut second,
+        )
+    };
+    Decoded {
+        number,
+        first,
+        second,
     }
 }

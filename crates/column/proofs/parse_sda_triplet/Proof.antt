@@ -1,8 +1,12 @@
--- `column::parse_sda_triplet` meets its contract: each way out rewrites with its tests, and with what the callees ensure. Assumes nothing.
+-- `column::parse_sda_triplet` meets its contract: its type stands in the table. Assumes nothing.
 use Rattle.column.specs.Column.{sdaColumn}
+use Rattle.column.proofs.Listed.{sda-listed}
 use borrow.Author.Needs.{needs}
 use Rattle.column.proofs.parse_sda_triplet.Statement.{statement}
 use Rattle.column.proofs.parse_sda_triplet.Tie as tie
+use Rattle.column.proofs.field16_at.Reads as field16-at-reads
+use Rattle.column.proofs.sda_code.Reads as sda-code-reads
+use Rattle.column.proofs.sda_numbers.Reads as sda-numbers-reads
 
 shared-slice-read-code : tie.Need-shared-slice-read-code
 shared-slice-read-code c = search needs
@@ -13,15 +17,12 @@ field16-at-requires c κs = search needs
 sda-numbers-requires : tie.Need-sda-numbers-requires
 sda-numbers-requires c κs = search needs
 
-sda-type-requires : tie.Need-sda-type-requires
-sda-type-requires c κs = search needs
-
-column-requires : tie.Need-column-requires
-column-requires c κs = search needs
+sda-code-requires : tie.Need-sda-code-requires
+sda-code-requires c κs = search needs
 
 returns : tie.Need-returns
 unfolding sdaColumn
-returns c = rw (c .column .ensures, c .before .sda-type .ensures, c .before .before .sda-numbers .ensures, c .before .before .before .field16-at .ensures)
+returns c = rw (c .sda-code .ensures, c .before .sda-numbers .ensures, c .before .before .field16-at .ensures, sda-listed)
 
 pub parse-sda-triplet-spec : {M : Type 1} → statement M
 parse-sda-triplet-spec =
@@ -30,6 +31,5 @@ parse-sda-triplet-spec =
     shared-slice-read-code
     field16-at-requires
     sda-numbers-requires
-    sda-type-requires
-    column-requires
+    sda-code-requires
     returns)

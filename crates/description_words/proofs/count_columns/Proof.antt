@@ -1,86 +1,88 @@
--- `description_words::count_columns` meets its contract: a law for each sort of step. Assumes nothing.
-use borrow.Author.Needs.{needs}
+-- `description_words::count_columns` meets its contract: a law for each turn. Assumes nothing.
+use native.Mathlib.Omega.{arith}
 use denote.Ref.{now}
-use Rattle.triplets.specs.Steps.{ahead}
-use Rattle.description_words.proofs.Counting.{Counting, counting-start, counting-end, counting-full, counting-on, counting-column}
+use Prim.Native.Nat.{_+_, _-_}
+use lib.ListN.{length}
+use Rattle.triplets.proofs.ReadingLaws.{next-none, next-some}
+use Rattle.description_words.proofs.Counting.{Counting, counting-start, counting-end, counting-full, counting-more}
+use borrow.Author.Needs.{needs}
 use Rattle.description_words.proofs.count_columns.Statement.{statement}
 use Rattle.description_words.proofs.count_columns.Tie as tie
+use Rattle.description_words.proofs.count_triplet.Reads as count-triplet-reads
+use Rattle.description_words.proofs.pending_after.Reads as pending-after-reads
+use Rattle.triplets.proofs.next_triplet.Reads as next-triplet-reads
 
 abbrev Inv-loop : tie.InvT-loop
-Inv-loop «data» count₀ cursor₀ count cursor = Counting «data» count cursor
+Inv-loop «data» count₀ at₀ pending₀ count at pending = Counting «data» count at pending
 
 abbrev μ-loop : tie.MeasureT-loop
-μ-loop «data» count₀ cursor₀ count cursor = ahead «data» cursor
+μ-loop «data» count₀ at₀ pending₀ count at pending = length «data» - at
 
 loop-holds : tie.Need-loop-holds Inv-loop μ-loop
 loop-holds c = counting-start (now (c .before .args .«data»))
 
-next-step-requires : tie.Need-next-step-requires Inv-loop μ-loop
-next-step-requires c κs = c .before .loop .inv .within
+next-triplet-requires : tie.Need-next-triplet-requires Inv-loop μ-loop
+next-triplet-requires c κs = ((c .before .loop .inv .within, omega arith), omega arith)
+
+enum-known-kind : tie.Need-enum-known-kind Inv-loop μ-loop
+enum-known-kind c = search needs
 
 enum-told : tie.Need-enum-told Inv-loop μ-loop
 enum-told c = search needs
 
 returns : tie.Need-returns Inv-loop μ-loop
-returns c = counting-end (c .before .before .before .before .loop .inv) (rw (c .enum-told .given .1) at (c .before .before .next-step .ensures))
+returns c =
+    let s = now (c .before .before .before .before .before .before .args .«data») in
+    let l = c .before .before .before .before .loop in
+    counting-end (l .inv) (next-none 2 s (l .at) (length s) (c .before .before .next-triplet .ensures) (c .enum-told .given .1))
 
-enum-known-next : tie.Need-enum-known-next Inv-loop μ-loop
-enum-known-next c = search needs
+add-start : tie.Need-add-start Inv-loop μ-loop
+add-start c =
+    let a = c .before .before .before .before .before .before .before .args in
+    let s = now (a .«data») in
+    let l = c .before .before .before .before .before .loop in
+    let f = next-some 2 s (l .at) (length s) (c .before .before .before .next-triplet .ensures) _ _ (l .inv .within) (omega arith) (c .before .kind .given .1) in
+    omega (arith, f .low, f .high)
+
+count-triplet-requires : tie.Need-count-triplet-requires Inv-loop μ-loop
+count-triplet-requires c κs =
+    let a = c .before .before .before .before .before .before .before .args in
+    let s = now (a .«data») in
+    let l = c .before .before .before .before .before .loop in
+    let f = next-some 2 s (l .at) (length s) (c .before .before .before .next-triplet .ensures) _ _ (l .inv .within) (omega arith) (c .before .kind .given .1) in
+    (f .low, f .high)
+
+add-count : tie.Need-add-count Inv-loop μ-loop
+add-count c =
+    let a = c .before .before .before .before .before .before .before .before .args in
+    let s = now (a .«data») in
+    let l = c .before .before .before .before .before .before .loop in
+    let f = next-some 2 s (l .at) (length s) (c .before .before .before .before .next-triplet .ensures) _ _ (l .inv .within) (omega arith) (c .before .before .kind .given .1) in
+    omega (arith, f .low, f .high, l .inv .few, c .count-triplet .ensures .few)
+
+pending-after-requires : tie.Need-pending-after-requires Inv-loop μ-loop
+pending-after-requires c κs =
+    let a = c .before .before .before .before .before .before .before .before .args in
+    let s = now (a .«data») in
+    let l = c .before .before .before .before .before .before .loop in
+    let f = next-some 2 s (l .at) (length s) (c .before .before .before .before .next-triplet .ensures) _ _ (l .inv .within) (omega arith) (c .before .before .kind .given .1) in
+    (f .low, f .high)
 
 loop-less : tie.Need-loop-less Inv-loop μ-loop
 loop-less c =
-    let g = (rw (c .before .next .given .1) at (c .before .before .before .next-step .ensures)) in
-    g .less
+    let a = c .before .before .before .before .before .before .before .before .before .args in
+    let s = now (a .«data») in
+    let l = c .before .before .before .before .before .before .before .loop in
+    let f = next-some 2 s (l .at) (length s) (c .before .before .before .before .before .next-triplet .ensures) _ _ (l .inv .within) (omega arith) (c .before .before .before .kind .given .1) in
+    omega (arith, f .low, f .high)
 
 loop-again : tie.Need-loop-again Inv-loop μ-loop
 loop-again c =
-    let g = (rw (c .before .next .given .1) at (c .before .before .before .next-step .ensures)) in
-    counting-on (c .before .before .before .before .before .loop .inv) _ g
-
-enum-known-next-2 : tie.Need-enum-known-next-2 Inv-loop μ-loop
-enum-known-next-2 c = search needs
-
-loop-less-2 : tie.Need-loop-less-2 Inv-loop μ-loop
-loop-less-2 c =
-    let g = (rw (c .before .next2 .given .1) at (c .before .before .before .next-step .ensures)) in
-    g .1 .less
-
-loop-again-2 : tie.Need-loop-again-2 Inv-loop μ-loop
-loop-again-2 c =
-    let g = (rw (c .before .next2 .given .1) at (c .before .before .before .next-step .ensures)) in
-    counting-on (c .before .before .before .before .before .loop .inv) _ (g .1)
-
-enum-known-next-3 : tie.Need-enum-known-next-3 Inv-loop μ-loop
-enum-known-next-3 c = search needs
-
-add-count : tie.Need-add-count Inv-loop μ-loop
-add-count c = search needs
-
-loop-less-3 : tie.Need-loop-less-3 Inv-loop μ-loop
-loop-less-3 c =
-    let g = (rw (c .before .next3 .given .1) at (c .before .before .before .next-step .ensures)) in
-    g .less
-
-loop-again-3 : tie.Need-loop-again-3 Inv-loop μ-loop
-loop-again-3 c =
-    let g = (rw (c .before .next3 .given .1) at (c .before .before .before .next-step .ensures)) in
-    counting-column (c .before .before .before .before .before .loop .inv) _ g (c .before .before .before .before .loop-test .taken)
-
-enum-known-next-4 : tie.Need-enum-known-next-4 Inv-loop μ-loop
-enum-known-next-4 c = search needs
-
-add-count-2 : tie.Need-add-count-2 Inv-loop μ-loop
-add-count-2 c = search needs
-
-loop-less-4 : tie.Need-loop-less-4 Inv-loop μ-loop
-loop-less-4 c =
-    let g = (rw (c .before .next4 .given .1) at (c .before .before .before .next-step .ensures)) in
-    g .1 .less
-
-loop-again-4 : tie.Need-loop-again-4 Inv-loop μ-loop
-loop-again-4 c =
-    let g = (rw (c .before .next4 .given .1) at (c .before .before .before .next-step .ensures)) in
-    counting-column (c .before .before .before .before .before .loop .inv) _ (g .1) (c .before .before .before .before .loop-test .taken)
+    let a = c .before .before .before .before .before .before .before .before .before .args in
+    let s = now (a .«data») in
+    let l = c .before .before .before .before .before .before .before .loop in
+    let f = next-some 2 s (l .at) (length s) (c .before .before .before .before .before .next-triplet .ensures) _ _ (l .inv .within) (omega arith) (c .before .before .before .kind .given .1) in
+    rw (c .pending-after .ensures) (counting-more (l .inv) _ _ _ f (c .before .count-triplet .ensures))
 
 returns-2 : tie.Need-returns-2 Inv-loop μ-loop
 returns-2 c = counting-full (c .before .loop .inv) (c .loop-test .left)
@@ -92,21 +94,14 @@ count-columns-spec =
     Inv-loop
     μ-loop
     loop-holds
-    next-step-requires
+    next-triplet-requires
+    enum-known-kind
     enum-told
     returns
-    enum-known-next
+    add-start
+    count-triplet-requires
+    add-count
+    pending-after-requires
     loop-less
     loop-again
-    enum-known-next-2
-    loop-less-2
-    loop-again-2
-    enum-known-next-3
-    add-count
-    loop-less-3
-    loop-again-3
-    enum-known-next-4
-    add-count-2
-    loop-less-4
-    loop-again-4
     returns-2)

@@ -24,7 +24,7 @@ returns-3 c = too-few (now (c .before .before .before .before .before .before .a
 write-columns-requires : tie.Need-write-columns-requires
 write-columns-requires c κs =
     let e = c .before .before .before .count-columns .ensures .all (c .before .before .if2 .left) in
-    (omega arith, omega arith)
+    (e, (c .before .before .if2 .left, omega arith))
 
 same-length : tie.Need-same-length
 same-length c = search needs

@@ -32,8 +32,8 @@ part-value-length-end c = search needs
 value-length-requires-2 : tie.Need-value-length-requires-2
 value-length-requires-2 c κs = rw (rest-of (now (c .before .before .before .before .before .before .args .rest))) (omega (arith, value-need (c .before .before .before .before .before .before .args .column) (c .before .before .before .if1 .left) (now (c .before .before .before .before .before .before .args .rest)) (omega (arith, some-need (c .before .before .before .before .before .before .args .column) (c .before .before .before .if1 .left) (now (c .before .before .before .before .before .before .args .rest)), c .before .before .before .before .before .before .pre .0)) (c .before .if2 .left), length-drop 1 (now (c .before .before .before .before .before .before .args .rest)), c .before .before .before .before .before .before .pre .0), omega (arith, length-drop 1 (now (c .before .before .before .before .before .before .args .rest)), c .before .before .before .before .before .before .pre .1))
 
-add-t8 : tie.Need-add-t8
-add-t8 c = let u = rw (rest-of (now (c .before .before .before .before .before .before .before .before .args .rest))) at (c .before .value-length2 .ensures .0) in record { fits = omega (arith, u, value-need (c .before .before .before .before .before .before .before .before .args .column) (c .before .before .before .before .before .if1 .left) (now (c .before .before .before .before .before .before .before .before .args .rest)) (omega (arith, some-need (c .before .before .before .before .before .before .before .before .args .column) (c .before .before .before .before .before .if1 .left) (now (c .before .before .before .before .before .before .before .before .args .rest)), c .before .before .before .before .before .before .before .before .pre .0)) (c .before .before .before .if2 .left), c .before .before .before .before .before .before .before .before .pre .0, c .before .before .before .before .before .before .before .before .pre .1) }
+add-used : tie.Need-add-used
+add-used c = let u = rw (rest-of (now (c .before .before .before .before .before .before .before .before .args .rest))) at (c .before .value-length2 .ensures .0) in record { fits = omega (arith, u, value-need (c .before .before .before .before .before .before .before .before .args .column) (c .before .before .before .before .before .if1 .left) (now (c .before .before .before .before .before .before .before .before .args .rest)) (omega (arith, some-need (c .before .before .before .before .before .before .before .before .args .column) (c .before .before .before .before .before .if1 .left) (now (c .before .before .before .before .before .before .before .before .args .rest)), c .before .before .before .before .before .before .before .before .pre .0)) (c .before .before .before .if2 .left), c .before .before .before .before .before .before .before .before .pre .0, c .before .before .before .before .before .before .before .before .pre .1) }
 
 returns-3 : tie.Need-returns-3
 returns-3 c = let u = rw (rest-of (now (c .before .before .before .before .before .before .before .before .args .rest))) at (c .before .value-length2 .ensures) in (omega (arith, u .0, value-need (c .before .before .before .before .before .before .before .before .args .column) (c .before .before .before .before .before .if1 .left) (now (c .before .before .before .before .before .before .before .before .args .rest)) (omega (arith, some-need (c .before .before .before .before .before .before .before .before .args .column) (c .before .before .before .before .before .if1 .left) (now (c .before .before .before .before .before .before .before .before .args .rest)), c .before .before .before .before .before .before .before .before .pre .0)) (c .before .before .before .if2 .left)), u .1 ∙ ap length (sym (value-text (c .before .before .before .before .before .before .before .before .args .column) (c .before .before .before .before .before .if1 .left) (now (c .before .before .before .before .before .before .before .before .args .rest)) (omega (arith, some-need (c .before .before .before .before .before .before .before .before .args .column) (c .before .before .before .before .before .if1 .left) (now (c .before .before .before .before .before .before .before .before .args .rest)), c .before .before .before .before .before .before .before .before .pre .0)) (c .before .before .before .if2 .left))))
@@ -50,5 +50,5 @@ piece-length-spec =
     part-value-length-start
     part-value-length-end
     value-length-requires-2
-    add-t8
+    add-used
     returns-3)

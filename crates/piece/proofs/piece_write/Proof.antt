@@ -23,8 +23,8 @@ same-length c = search needs
 returns : tie.Need-returns
 returns c = (c .before .before .value-write .ensures .0 ∙ ap (λ (p : Piece). pieceValue ported p (c .before .before .before .before .before .before .before .before .args .next)) (sym (plain-piece (c .before .before .before .before .before .before .before .before .args .column) (c .before .before .before .before .if1 .taken) (now (c .before .before .before .before .before .before .before .before .args .rest)) (c .before .before .before .before .before .before .before .before .args .at))), (c .before .before .value-write .ensures .1 .0 ∙ sym (plain-need (c .before .before .before .before .before .before .before .before .args .column) (c .before .before .before .before .if1 .taken) (now (c .before .before .before .before .before .before .before .before .args .rest))), (c .before .before .value-write .ensures .1 .1 .0 ∙ ap length (sym (plain-text (c .before .before .before .before .before .before .before .before .args .column) (c .before .before .before .before .if1 .taken) (now (c .before .before .before .before .before .before .before .before .args .rest)))), c .before .before .value-write .ensures .1 .1 .1 ∙ ap (λ (t : List ℕ). written t (now (c .before .before .before .before .before .before .before .before .args .out))) (sym (plain-text (c .before .before .before .before .before .before .before .before .args .column) (c .before .before .before .before .if1 .taken) (now (c .before .before .before .before .before .before .before .before .args .rest)))))))
 
-shared-slice-read-if2 : tie.Need-shared-slice-read-if2
-shared-slice-read-if2 c = omega (arith, some-need (c .before .before .before .before .before .args .column) (c .before .if1 .left) (now (c .before .before .before .before .before .args .rest)), c .before .before .before .before .before .pre .0)
+shared-slice-read-indicator : tie.Need-shared-slice-read-indicator
+shared-slice-read-indicator c = omega (arith, some-need (c .before .before .before .before .before .args .column) (c .before .if1 .left) (now (c .before .before .before .before .before .args .rest)), c .before .before .before .before .before .pre .0)
 
 null-piece-requires : tie.Need-null-piece-requires
 null-piece-requires c κs = search needs
@@ -48,8 +48,8 @@ add-value-write c = record { fits = omega (arith, c .before .before .before .bef
 value-write-requires-2 : tie.Need-value-write-requires-2
 value-write-requires-2 c κs = rw (rest-of (now (c .before .before .before .before .before .before .before .before .args .rest))) (omega (arith, value-need (c .before .before .before .before .before .before .before .before .args .column) (c .before .before .before .before .if1 .left) (now (c .before .before .before .before .before .before .before .before .args .rest)) (omega (arith, some-need (c .before .before .before .before .before .before .before .before .args .column) (c .before .before .before .before .if1 .left) (now (c .before .before .before .before .before .before .before .before .args .rest)), c .before .before .before .before .before .before .before .before .pre .0)) (c .before .before .if2 .left), length-drop 1 (now (c .before .before .before .before .before .before .before .before .args .rest)), c .before .before .before .before .before .before .before .before .pre .0), (omega (arith, length-drop 1 (now (c .before .before .before .before .before .before .before .before .args .rest)), some-need (c .before .before .before .before .before .before .before .before .args .column) (c .before .before .before .before .if1 .left) (now (c .before .before .before .before .before .before .before .before .args .rest)), c .before .before .before .before .before .before .before .before .pre .0, c .before .before .before .before .before .before .before .before .pre .1 .0), subst (λ (t : List ℕ). length t ≤ length (now (c .before .before .before .before .before .before .before .before .args .out))) (value-text (c .before .before .before .before .before .before .before .before .args .column) (c .before .before .before .before .if1 .left) (now (c .before .before .before .before .before .before .before .before .args .rest)) (omega (arith, some-need (c .before .before .before .before .before .before .before .before .args .column) (c .before .before .before .before .if1 .left) (now (c .before .before .before .before .before .before .before .before .args .rest)), c .before .before .before .before .before .before .before .before .pre .0)) (c .before .before .if2 .left)) (c .before .before .before .before .before .before .before .before .pre .1 .1)))
 
-add-t14 : tie.Need-add-t14
-add-t14 c = let u = rw (rest-of (now (c .before .before .before .before .before .before .before .before .before .before .before .before .before .args .rest))) at (c .before .before .before .before .value-write2 .ensures .1 .0) in record { fits = omega (arith, u, value-need (c .before .before .before .before .before .before .before .before .before .before .before .before .before .args .column) (c .before .before .before .before .before .before .before .before .before .if1 .left) (now (c .before .before .before .before .before .before .before .before .before .before .before .before .before .args .rest)) (omega (arith, some-need (c .before .before .before .before .before .before .before .before .before .before .before .before .before .args .column) (c .before .before .before .before .before .before .before .before .before .if1 .left) (now (c .before .before .before .before .before .before .before .before .before .before .before .before .before .args .rest)), c .before .before .before .before .before .before .before .before .before .before .before .before .before .pre .0)) (c .before .before .before .before .before .before .before .if2 .left), c .before .before .before .before .before .before .before .before .before .before .before .before .before .pre .0, c .before .before .before .before .before .before .before .before .before .before .before .before .before .pre .1 .0) }
+add-used : tie.Need-add-used
+add-used c = let u = rw (rest-of (now (c .before .before .before .before .before .before .before .before .before .before .before .before .before .args .rest))) at (c .before .before .before .before .value-write2 .ensures .1 .0) in record { fits = omega (arith, u, value-need (c .before .before .before .before .before .before .before .before .before .before .before .before .before .args .column) (c .before .before .before .before .before .before .before .before .before .if1 .left) (now (c .before .before .before .before .before .before .before .before .before .before .before .before .before .args .rest)) (omega (arith, some-need (c .before .before .before .before .before .before .before .before .before .before .before .before .before .args .column) (c .before .before .before .before .before .before .before .before .before .if1 .left) (now (c .before .before .before .before .before .before .before .before .before .before .before .before .before .args .rest)), c .before .before .before .before .before .before .before .before .before .before .before .before .before .pre .0)) (c .before .before .before .before .before .before .before .if2 .left), c .before .before .before .before .before .before .before .before .before .before .before .before .before .pre .0, c .before .before .before .before .before .before .before .before .before .before .before .before .before .pre .1 .0) }
 
 same-length-2 : tie.Need-same-length-2
 same-length-2 c = search needs
@@ -67,7 +67,7 @@ piece-write-spec =
     value-write-requires
     same-length
     returns
-    shared-slice-read-if2
+    shared-slice-read-indicator
     null-piece-requires
     returns-2
     sub-value-write
@@ -75,6 +75,6 @@ piece-write-spec =
     part-value-write-end
     add-value-write
     value-write-requires-2
-    add-t14
+    add-used
     same-length-2
     returns-3)

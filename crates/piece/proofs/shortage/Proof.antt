@@ -12,8 +12,8 @@ column-need-requires c κs = search needs
 returns : tie.Need-returns
 returns c = rw (c .column-need .ensures .0) (plain-short (c .before .before .before .before .args .column) (c .before .if1 .taken) (now (c .before .before .before .before .args .rest)) (c .before .before .before .before .args .offset))
 
-add-t9 : tie.Need-add-t9
-add-t9 c = search needs
+add-expected : tie.Need-add-expected
+add-expected c = search needs
 
 returns-2 : tie.Need-returns-2
 returns-2 c = none-short (c .before .before .before .before .args .column) (c .before .if1 .left) (c .before .before .before .before .args .offset) (now (c .before .before .before .before .args .rest)) (c .if2 .taken)
@@ -30,8 +30,8 @@ part-column-need-end c = search needs
 column-need-requires-2 : tie.Need-column-need-requires-2
 column-need-requires-2 c κs = search needs
 
-sub-t13 : tie.Need-sub-t13
-sub-t13 c = search needs
+sub-actual : tie.Need-sub-actual
+sub-actual c = search needs
 
 returns-3 : tie.Need-returns-3
 returns-3 c = rw (c .column-need2 .ensures .0, rest-of (now (c .before .before .before .before .before .before .args .rest))) (some-short (c .before .before .before .before .before .before .args .column) (c .before .before .before .if1 .left) (c .before .before .before .before .before .before .args .offset) (now (c .before .before .before .before .before .before .args .rest)) (omega (arith, c .before .before .if2 .left)))
@@ -42,11 +42,11 @@ shortage-spec =
     (tie.spec
     column-need-requires
     returns
-    add-t9
+    add-expected
     returns-2
     sub-column-need
     part-column-need-start
     part-column-need-end
     column-need-requires-2
-    sub-t13
+    sub-actual
     returns-3)

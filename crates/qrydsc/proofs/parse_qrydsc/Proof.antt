@@ -62,22 +62,22 @@ loop-again c =
     let g = (rw (c .before .next .given .1) at (c .before .before .before .next-step .ensures)) in
     progress-skip s (l .columns) (l .count) (l .environment) (l .cursor) (l .inv) _ g
 
-enum-known-lid : tie.Need-enum-known-lid Inv-loop μ-loop
-enum-known-lid c = search needs
+enum-known-next-2 : tie.Need-enum-known-next-2 Inv-loop μ-loop
+enum-known-next-2 c = search needs
 
 cast-place : tie.Need-cast-place Inv-loop μ-loop
 cast-place c =
-    let g = (rw (c .before .lid .given .1) at (c .before .before .before .next-step .ensures)) in
+    let g = (rw (c .before .next2 .given .1) at (c .before .before .before .next-step .ensures)) in
     omega (arith, g .0)
 
 mul-known : tie.Need-mul-known Inv-loop μ-loop
 mul-known c =
-    let g = (rw (c .before .lid .given .1) at (c .before .before .before .next-step .ensures)) in
+    let g = (rw (c .before .next2 .given .1) at (c .before .before .before .next-step .ensures)) in
     omega (arith, g .0)
 
 array-copy-out-known : tie.Need-array-copy-out-known Inv-loop μ-loop
 array-copy-out-known c =
-    let g = (rw (c .before .lid .given .1) at (c .before .before .before .next-step .ensures)) in
+    let g = (rw (c .before .next2 .given .1) at (c .before .before .before .next-step .ensures)) in
     omega (arith, g .0)
 
 first-requires : tie.Need-first-requires Inv-loop μ-loop
@@ -85,17 +85,17 @@ first-requires c κs = search needs
 
 mul-environment : tie.Need-mul-environment Inv-loop μ-loop
 mul-environment c =
-    let g = (rw (c .before .before .before .lid .given .1) at (c .before .before .before .before .before .next-step .ensures)) in
+    let g = (rw (c .before .before .before .next2 .given .1) at (c .before .before .before .before .before .next-step .ensures)) in
     omega (arith, g .0)
 
 array-set-from-environment : tie.Need-array-set-from-environment Inv-loop μ-loop
 array-set-from-environment c =
-    let g = (rw (c .before .before .before .lid .given .1) at (c .before .before .before .before .before .next-step .ensures)) in
+    let g = (rw (c .before .before .before .next2 .given .1) at (c .before .before .before .before .before .next-step .ensures)) in
     omega (arith, g .0)
 
 loop-less-2 : tie.Need-loop-less-2 Inv-loop μ-loop
 loop-less-2 c =
-    let g = (rw (c .before .before .before .lid .given .1) at (c .before .before .before .before .before .next-step .ensures)) in
+    let g = (rw (c .before .before .before .next2 .given .1) at (c .before .before .before .before .before .next-step .ensures)) in
     g .1 .less
 
 loop-again-2 : tie.Need-loop-again-2 Inv-loop μ-loop
@@ -103,11 +103,11 @@ unfolding noEntry
 loop-again-2 c =
     let l = c .before .before .before .before .before .before .loop in
     let s = now (c .before .before .before .before .before .before .before .before .before .before .args .«data») in
-    let g = (rw (c .before .before .before .lid .given .1) at (c .before .before .before .before .before .next-step .ensures)) in
+    let g = (rw (c .before .before .before .next2 .given .1) at (c .before .before .before .before .before .next-step .ensures)) in
     rw (c .first .ensures) (progress-declared s (l .columns) (l .count) (l .environment) (l .cursor) (l .inv) _ _ _ g)
 
-enum-known-column : tie.Need-enum-known-column Inv-loop μ-loop
-enum-known-column c = search needs
+enum-known-next-3 : tie.Need-enum-known-next-3 Inv-loop μ-loop
+enum-known-next-3 c = search needs
 
 refused-requires-2 : tie.Need-refused-requires-2 Inv-loop μ-loop
 refused-requires-2 c κs = search needs
@@ -117,8 +117,27 @@ unfolding description
 returns-3 c =
     let l = c .before .before .before .before .before .before .loop in
     let s = now (c .before .before .before .before .before .before .before .before .before .before .args .«data») in
-    let g = (rw (c .before .before .before .column .given .1) at (c .before .before .before .before .before .next-step .ensures)) in
-    rw (le-ltb _ _ (c .before .before .before .before .before .before .before .before .if1 .left)) (c .refused2 .ensures ∙ progress-full s (l .columns) (l .count) (l .environment) (l .cursor) (l .inv) _ _ g (c .before .if2 .taken))
+    let g = (rw (c .before .before .before .next3 .given .1) at (c .before .before .before .before .before .next-step .ensures)) in
+    rw (le-ltb _ _ (c .before .before .before .before .before .before .before .before .if1 .left)) (c .refused2 .ensures ∙ progress-full s (l .columns) (l .count) (l .environment) (l .cursor) (l .inv) _ _ (g .1) (c .before .if2 .taken))
+
+lid-at-requires : tie.Need-lid-at-requires Inv-loop μ-loop
+lid-at-requires c κs =
+    let g = (rw (c .before .before .next3 .given .1) at (c .before .before .before .before .next-step .ensures)) in
+    g .0
+
+cast-place-2 : tie.Need-cast-place-2 Inv-loop μ-loop
+cast-place-2 c = search needs
+
+mul-entry : tie.Need-mul-entry Inv-loop μ-loop
+mul-entry c = search needs
+
+array-copy-out-entry : tie.Need-array-copy-out-entry Inv-loop μ-loop
+array-copy-out-entry c = search needs
+
+column-at-requires : tie.Need-column-at-requires Inv-loop μ-loop
+column-at-requires c κs =
+    let g = (rw (c .before .before .before .before .next3 .given .1) at (c .before .before .before .before .before .before .next-step .ensures)) in
+    g .0
 
 cast-numbered : tie.Need-cast-numbered Inv-loop μ-loop
 cast-numbered c = search needs
@@ -134,72 +153,16 @@ add-count c = search needs
 
 loop-less-3 : tie.Need-loop-less-3 Inv-loop μ-loop
 loop-less-3 c =
-    let g = (rw (c .before .before .column .given .1) at (c .before .before .before .before .next-step .ensures)) in
-    g .less
-
-loop-again-3 : tie.Need-loop-again-3 Inv-loop μ-loop
-loop-again-3 c =
-    let l = c .before .before .before .before .before .loop in
-    let s = now (c .before .before .before .before .before .before .before .before .before .args .«data») in
-    let g = (rw (c .before .before .column .given .1) at (c .before .before .before .before .next-step .ensures)) in
-    progress-column s (l .columns) (l .count) (l .environment) (l .cursor) (l .inv) _ _ g (c .if2 .left)
-
-enum-known-lid-2 : tie.Need-enum-known-lid-2 Inv-loop μ-loop
-enum-known-lid-2 c = search needs
-
-refused-requires-3 : tie.Need-refused-requires-3 Inv-loop μ-loop
-refused-requires-3 c κs = search needs
-
-returns-4 : tie.Need-returns-4 Inv-loop μ-loop
-unfolding description
-returns-4 c =
-    let l = c .before .before .before .before .before .before .loop in
-    let s = now (c .before .before .before .before .before .before .before .before .before .before .args .«data») in
-    let g = (rw (c .before .before .before .lid2 .given .1) at (c .before .before .before .before .before .next-step .ensures)) in
-    rw (le-ltb _ _ (c .before .before .before .before .before .before .before .before .if1 .left)) (c .refused3 .ensures ∙ progress-full s (l .columns) (l .count) (l .environment) (l .cursor) (l .inv) _ _ (g .1) (c .before .if3 .taken))
-
-cast-place-2 : tie.Need-cast-place-2 Inv-loop μ-loop
-cast-place-2 c =
-    let g = (rw (c .before .before .lid2 .given .1) at (c .before .before .before .before .next-step .ensures)) in
-    omega (arith, g .0)
-
-mul-entry : tie.Need-mul-entry Inv-loop μ-loop
-mul-entry c =
-    let g = (rw (c .before .before .lid2 .given .1) at (c .before .before .before .before .next-step .ensures)) in
-    omega (arith, g .0)
-
-array-copy-out-entry : tie.Need-array-copy-out-entry Inv-loop μ-loop
-array-copy-out-entry c =
-    let g = (rw (c .before .before .lid2 .given .1) at (c .before .before .before .before .next-step .ensures)) in
-    omega (arith, g .0)
-
-parse-compact-gda-lid-requires : tie.Need-parse-compact-gda-lid-requires Inv-loop μ-loop
-parse-compact-gda-lid-requires c κs = search needs
-
-cast-numbered-2 : tie.Need-cast-numbered-2 Inv-loop μ-loop
-cast-numbered-2 c = search needs
-
-mul-columns-2 : tie.Need-mul-columns-2 Inv-loop μ-loop
-mul-columns-2 c = search needs
-
-array-set-from-columns-2 : tie.Need-array-set-from-columns-2 Inv-loop μ-loop
-array-set-from-columns-2 c = search needs
-
-add-count-2 : tie.Need-add-count-2 Inv-loop μ-loop
-add-count-2 c = search needs
-
-loop-less-4 : tie.Need-loop-less-4 Inv-loop μ-loop
-loop-less-4 c =
-    let g = (rw (c .before .before .before .before .lid2 .given .1) at (c .before .before .before .before .before .before .next-step .ensures)) in
+    let g = (rw (c .before .before .before .before .before .next3 .given .1) at (c .before .before .before .before .before .before .before .next-step .ensures)) in
     g .1 .less
 
-loop-again-4 : tie.Need-loop-again-4 Inv-loop μ-loop
+loop-again-3 : tie.Need-loop-again-3 Inv-loop μ-loop
 unfolding noEntry
-loop-again-4 c =
-    let l = c .before .before .before .before .before .before .before .loop in
-    let s = now (c .before .before .before .before .before .before .before .before .before .before .before .args .«data») in
-    let g = (rw (c .before .before .before .before .lid2 .given .1) at (c .before .before .before .before .before .before .next-step .ensures)) in
-    rw (c .parse-compact-gda-lid .ensures) (progress-column s (l .columns) (l .count) (l .environment) (l .cursor) (l .inv) _ _ (g .1) (c .before .before .if3 .left))
+loop-again-3 c =
+    let l = c .before .before .before .before .before .before .before .before .loop in
+    let s = now (c .before .before .before .before .before .before .before .before .before .before .before .before .args .«data») in
+    let g = (rw (c .before .before .before .before .before .next3 .given .1) at (c .before .before .before .before .before .before .before .next-step .ensures)) in
+    rw (c .column-at .ensures, c .before .before .lid-at .ensures) (progress-column s (l .columns) (l .count) (l .environment) (l .cursor) (l .inv) _ _ (g .1) (c .before .before .before .if2 .left))
 
 pub parse-qrydsc-spec : {M : Type 1} → statement M
 parse-qrydsc-spec =
@@ -217,7 +180,7 @@ parse-qrydsc-spec =
     enum-known-next
     loop-less
     loop-again
-    enum-known-lid
+    enum-known-next-2
     cast-place
     mul-known
     array-copy-out-known
@@ -226,25 +189,17 @@ parse-qrydsc-spec =
     array-set-from-environment
     loop-less-2
     loop-again-2
-    enum-known-column
+    enum-known-next-3
     refused-requires-2
     returns-3
+    lid-at-requires
+    cast-place-2
+    mul-entry
+    array-copy-out-entry
+    column-at-requires
     cast-numbered
     mul-columns
     array-set-from-columns
     add-count
     loop-less-3
-    loop-again-3
-    enum-known-lid-2
-    refused-requires-3
-    returns-4
-    cast-place-2
-    mul-entry
-    array-copy-out-entry
-    parse-compact-gda-lid-requires
-    cast-numbered-2
-    mul-columns-2
-    array-set-from-columns-2
-    add-count-2
-    loop-less-4
-    loop-again-4)
+    loop-again-3)

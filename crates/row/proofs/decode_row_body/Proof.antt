@@ -27,11 +27,11 @@ abbrev μ-loop : tie.MeasureT-loop
 μ-loop «data» start text columns count end₀ j₀ end j = count - j
 
 abbrev Inv-loop2 : tie.InvT-loop2
-Inv-loop2 «data» start text₀ columns count end j needed places₀ at₀ next₀ i₀ text places at next i =
-    (i ≤ columns .count) × Filling (covered columns) start «data» end text₀ places i at next text
+Inv-loop2 «data» start text₀ columns count end j needed places₀ at₀ next₀ k₀ text places at next k =
+    (k ≤ columns .count) × Filling (covered columns) start «data» end text₀ places k at next text
 
 abbrev μ-loop2 : tie.MeasureT-loop2
-μ-loop2 «data» start text₀ columns count end j needed places₀ at₀ next₀ i₀ text places at next i = count - i
+μ-loop2 «data» start text₀ columns count end j needed places₀ at₀ next₀ k₀ text places at next k = count - k
 
 -- what is known from the start
 module _ (c : tie.Start Inv-loop μ-loop Inv-loop2 μ-loop2) where
@@ -73,8 +73,8 @@ module _ (c : tie.Else2 Inv-loop μ-loop Inv-loop2 μ-loop2) where
 
 -- a turn of the second loop
 module _ (c : tie.In-loop2 Inv-loop μ-loop Inv-loop2 μ-loop2) where
-  here2 : (d : ColumnDescriptor) → drop (c .before .loop2 .i) (covered (c .before .before .before .before .before .before .before .before .before .args .t3)) ≡ getD (c .before .before .before .before .before .before .before .before .before .args .t3 .columns) (c .before .loop2 .i) d ∷ drop (c .before .loop2 .i + 1) (covered (c .before .before .before .before .before .before .before .before .before .args .t3))
-  here2 d = covered-at (c .before .before .before .before .before .before .before .before .before .args .t3 .columns) (c .before .before .before .before .before .before .before .before .before .args .t3 .count) (c .before .loop2 .i) d (enough (c .before .before .before .before .before .before .before .before .before)) (c .loop2-test .taken)
+  here2 : (d : ColumnDescriptor) → drop (c .before .loop2 .k) (covered (c .before .before .before .before .before .before .before .before .before .args .t3)) ≡ getD (c .before .before .before .before .before .before .before .before .before .args .t3 .columns) (c .before .loop2 .k) d ∷ drop (c .before .loop2 .k + 1) (covered (c .before .before .before .before .before .before .before .before .before .args .t3))
+  here2 d = covered-at (c .before .before .before .before .before .before .before .before .before .args .t3 .columns) (c .before .before .before .before .before .before .before .before .before .args .t3 .count) (c .before .loop2 .k) d (enough (c .before .before .before .before .before .before .before .before .before)) (c .loop2-test .taken)
 
   rest2 : take (length (c .before .before .before .before .before .before .before .before .before .args .«data» .now) - c .before .loop2 .at) (drop (c .before .loop2 .at) (c .before .before .before .before .before .before .before .before .before .args .«data» .now)) ≡ drop (c .before .loop2 .at) (c .before .before .before .before .before .before .before .before .before .args .«data» .now)
   rest2 = rest-is (c .before .before .before .before .before .before .before .before .before .args .«data» .now) (c .before .loop2 .at)
@@ -210,8 +210,8 @@ add-next c =
     let h = placing-within ported _ _ _ _ _ _ p _ (here2 t _) _ (rest2 t) _ (c .before .before .before .before .before .piece-write .ensures .1 .1 .0) in
     omega (arith, h, c .before .before .before .before .before .before .before .before .before .before .before .before .before .before .before .before .before .before .good .1 .1 .1 .0 .0)
 
-add-i : tie.Need-add-i Inv-loop μ-loop Inv-loop2 μ-loop2
-add-i c = omega (arith, c .before .before .before .before .before .before .before .before .before .before .before .before .before .before .before .before .before .before .pre .0)
+add-k : tie.Need-add-k Inv-loop μ-loop Inv-loop2 μ-loop2
+add-k c = omega (arith, c .before .before .before .before .before .before .before .before .before .before .before .before .before .before .before .before .before .before .pre .0)
 
 loop2-less : tie.Need-loop2-less Inv-loop μ-loop Inv-loop2 μ-loop2
 loop2-less c = omega arith
@@ -272,7 +272,7 @@ decode-row-body-spec =
     array-set-from-places
     add-at
     add-next
-    add-i
+    add-k
     loop2-less
     loop2-again
     same-length

@@ -24,31 +24,13 @@ returns c = inner-none (now (c .before .before .before .before .args .«data»))
 add-start : tie.Need-add-start
 add-start c = search needs
 
-sub-parse-sda-triplet : tie.Need-sub-parse-sda-triplet
-sub-parse-sda-triplet c = search needs
-
-part-parse-sda-triplet-start : tie.Need-part-parse-sda-triplet-start
-part-parse-sda-triplet-start c = search needs
-
-part-parse-sda-triplet-end : tie.Need-part-parse-sda-triplet-end
-part-parse-sda-triplet-end c =
+returns-2 : tie.Need-returns-2
+returns-2 c =
     let a = c .before .before .before .before .before .before .before .args in
     let s = now (a .«data») in
     let p = c .before .before .before .before .before .before .before .pre in
     let f = next-some 3 s (a .at) (a .end) (c .before .before .before .before .before .next-triplet .ensures) _ _ (p .0) (p .1) (c .before .before .before .kind .given .1) in
-    omega (arith, f .high, p .1)
-
-parse-sda-triplet-requires : tie.Need-parse-sda-triplet-requires
-parse-sda-triplet-requires c κs = search needs
-
-returns-2 : tie.Need-returns-2
-returns-2 c =
-    let a = c .before .before .before .before .before .before .before .before .before .args in
-    let s = now (a .«data») in
-    let p = c .before .before .before .before .before .before .before .before .before .pre in
-    let f = next-some 3 s (a .at) (a .end) (c .before .before .before .before .before .before .before .next-triplet .ensures) _ _ (p .0) (p .1) (c .before .before .before .before .before .kind .given .1) in
-    rw (c .parse-sda-triplet .ensures, part-slice (a .at + 2) _ s (f .low) (ends f))
-    (inner-column s (a .at) (a .end) _ _ f (c .before .before .before .if1 .taken) (c .before .before .if2 .taken))
+    ((c .if2 .taken, ends f), inner-column s (a .at) (a .end) _ _ f (c .before .if1 .taken) (c .if2 .taken))
 
 returns-3 : tie.Need-returns-3
 returns-3 c =
@@ -76,10 +58,6 @@ inner-step-spec =
     enum-told
     returns
     add-start
-    sub-parse-sda-triplet
-    part-parse-sda-triplet-start
-    part-parse-sda-triplet-end
-    parse-sda-triplet-requires
     returns-2
     returns-3
     returns-4)

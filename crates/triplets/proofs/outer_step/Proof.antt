@@ -38,43 +38,13 @@ enum-known-pending c = search needs
 enum-told-2 : tie.Need-enum-told-2
 enum-told-2 c = search needs
 
-sub-parse-sda-triplet : tie.Need-sub-parse-sda-triplet
-sub-parse-sda-triplet c =
-    let a = c .before .before .before .before .before .before .before .before .before .args in
-    let s = now (a .«data») in
-    let f = next-some 2 s (a .at) (length s) (c .before .before .before .before .before .before .before .next-triplet .ensures) _ _ (c .before .before .before .before .before .before .before .before .before .pre) (omega arith) (c .before .before .before .before .before .kind .given .1) in
-    omega (arith, f .low, f .high)
-
-part-parse-sda-triplet-start : tie.Need-part-parse-sda-triplet-start
-part-parse-sda-triplet-start c =
-    let a = c .before .before .before .before .before .before .before .before .before .args in
-    let s = now (a .«data») in
-    let f = next-some 2 s (a .at) (length s) (c .before .before .before .before .before .before .before .next-triplet .ensures) _ _ (c .before .before .before .before .before .before .before .before .before .pre) (omega arith) (c .before .before .before .before .before .kind .given .1) in
-    omega (arith, f .low, f .high)
-
-part-parse-sda-triplet-end : tie.Need-part-parse-sda-triplet-end
-part-parse-sda-triplet-end c =
-    let a = c .before .before .before .before .before .before .before .before .before .args in
-    let s = now (a .«data») in
-    let f = next-some 2 s (a .at) (length s) (c .before .before .before .before .before .before .before .next-triplet .ensures) _ _ (c .before .before .before .before .before .before .before .before .before .pre) (omega arith) (c .before .before .before .before .before .kind .given .1) in
-    omega (arith, f .low, f .high)
-
-parse-sda-triplet-requires : tie.Need-parse-sda-triplet-requires
-parse-sda-triplet-requires c κs =
-    let a = c .before .before .before .before .before .before .before .before .before .before .args in
-    let s = now (a .«data») in
-    let f = next-some 2 s (a .at) (length s) (c .before .before .before .before .before .before .before .before .next-triplet .ensures) _ _ (c .before .before .before .before .before .before .before .before .before .before .pre) (omega arith) (c .before .before .before .before .before .before .kind .given .1) in
-    simp (length-take, length-drop) (omega (arith, f .low, f .high, c .before .before .before .if2 .left))
-
 returns-3 : tie.Need-returns-3
 returns-3 c =
-    let a = c .before .before .before .before .before .before .before .before .before .before .before .args in
+    let a = c .before .before .before .before .before .before .before .before .before .args in
     let s = now (a .«data») in
-    let f = next-some 2 s (a .at) (length s) (c .before .before .before .before .before .before .before .before .before .next-triplet .ensures) _ _ (c .before .before .before .before .before .before .before .before .before .before .before .pre) (omega arith) (c .before .before .before .before .before .before .before .kind .given .1) in
-    let d = c .before .before .before .before .if2 .left in
-    let l = f .low in
-    rw (c .before .before .enum-told2 .given .1, c .parse-sda-triplet .ensures, part-slice (a .at + 2) _ s l (f .high))
-    (outer-column s (a .at) _ _ f (c .before .before .before .before .before .if1 .taken) d)
+    let f = next-some 2 s (a .at) (length s) (c .before .before .before .before .before .before .before .next-triplet .ensures) _ _ (c .before .before .before .before .before .before .before .before .before .pre) (omega arith) (c .before .before .before .before .before .kind .given .1) in
+    let d = c .before .before .if2 .left in
+    ((omega (arith, f .low), f .high), rw (c .enum-told2 .given .1) (outer-column s (a .at) _ _ f (c .before .before .before .if1 .taken) d))
 
 sub-parse-environmental-sda : tie.Need-sub-parse-environmental-sda
 sub-parse-environmental-sda c =
@@ -166,10 +136,6 @@ outer-step-spec =
     returns-2
     enum-known-pending
     enum-told-2
-    sub-parse-sda-triplet
-    part-parse-sda-triplet-start
-    part-parse-sda-triplet-end
-    parse-sda-triplet-requires
     returns-3
     sub-parse-environmental-sda
     part-parse-environmental-sda-start

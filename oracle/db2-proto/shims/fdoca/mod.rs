@@ -3,6 +3,20 @@
 include!("published.rs");
 
 pub mod doors {
+    pub fn decode_row_body(
+        data: &[u8],
+        columns: &[super::ColumnDescriptor],
+    ) -> super::Result<(super::DecodedRow, usize)> {
+        super::decode_row_body(data, columns)
+    }
+
+    pub fn decode_column_value(
+        data: &[u8],
+        column: &super::ColumnDescriptor,
+    ) -> super::Result<(super::Db2Value, usize)> {
+        super::decode_column_value(data, column)
+    }
+
     pub fn decode_character_bytes(data: &[u8], ccsid: u16) -> String {
         super::decode_character_bytes(data, ccsid)
     }

@@ -1,0 +1,59 @@
+//! Decodes rows that a Db2 host sends (DRDA, FD:OCA), by a library in which every function is proved to meet its contract. This crate calls that
+//! library with ordinary Rust types and adds no rule of its own: whatever the bytes, a call answers or refuses, and never reads or writes
+//! elsewhere.
+//!
+//! ```
+//! use vejupa::{decode_row_into, Buffers, Columns, Value};
+//!
+//! // The host describes its columns once: an Integer, and a Decimal of 5 digits, 2 of them behind the point, that may be null.
+//! let columns = Columns::parse(&[0x09, 0x76, 0xD0, 0x02, 0x00, 0x04, 0x0F, 0x05, 0x02])?;
+//!
+//! // Rows follow. The buffers are used for one after the other.
+//! let mut buffers = Buffers::new();
+//! let row = decode_row_into(&[0x00, 0x00, 0x00, 0x07, 0x00, 0x12, 0x34, 0x5C], &columns, &mut buffers)?;
+//! assert_eq!(row.value(0), Value::Integer(7));
+//! assert_eq!(row.value(1), Value::Decimal("123.45"));
+//! assert_eq!(row.used(), 8);
+//! # Ok::<(), vejupa::Refusal>(())
+//! ```
+//!
+//! [`parse_qrydsc`] and [`decode_row`] are the same in a shorter form, which allocates for each row. [`decode_character_bytes`] and the like
+//! convert single texts. [`raw`] has the calls on plain words and lent slices.
+//!
+//! # The archive
+//!
+//! The crate links `libexported.a`, which `rt staticlib exported` writes into `target/staticlib` at the repository's root. The environment
+//! variable `VEJUPA_LIB` names another folder with the archive, absolute or seen from this crate's folder.
+#![warn(missing_docs)]
+
+mod column;
+pub mod raw;
+mod refusal;
+mod row;
+mod text;
+mod types;
+mod value;
+
+pub use column::{parse_qrydsc, Column, Columns};
+pub use refusal::Refusal;
+pub use row::{decode_row, decode_row_into, Buffers, Row};
+pub use text::{
+    bytes_are_likely_text, decode_character_bytes, decode_character_bytes_into,
+    decode_graphic_bytes, decode_graphic_bytes_into, decode_packed_decimal,
+    decode_packed_decimal_into, format_lob_locator, format_lob_locator_into, format_rowid,
+    format_rowid_into,
+};
+pub use types::{ByteOrder, Db2Type};
+pub use value::Value;
+
+/// How many columns a description may have, and the row call takes.
+pub const MAX_COLUMNS: usize = 128;
+
+/// How many bytes a description may have.
+pub const MAX_QRYDSC: usize = 65_536;
+
+/// How many bytes a row, or what a text conversion is given, may have.
+pub const MAX_INPUT: usize = 1_048_576;
+
+/// How many bytes a packed decimal may have.
+pub const MAX_DECIMAL: usize = 128;

@@ -1,0 +1,186 @@
+//! Conversions of single texts. Each comes twice: one makes a String, the other (`_into`) writes into a lent buffer.
+use crate::raw::{self, TextAnswer, ACCEPTED, TEXT_BUFFER_TOO_SHORT};
+use crate::Refusal;
+
+// More than the bytes given, for what most texts need. A text that needs still more takes a second call.
+const SPARE: usize = 16;
+
+const UTF8: &str = "the library's texts are UTF-8";
+
+fn accepted(answer: TextAnswer) -> Result<usize, Refusal> {
+    if answer.number != ACCEPTED {
+        return Err(Refusal::from_answer(answer.number, answer.len, 0));
+    }
+    Ok(answer.len as usize)
+}
+
+// The text that a call wrote into a lent buffer.
+fn written(answer: TextAnswer, text: &mut [u8]) -> Result<&str, Refusal> {
+    let len = accepted(answer)?;
+    Ok(std::str::from_utf8(&text[..len]).expect(UTF8))
+}
+
+// The text that a call writes, in a String of its own; `room` is the first try.
+fn owned(room: usize, call: impl Fn(&mut [u8]) -> TextAnswer) -> Result<String, Refusal> {
+    let mut text = vec![0; room];
+    let mut answer = call(&mut text);
+    if answer.number == TEXT_BUFFER_TOO_SHORT {
+        text.resize(answer.len as usize, 0);
+        answer = call(&mut text);
+    }
+    text.truncate(accepted(answer)?);
+    Ok(String::from_utf8(text).expect(UTF8))
+}
+
+/// The text of a character value, by its CCSID: 1208 is UTF-8, 819 ISO 8859-1, 37 and 500 code page 037; any other is ASCII where all
+/// bytes are below 0x80, else code page 037. What is malformed becomes U+FFFD.
+///
+/// # Errors
+/// [`Refusal::InputTooLong`].
+///
+/// ```
+/// assert_eq!(vejupa::decode_character_bytes(&[0xC1, 0xC2, 0xC3], 37)?, "ABC");
+/// assert_eq!(vejupa::decode_character_bytes(&[0xC1, 0x41], 1208)?, "\u{FFFD}A");
+/// # Ok::<(), vejupa::Refusal>(())
+/// ```
+pub fn decode_character_bytes(data: &[u8], ccsid: u16) -> Result<String, Refusal> {
+    owned(data.len() + SPARE, |text| {
+        raw::decode_character_bytes(data, ccsid, text)
+    })
+}
+
+/// [`decode_character_bytes`] into a lent buffer.
+///
+/// # Errors
+/// The same, and [`Refusal::TextBufferTooShort`].
+///
+/// ```
+/// use vejupa::{decode_character_bytes_into, Refusal};
+/// let mut text = [0; 3];
+/// assert_eq!(decode_character_bytes_into(&[0xC1, 0xC2, 0xC3], 37, &mut text)?, "ABC");
+/// let refusal = decode_character_bytes_into(&[0xC1, 0xC2, 0xC3, 0xC4], 37, &mut text);
+/// assert_eq!(refusal, Err(Refusal::TextBufferTooShort { needed: 4 }));
+/// # Ok::<(), Refusal>(())
+/// ```
+pub fn decode_character_bytes_into<'t>(
+    data: &[u8],
+    ccsid: u16,
+    text: &'t mut [u8],
+) -> Result<&'t str, Refusal> {
+    written(raw::decode_character_bytes(data, ccsid, text), text)
+}
+
+/// The text of a graphic value, by its CCSID: 1200 and 13488 are big-endian UTF-16 where the number of bytes is even; any other goes as
+/// characters. An unpaired surrogate becomes U+FFFD.
+///
+/// # Errors
+/// [`Refusal::InputTooLong`].
+///
+/// ```
+/// assert_eq!(vejupa::decode_graphic_bytes(&[0xD8, 0x3D, 0xDE, 0x00], 1200)?, "\u{1F600}");
+/// # Ok::<(), vejupa::Refusal>(())
+/// ```
+pub fn decode_graphic_bytes(data: &[u8], ccsid: u16) -> Result<String, Refusal> {
+    owned(data.len() + SPARE, |text| {
+        raw::decode_graphic_bytes(data, ccsid, text)
+    })
+}
+
+/// [`decode_graphic_bytes`] into a lent buffer.
+///
+/// # Errors
+/// The same, and [`Refusal::TextBufferTooShort`].
+pub fn decode_graphic_bytes_into<'t>(
+    data: &[u8],
+    ccsid: u16,
+    text: &'t mut [u8],
+) -> Result<&'t str, Refusal> {
+    written(raw::decode_graphic_bytes(data, ccsid, text), text)
+}
+
+/// `LOB locator 0x` and the bytes in upper-case hexadecimal.
+///
+/// # Errors
+/// [`Refusal::InputTooLong`].
+///
+/// ```
+/// assert_eq!(vejupa::format_lob_locator(&[0x80])?, "LOB locator 0x80");
+/// # Ok::<(), vejupa::Refusal>(())
+/// ```
+pub fn format_lob_locator(bytes: &[u8]) -> Result<String, Refusal> {
+    owned(2 * bytes.len() + SPARE, |text| {
+        raw::format_lob_locator(bytes, text)
+    })
+}
+
+/// [`format_lob_locator`] into a lent buffer.
+///
+/// # Errors
+/// The same, and [`Refusal::TextBufferTooShort`].
+pub fn format_lob_locator_into<'t>(bytes: &[u8], text: &'t mut [u8]) -> Result<&'t str, Refusal> {
+    written(raw::format_lob_locator(bytes, text), text)
+}
+
+/// `0x` and the bytes in upper-case hexadecimal.
+///
+/// # Errors
+/// [`Refusal::InputTooLong`].
+///
+/// ```
+/// assert_eq!(vejupa::format_rowid(&[0x0A, 0xBC])?, "0x0ABC");
+/// # Ok::<(), vejupa::Refusal>(())
+/// ```
+pub fn format_rowid(bytes: &[u8]) -> Result<String, Refusal> {
+    owned(2 * bytes.len() + SPARE, |text| {
+        raw::format_rowid(bytes, text)
+    })
+}
+
+/// [`format_rowid`] into a lent buffer.
+///
+/// # Errors
+/// The same, and [`Refusal::TextBufferTooShort`].
+pub fn format_rowid_into<'t>(bytes: &[u8], text: &'t mut [u8]) -> Result<&'t str, Refusal> {
+    written(raw::format_rowid(bytes, text), text)
+}
+
+/// The text of a packed decimal with `scale` digits behind the point. The precision has no part in it.
+///
+/// # Errors
+/// [`Refusal::DecimalEmpty`] and [`Refusal::DecimalTooLong`].
+///
+/// ```
+/// assert_eq!(vejupa::decode_packed_decimal(&[0x12, 0x34, 0x5D], 5, 2)?, "-123.45");
+/// # Ok::<(), vejupa::Refusal>(())
+/// ```
+pub fn decode_packed_decimal(data: &[u8], precision: u8, scale: u8) -> Result<String, Refusal> {
+    owned(2 * data.len() + usize::from(scale) + SPARE, |text| {
+        raw::decode_packed_decimal(data, precision, scale, text)
+    })
+}
+
+/// [`decode_packed_decimal`] into a lent buffer.
+///
+/// # Errors
+/// The same, and [`Refusal::TextBufferTooShort`].
+pub fn decode_packed_decimal_into<'t>(
+    data: &[u8],
+    precision: u8,
+    scale: u8,
+    text: &'t mut [u8],
+) -> Result<&'t str, Refusal> {
+    written(
+        raw::decode_packed_decimal(data, precision, scale, text),
+        text,
+    )
+}
+
+/// Whether the bytes are well-formed UTF-8 without control characters, save tab, line feed and carriage return.
+///
+/// ```
+/// assert!(vejupa::bytes_are_likely_text(b"warp and weft\n"));
+/// assert!(!vejupa::bytes_are_likely_text(&[0x00, 0x41]));
+/// ```
+pub fn bytes_are_likely_text(bytes: &[u8]) -> bool {
+    raw::bytes_are_likely_text(bytes) == 1
+}

@@ -1,0 +1,152 @@
+//! The types of columns, and their words.
+use crate::raw;
+use std::fmt;
+
+/// The type of a column, with the numbers that it holds.
+#[derive(Debug, Clone, Copy, PartialEq, Eq, Hash)]
+#[allow(missing_docs)]
+pub enum Db2Type {
+    SmallInt,
+    Integer,
+    BigInt,
+    Real,
+    Double,
+    Decimal { precision: u8, scale: u8 },
+    DecFloat(u8),
+    Char(u16),
+    VarChar(u16),
+    LongVarChar,
+    Clob,
+    Binary(u16),
+    VarBinary(u16),
+    Blob,
+    BlobLocator,
+    Date,
+    Time,
+    Timestamp,
+    Graphic(u16),
+    VarGraphic(u16),
+    DbClob,
+    ClobLocator,
+    DbClobLocator,
+    LobBytes(u16),
+    LobChar(u16),
+    RowId(u16),
+    Boolean,
+    Xml,
+    Null,
+}
+
+impl Db2Type {
+    /// The byte count of a type's values, where the type alone tells it. It is not what the row call goes by.
+    ///
+    /// ```
+    /// use vejupa::Db2Type;
+    /// assert_eq!(Db2Type::Decimal { precision: 5, scale: 2 }.fixed_length(), Some(3));
+    /// assert_eq!(Db2Type::VarChar(40).fixed_length(), None);
+    /// ```
+    pub fn fixed_length(self) -> Option<usize> {
+        let answer = raw::fixed_length(self.word());
+        (answer.fixed == 1).then_some(answer.length as usize)
+    }
+
+    /// The type word: the type's tag in bits 0 to 7, the numbers that it holds in bits 8 to 23.
+    pub fn word(self) -> u64 {
+        let (tag, numbers) = self.parts();
+        tag | u64::from(numbers) << 8
+    }
+
+    fn parts(self) -> (u64, u16) {
+        match self {
+            Db2Type::SmallInt => (0, 0),
+            Db2Type::Integer => (1, 0),
+            Db2Type::BigInt => (2, 0),
+            Db2Type::Real => (3, 0),
+            Db2Type::Double => (4, 0),
+            Db2Type::Decimal { precision, scale } => (5, u16::from_le_bytes([precision, scale])),
+            Db2Type::DecFloat(digits) => (6, u16::from(digits)),
+            Db2Type::Char(length) => (7, length),
+            Db2Type::VarChar(length) => (8, length),
+            Db2Type::LongVarChar => (9, 0),
+            Db2Type::Clob => (10, 0),
+            Db2Type::Binary(length) => (11, length),
+            Db2Type::VarBinary(length) => (12, length),
+            Db2Type::Blob => (13, 0),
+            Db2Type::BlobLocator => (14, 0),
+            Db2Type::Date => (15, 0),
+            Db2Type::Time => (16, 0),
+            Db2Type::Timestamp => (17, 0),
+            Db2Type::Graphic(length) => (18, length),
+            Db2Type::VarGraphic(length) => (19, length),
+            Db2Type::DbClob => (20, 0),
+            Db2Type::ClobLocator => (21, 0),
+            Db2Type::DbClobLocator => (22, 0),
+            Db2Type::LobBytes(length) => (23, length),
+            Db2Type::LobChar(length) => (24, length),
+            Db2Type::RowId(length) => (25, length),
+            Db2Type::Boolean => (26, 0),
+            Db2Type::Xml => (27, 0),
+            Db2Type::Null => (28, 0),
+        }
+    }
+
+    /// The type of a type word; None where the word is no type's.
+    pub fn from_word(word: u64) -> Option<Db2Type> {
+        let numbers = (word >> 8) as u16;
+        let [low, high] = numbers.to_le_bytes();
+        let named = match word & 0xFF {
+            0 => Db2Type::SmallInt,
+            1 => Db2Type::Integer,
+            2 => Db2Type::BigInt,
+            3 => Db2Type::Real,
+            4 => Db2Type::Double,
+            5 => Db2Type::Decimal {
+                precision: low,
+                scale: high,
+            },
+            6 => Db2Type::DecFloat(low),
+            7 => Db2Type::Char(numbers),
+            8 => Db2Type::VarChar(numbers),
+            9 => Db2Type::LongVarChar,
+            10 => Db2Type::Clob,
+            11 => Db2Type::Binary(numbers),
+            12 => Db2Type::VarBinary(numbers),
+            13 => Db2Type::Blob,
+            14 => Db2Type::BlobLocator,
+            15 => Db2Type::Date,
+            16 => Db2Type::Time,
+            17 => Db2Type::Timestamp,
+            18 => Db2Type::Graphic(numbers),
+            19 => Db2Type::VarGraphic(numbers),
+            20 => Db2Type::DbClob,
+            21 => Db2Type::ClobLocator,
+            22 => Db2Type::DbClobLocator,
+            23 => Db2Type::LobBytes(numbers),
+            24 => Db2Type::LobChar(numbers),
+            25 => Db2Type::RowId(numbers),
+            26 => Db2Type::Boolean,
+            27 => Db2Type::Xml,
+            28 => Db2Type::Null,
+            _ => return None,
+        };
+        (named.word() == word).then_some(named)
+    }
+}
+
+/// As in SQL, near enough: `Char(8)`, `Decimal(5,2)`, `Integer`.
+impl fmt::Display for Db2Type {
+    fn fmt(&self, f: &mut fmt::Formatter<'_>) -> fmt::Result {
+        match self {
+            Db2Type::Decimal { precision, scale } => write!(f, "Decimal({precision},{scale})"),
+            other => write!(f, "{other:?}"),
+        }
+    }
+}
+
+/// The order of the bytes of a number in the row.
+#[derive(Debug, Clone, Copy, PartialEq, Eq, Hash)]
+#[allow(missing_docs)]
+pub enum ByteOrder {
+    BigEndian,
+    LittleEndian,
+}

@@ -1,0 +1,185 @@
+//! Descriptions, columns and their words.
+use vejupa::raw::{self, DescriptionAnswer, LengthAnswer, TOO_FEW_WORDS};
+use vejupa::{parse_qrydsc, ByteOrder, Column, Columns, Db2Type, Refusal};
+
+/// One of each type.
+const TYPES: [Db2Type; 29] = [
+    Db2Type::SmallInt,
+    Db2Type::Integer,
+    Db2Type::BigInt,
+    Db2Type::Real,
+    Db2Type::Double,
+    Db2Type::Decimal {
+        precision: 31,
+        scale: 5,
+    },
+    Db2Type::DecFloat(34),
+    Db2Type::Char(0x1234),
+    Db2Type::VarChar(0x8001),
+    Db2Type::LongVarChar,
+    Db2Type::Clob,
+    Db2Type::Binary(16),
+    Db2Type::VarBinary(0xFFFF),
+    Db2Type::Blob,
+    Db2Type::BlobLocator,
+    Db2Type::Date,
+    Db2Type::Time,
+    Db2Type::Timestamp,
+    Db2Type::Graphic(7),
+    Db2Type::VarGraphic(8),
+    Db2Type::DbClob,
+    Db2Type::ClobLocator,
+    Db2Type::DbClobLocator,
+    Db2Type::LobBytes(1024),
+    Db2Type::LobChar(1025),
+    Db2Type::RowId(40),
+    Db2Type::Boolean,
+    Db2Type::Xml,
+    Db2Type::Null,
+];
+
+#[test]
+fn every_column_is_the_column_of_its_words() {
+    for (tag, db2_type) in TYPES.into_iter().enumerate() {
+        let column = Column {
+            column_index: 255,
+            db2_type,
+            drda_type: 0xC9,
+            length: 0x8004,
+            precision: 5,
+            scale: 2,
+            nullable: true,
+            ccsid: 1208,
+            reference_length: Some(4),
+            byte_order: ByteOrder::LittleEndian,
+        };
+        for column in [column, Column::new(db2_type)] {
+            assert_eq!(column.words()[0] & 0xFF, tag as u64);
+            assert_eq!(Column::from_words(column.words()), Some(column));
+        }
+        assert_eq!(column.words()[0] >> 24, 0x07_00FF_C9);
+        assert_eq!(column.words()[1], 0x0004_04B8_0205_8004);
+    }
+}
+
+/// Types without numbers that hold one; a DecFloat of 256 digits; a tag that is no type's; a column number above 255; bits that are not in use;
+/// a reference length that is not there.
+#[test]
+fn some_words_are_no_column() {
+    for words in [
+        [0x01_00, 0],
+        [0x01_00_06, 0],
+        [29, 0],
+        [255, 0],
+        [1 << 40, 0],
+        [1 << 51, 0],
+        [1 << 63, 0],
+        [0, 1 << 48],
+    ] {
+        assert_eq!(Column::from_words(words), None, "{words:X?}");
+        let answer = raw::decode_row(&words, &[0; 16], &mut [0; 3], &mut []);
+        assert_eq!(answer.number, raw::NO_COLUMN, "{words:X?}");
+    }
+    assert_eq!(
+        raw::fixed_length(29),
+        LengthAnswer {
+            number: raw::NO_COLUMN,
+            fixed: 0,
+            length: 0
+        }
+    );
+}
+
+#[test]
+fn a_description_and_its_columns() {
+    let description = [0x09, 0x76, 0xD0, 0x05, 0x00, 0x02, 0x0F, 0x05, 0x02];
+    let decimal = Column {
+        column_index: 1,
+        db2_type: Db2Type::Decimal {
+            precision: 5,
+            scale: 2,
+        },
+        drda_type: 0x0F,
+        length: 3,
+        precision: 5,
+        scale: 2,
+        nullable: true,
+        ccsid: 0,
+        reference_length: None,
+        byte_order: ByteOrder::BigEndian,
+    };
+    let columns = parse_qrydsc(&description).unwrap();
+    assert_eq!(columns.len(), 2);
+    assert_eq!(columns[1], decimal);
+
+    let packed = Columns::parse(&description).unwrap();
+    assert_eq!(packed, Columns::from(&columns[..]));
+    assert_eq!(packed.get(1), Some(decimal));
+    assert_eq!(packed.get(2), None);
+    assert!(Columns::parse(&[]).unwrap().is_empty());
+}
+
+#[test]
+fn descriptions_that_are_refused() {
+    assert_eq!(
+        parse_qrydsc(&[0; vejupa::MAX_QRYDSC + 1]),
+        Err(Refusal::QrydscTooLong)
+    );
+    assert_eq!(parse_qrydsc(&[0; vejupa::MAX_QRYDSC]), Ok(vec![]));
+    let integer = [0x05, 0x70, 0x02, 0x00, 0x04];
+    assert_eq!(parse_qrydsc(&integer.repeat(128)).unwrap().len(), 128);
+    assert_eq!(
+        parse_qrydsc(&integer.repeat(129)),
+        Err(Refusal::TooManyColumns)
+    );
+}
+
+#[test]
+fn too_few_words_are_left_as_they_are() {
+    let integer = [0x05, 0x70, 0x02, 0x00, 0x04];
+    let mut words = [7; 3];
+    assert_eq!(
+        raw::parse_qrydsc(&integer.repeat(2), &mut words),
+        DescriptionAnswer {
+            number: TOO_FEW_WORDS,
+            count: 2
+        }
+    );
+    assert_eq!(words, [7; 3]);
+}
+
+#[test]
+fn fixed_lengths() {
+    let expected = [
+        Some(2),
+        Some(4),
+        Some(8),
+        Some(4),
+        Some(8),
+        Some(16),
+        Some(16),
+        Some(0x1234),
+        None,
+        None,
+        None,
+        Some(16),
+        None,
+        None,
+        Some(4),
+        Some(10),
+        Some(8),
+        Some(26),
+        Some(14),
+        None,
+        None,
+        Some(4),
+        Some(4),
+        Some(1024),
+        Some(1025),
+        Some(40),
+        Some(1),
+        None,
+        None,
+    ];
+    assert_eq!(TYPES.map(Db2Type::fixed_length), expected);
+}

@@ -1,0 +1,171 @@
+// Inner. Whether types and columns stand in a line of the list of stored answers, as it writes them. Each function of the form x_at answers the place
+// behind what it looks for, as those of lines::place do.
+use lines::find;
+use lines::number;
+use lines::place::NOWHERE;
+use lines::place::decimal_at;
+use lines::place::hex_at;
+use lines::place::text_at;
+use types::ByteOrder;
+use types::ColumnDescriptor;
+use types::Columns;
+use types::Db2Type;
+use types::MAX_COLUMNS;
+use types::ReferenceLength;
+use words::TypeRead;
+use words::read_type_word;
+ghost use Prim.Native.Nat.{_<_};
+
+// How many types there are: their tags are below.
+const TYPES: u64 = 29;
+
+// A name and a number, parted by a point.
+fn numbered_at(line: &[u8], at: usize, name: &[u8], n: u16) -> usize {
+    let point = text_at(line, at, name);
+    let digits = text_at(line, point, b".");
+    decimal_at(line, digits, n as u64)
+}
+
+fn decimal_type_at(line: &[u8], at: usize, precision: u8, scale: u8) -> usize {
+    let point = numbered_at(line, at, b"Decimal", precision as u16);
+    let digits = text_at(line, point, b".");
+    decimal_at(line, digits, scale as u64)
+}
+
+pub fn type_at(line: &[u8], at: usize, t: Db2Type) -> usize {
+    match t {
+        Db2Type::SmallInt => text_at(line, at, b"SmallInt"),
+        Db2Type::Integer => text_at(line, at, b"Integer"),
+        Db2Type::BigInt => text_at(line, at, b"BigInt"),
+        Db2Type::Real => text_at(line, at, b"Real"),
+        Db2Type::Double => text_at(line, at, b"Double"),
+        Db2Type::Decimal { precision, scale } => decimal_type_at(line, at, precision, scale),
+        Db2Type::DecFloat(n) => numbered_at(line, at, b"DecFloat", n as u16),
+        Db2Type::Char(n) => numbered_at(line, at, b"Char", n),
+        Db2Type::VarChar(n) => numbered_at(line, at, b"VarChar", n),
+        Db2Type::LongVarChar => text_at(line, at, b"LongVarChar"),
+        Db2Type::Clob => text_at(line, at, b"Clob"),
+        Db2Type::Binary(n) => numbered_at(line, at, b"Binary", n),
+        Db2Type::VarBinary(n) => numbered_at(line, at, b"VarBinary", n),
+        Db2Type::Blob => text_at(line, at, b"Blob"),
+        Db2Type::BlobLocator => text_at(line, at, b"BlobLocator"),
+        Db2Type::Date => text_at(line, at, b"Date"),
+        Db2Type::Time => text_at(line, at, b"Time"),
+        Db2Type::Timestamp => text_at(line, at, b"Timestamp"),
+        Db2Type::Graphic(n) => numbered_at(line, at, b"Graphic", n),
+        Db2Type::VarGraphic(n) => numbered_at(line, at, b"VarGraphic", n),
+        Db2Type::DbClob => text_at(line, at, b"DbClob"),
+        Db2Type::ClobLocator => text_at(line, at, b"ClobLocator"),
+        Db2Type::DbClobLocator => text_at(line, at, b"DbClobLocator"),
+        Db2Type::LobBytes(n) => numbered_at(line, at, b"LobBytes", n),
+        Db2Type::LobChar(n) => numbered_at(line, at, b"LobChar", n),
+        Db2Type::RowId(n) => numbered_at(line, at, b"RowId", n),
+        Db2Type::Boolean => text_at(line, at, b"Boolean"),
+        Db2Type::Xml => text_at(line, at, b"Xml"),
+        Db2Type::Null => text_at(line, at, b"Null"),
+    }
+}
+
+// The numbers behind a type's name, as one: with two, the second is in the high byte. 0 where there are none, or no numbers stand there.
+fn numbers_of(s: &[u8]) -> usize
+    ensures { λ r. ⌜ r < 65536 ⌝ }
+{
+    let point = find(s, 0, b'.');
+    if point == s.len() {
+        return 0;
+    }
+    let numbers = &s[point + 1..];
+    let second = find(numbers, 0, b'.');
+    if second == numbers.len() {
+        let r = number(numbers, 65535);
+        return r.value;
+    }
+    let low = number(&numbers[0..second], 255);
+    let high = number(&numbers[second + 1..], 255);
+    low.value + high.value * 256
+}
+
+// The type that a field writes. Each tag is tried: the names stand nowhere but in type_at.
+pub fn type_of(s: &[u8]) -> TypeRead {
+    let numbers = numbers_of(s) as u64;
+    let mut tag: u64 = 0;
+    while tag < TYPES {
+        match read_type_word(tag + numbers * 256) {
+            TypeRead::Known(t) => {
+                if type_at(s, 0, t) == s.len() {
+                    return TypeRead::Known(t);
+                }
+            }
+            TypeRead::NoType => {}
+        }
+        tag += 1;
+    }
+    TypeRead::NoType
+}
+
+fn flag_at(line: &[u8], at: usize, flag: bool) -> usize {
+    if flag {
+        return text_at(line, at, b"1");
+    }
+    text_at(line, at, b"0")
+}
+
+fn reference_at(line: &[u8], at: usize, reference: ReferenceLength) -> usize {
+    match reference {
+        ReferenceLength::Absent => text_at(line, at, b"-"),
+        ReferenceLength::Width(n) => decimal_at(line, at, n as u64),
+    }
+}
+
+fn order_at(line: &[u8], at: usize, order: ByteOrder) -> usize {
+    match order {
+        ByteOrder::BigEndian => text_at(line, at, b"B"),
+        ByteOrder::LittleEndian => text_at(line, at, b"L"),
+    }
+}
+
+// A decimal number and the colon before it.
+fn next_decimal_at(line: &[u8], at: usize, n: u64) -> usize {
+    let digits = text_at(line, at, b":");
+    decimal_at(line, digits, n)
+}
+
+// type:code:length:precision:scale:nullable:ccsid:reference:order
+pub fn column_at(line: &[u8], at: usize, c: ColumnDescriptor) -> usize {
+    let t = c.db2_type;
+    let reference = c.extdta_reference_length;
+    let order = c.byte_order;
+    let mut p = type_at(line, at, t);
+    p = text_at(line, p, b":");
+    p = hex_at(line, p, c.drda_type as u64, 2);
+    p = next_decimal_at(line, p, c.length as u64);
+    p = next_decimal_at(line, p, c.precision as u64);
+    p = next_decimal_at(line, p, c.scale as u64);
+    p = text_at(line, p, b":");
+    p = flag_at(line, p, c.nullable);
+    p = next_decimal_at(line, p, c.ccsid as u64);
+    p = text_at(line, p, b":");
+    p = reference_at(line, p, reference);
+    p = text_at(line, p, b":");
+    order_at(line, p, order)
+}
+
+// The number of columns, and each behind a space; a column's number is its place.
+pub fn columns_at(line: &[u8], at: usize, columns: Columns) -> usize {
+    let count = columns.count;
+    if MAX_COLUMNS < count {
+        return NOWHERE;
+    }
+    let mut p = decimal_at(line, at, count as u64);
+    let mut i: usize = 0;
+    while i < count {
+        let column = columns.columns[i];
+        if column.column_index as usize != i {
+            return NOWHERE;
+        }
+        p = text_at(line, p, b" ");
+        p = column_at(line, p, column);
+        i += 1;
+    }
+    p
+}

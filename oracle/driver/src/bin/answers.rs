@@ -1,0 +1,101 @@
+//! `answers port|rust < requests`: each line of standard input whole, with the answer behind it.
+use differential::descriptions::Description;
+use differential::port_side::{Archive, PortSide};
+use differential::request::{self, Call, Request};
+use differential::rows::List;
+use differential::{descriptions, rows, rust_side};
+use std::io::{self, BufRead, BufWriter, Write};
+use std::process::ExitCode;
+
+fn main() -> ExitCode {
+    let arguments: Vec<String> = std::env::args().skip(1).collect();
+    let answered = match arguments.iter().map(String::as_str).collect::<Vec<_>>()[..] {
+        ["rust"] => answer_lines(rust_answer),
+        ["port"] => {
+            let mut port = Port {
+                texts: PortSide::new(Archive),
+                descriptions: descriptions::port_side::PortSide::new(
+                    descriptions::port_side::Archive,
+                ),
+                rows: rows::port_side::PortSide::new(rows::port_side::Archive),
+            };
+            answer_lines(|request| port.answer(request))
+        }
+        _ => Err("usage: answers port|rust < requests".to_string()),
+    };
+    match answered {
+        Ok(()) => ExitCode::SUCCESS,
+        Err(message) => {
+            eprintln!("answers: {message}");
+            ExitCode::FAILURE
+        }
+    }
+}
+
+/// What stands behind the request.
+fn rust_answer(request: &Request) -> String {
+    match request {
+        Request::Leaf(Call { leaf, data }) => format!("A {}", rust_side::answer(*leaf, data)),
+        Request::Description { data, row } => {
+            let description = descriptions::rust_side::describe(data);
+            described(&description, |list| {
+                rows::rust_side::answer(list, row).shown(row)
+            })
+        }
+        Request::Row { columns, data } => {
+            let list = List::of(columns);
+            format!("A {}", rows::rust_side::answer(&list, data).shown(data))
+        }
+        Request::FixedLength(asked) => descriptions::rust_side::fixed_length(*asked).to_string(),
+    }
+}
+
+struct Port {
+    texts: PortSide<Archive>,
+    descriptions: descriptions::port_side::PortSide<descriptions::port_side::Archive>,
+    rows: rows::port_side::PortSide<rows::port_side::Archive>,
+}
+
+impl Port {
+    /// What stands behind the request.
+    fn answer(&mut self, request: &Request) -> String {
+        match request {
+            Request::Leaf(Call { leaf, data }) => format!("A {}", self.texts.answer(*leaf, data)),
+            Request::Description { data, row } => {
+                let description = self.descriptions.describe(data);
+                described(&description, |list| {
+                    self.rows.answer(&list.words, row).shown(row)
+                })
+            }
+            Request::Row { columns, data } => {
+                let list = List::of(columns);
+                format!("A {}", self.rows.answer(&list.words, data).shown(data))
+            }
+            Request::FixedLength(asked) => self.descriptions.fixed_length(asked.word()).to_string(),
+        }
+    }
+}
+
+/// The answer to a description and, where there are columns, the row's answer with them.
+fn described(description: &Description, row: impl FnOnce(&List) -> String) -> String {
+    match description {
+        Description::Columns(columns) => format!("{description} A {}", row(&List::of(columns))),
+        _ => description.to_string(),
+    }
+}
+
+/// Answers the lines of standard input up to the first that is no request.
+fn answer_lines(mut answer: impl FnMut(&Request) -> String) -> Result<(), String> {
+    let mut out = BufWriter::with_capacity(1 << 16, io::stdout().lock());
+    let mut lines = io::stdin().lock().lines();
+    let mut number = 0;
+    let answered = lines.try_for_each(|line| {
+        number += 1;
+        let at = |message: String| format!("line {number} is no request: {message}");
+        let line = line.map_err(|error| at(error.to_string()))?;
+        let request = request::parse(&line).map_err(at)?;
+        writeln!(out, "{request} {}", answer(&request)).map_err(|error| error.to_string())
+    });
+    let flushed = out.flush().map_err(|error| error.to_string());
+    answered.and(flushed)
+}

@@ -1,0 +1,294 @@
+//! `bench [WORD]`: the time of each call by the Rust and by the port, from one run, as a Markdown table. With a word only the
+//! lines that have it in their name.
+mod by_value;
+mod inputs;
+
+use differential::descriptions;
+use differential::descriptions::port_side::AMPLE;
+use differential::leaf::{Leaf, TEXT_LIMIT};
+use differential::port_side::{ample, Archive, Library};
+use differential::rust_side;
+use std::hint::black_box;
+use std::process::ExitCode;
+use std::time::{Duration, Instant};
+
+/// Short texts are timed in a batch of so many input bytes, so that they stay in the nearest cache.
+const BATCH: usize = 1 << 14;
+
+/// How long a line is measured, and at least how many rounds.
+const TIME: Duration = Duration::from_millis(400);
+const ROUNDS: usize = 40;
+
+/// A line of the table: a call, and inputs of one length, each timed as one call.
+struct Line {
+    name: String,
+    call: Call,
+    texts: Vec<Vec<u8>>,
+}
+
+#[derive(Clone, Copy)]
+enum Call {
+    Leaf(Leaf),
+    /// Through the boundary: words in a lent buffer.
+    Description,
+    /// By value: a list of 128 places.
+    DescriptionByValue,
+}
+
+/// What is lent to the port.
+struct Lent {
+    text: Vec<u8>,
+    words: [u64; AMPLE],
+}
+
+impl Line {
+    fn length(&self) -> usize {
+        self.texts[0].len()
+    }
+}
+
+/// Nanoseconds a call. A call that writes no text has no exact buffer.
+struct Times {
+    rust: f64,
+    ample: f64,
+    exact: Option<f64>,
+}
+
+fn main() -> ExitCode {
+    let word = std::env::args().nth(1).unwrap_or_default();
+    let mut lent = Lent {
+        text: vec![0; ample(TEXT_LIMIT)],
+        words: [0; AMPLE],
+    };
+    println!("{}\n", heading());
+    println!("| Call | Bytes | Rust ns | Port ns, any text fits | Ratio | Port ns, buffer exact | Ratio |");
+    println!("|---|---:|---:|---:|---:|---:|---:|");
+    let mut slowest: Option<(f64, String)> = None;
+    for line in inputs::lines()
+        .iter()
+        .filter(|line| line.name.contains(&word))
+    {
+        if let Err(text) = same(line, &mut lent) {
+            eprintln!("bench: {}: the answers differ for {text:02X?}", line.name);
+            return ExitCode::FAILURE;
+        }
+        let times = measure(line, &mut lent);
+        println!("{}", row(line, &times));
+        let ratio = times.ample.max(times.exact.unwrap_or(0.0)) / times.rust;
+        if slowest.as_ref().is_none_or(|(most, _)| ratio > *most) {
+            slowest = Some((ratio, format!("{}, {} bytes", line.name, line.length())));
+        }
+    }
+    if let Some((ratio, name)) = slowest {
+        println!("\nLargest ratio: {ratio:.2} ({name}).");
+    }
+    ExitCode::SUCCESS
+}
+
+fn heading() -> String {
+    let machine = std::fs::read_to_string("/proc/cpuinfo").unwrap_or_default();
+    let processor = machine
+        .lines()
+        .find_map(|line| line.strip_prefix("model name")?.split_once(": "))
+        .map_or("unknown", |(_, name)| name);
+    format!(
+        "Processor: {processor}. Release builds, processor time of one thread, both from one run: the least of at least {ROUNDS} \
+         rounds, the two by turns in each, with {BATCH} bytes of short texts, or one long text, a reading of the clock. The port's buffer is lent \
+         by the caller and warm: it is used again for each call, once with 3 n + 14 bytes for n bytes of input (any text fits), \
+         once exactly as long as the text; for a description with {AMPLE} words (any list fits), and with two a column; by value it has none, and one \
+         column of the list is looked at, at a place that the compiler does not know. The Rust's time \
+         includes the allocation of its text or list, and its freeing. Ratio: port / Rust."
+    )
+}
+
+fn row(line: &Line, times: &Times) -> String {
+    let column = |time: f64| format!("{} | {:.2}", shown(time), time / times.rust);
+    format!(
+        "| {} | {} | {} | {} | {} |",
+        line.name,
+        line.length(),
+        shown(times.rust),
+        column(times.ample),
+        times.exact.map_or("– | –".to_string(), column)
+    )
+}
+
+/// Nanoseconds: tenths where they count.
+fn shown(time: f64) -> String {
+    if time < 1000.0 {
+        format!("{time:.1}")
+    } else {
+        format!("{time:.0}")
+    }
+}
+
+/// Whether the two agree on every input of a line, with a buffer where any text fits.
+fn same<'a>(line: &'a Line, lent: &mut Lent) -> Result<(), &'a [u8]> {
+    for text in &line.texts {
+        let agree = match line.call {
+            Call::Leaf(Leaf::Likely) => rust_side::likely(text) == (Archive.likely(text) == 1),
+            Call::Leaf(leaf) => {
+                let rust = rust_side::text(leaf, text);
+                let outcome = Archive.write(leaf, text, &mut lent.text[..ample(text.len())]);
+                let written = &lent.text[..outcome.length as usize];
+                outcome.refusal == 0 && rust.as_bytes() == written
+            }
+            Call::Description => {
+                let archive = descriptions::port_side::Archive;
+                let port = descriptions::port_side::PortSide::new(archive).describe(text);
+                descriptions::rust_side::describe(text) == port
+            }
+            Call::DescriptionByValue => by_value::same(text),
+        };
+        if !agree {
+            return Err(text);
+        }
+    }
+    Ok(())
+}
+
+fn measure(line: &Line, lent: &mut Lent) -> Times {
+    let texts = &line.texts;
+    let times = match line.call {
+        Call::Leaf(Leaf::Likely) => {
+            let [rust, port] = by_turns(
+                lent,
+                [
+                    &|_| batch(texts, |text| u64::from(rust_side::likely(text))),
+                    &|_| batch(texts, |text| u64::from(Archive.likely(text))),
+                ],
+            );
+            [rust, port, f64::NAN]
+        }
+        Call::Leaf(leaf) => measure_leaf(leaf, texts, lent),
+        Call::Description => measure_description(texts, lent),
+        Call::DescriptionByValue => measure_by_value(texts, lent),
+    };
+    let [rust, ample, exact] = times.map(|time| time / texts.len() as f64);
+    Times {
+        rust,
+        ample,
+        exact: Some(exact).filter(|time| !time.is_nan()),
+    }
+}
+
+fn measure_leaf(leaf: Leaf, texts: &[Vec<u8>], lent: &mut Lent) -> [f64; 3] {
+    let exact: Vec<usize> = texts
+        .iter()
+        .map(|text| rust_side::text(leaf, text).len())
+        .collect();
+    let any: Vec<usize> = texts.iter().map(|text| ample(text.len())).collect();
+    by_turns(
+        lent,
+        [
+            &|_| batch(texts, |text| read(rust_side::text(leaf, text).as_bytes())),
+            &|lent| port_texts(leaf, texts, &any, &mut lent.text),
+            &|lent| port_texts(leaf, texts, &exact, &mut lent.text),
+        ],
+    )
+}
+
+/// The port's calls for a line, each with the buffer's first bytes, so many of them as `sizes` says.
+fn port_texts(leaf: Leaf, texts: &[Vec<u8>], sizes: &[usize], buffer: &mut [u8]) -> u64 {
+    let mut sizes = sizes.iter();
+    batch(texts, |text| {
+        let size = *sizes.next().expect("a size for each text");
+        let outcome = Archive.write(leaf, text, &mut buffer[..size]);
+        read(&buffer[..outcome.length as usize])
+    })
+}
+
+/// All descriptions of a line have the same number of columns.
+fn measure_description(texts: &[Vec<u8>], lent: &mut Lent) -> [f64; 3] {
+    let exact = 2 * descriptions::rust_side::parsed(&texts[0]).len();
+    by_turns(
+        lent,
+        [
+            &|_| rust_descriptions(texts),
+            &|lent| port_descriptions(texts, &mut lent.words),
+            &|lent| port_descriptions(texts, &mut lent.words[..exact]),
+        ],
+    )
+}
+
+/// The same; the place of the last column is asked for.
+fn measure_by_value(texts: &[Vec<u8>], lent: &mut Lent) -> [f64; 3] {
+    let columns = descriptions::rust_side::parsed(&texts[0]).len();
+    let last = black_box(columns.saturating_sub(1));
+    let [rust, port] = by_turns(
+        lent,
+        [&|_| rust_descriptions(texts), &|_| {
+            batch(texts, |text| by_value::length_at(text, last))
+        }],
+    );
+    [rust, port, f64::NAN]
+}
+
+fn rust_descriptions(texts: &[Vec<u8>]) -> u64 {
+    batch(texts, |text| {
+        let columns = black_box(descriptions::rust_side::parsed(text));
+        columns.last().map_or(0, |last| u64::from(last.length))
+    })
+}
+
+fn port_descriptions(texts: &[Vec<u8>], words: &mut [u64]) -> u64 {
+    batch(texts, |text| {
+        let count = port::parse_qrydsc(text, words).count as usize;
+        let columns = black_box(&words[..2 * count]);
+        columns.last().map_or(0, |last| last & 0xFFFF)
+    })
+}
+
+/// Looks at a text: its length and its last byte, so that the compiler can leave out neither it nor its writing.
+fn read(text: &[u8]) -> u64 {
+    let text = black_box(text);
+    text.len() as u64 + u64::from(text[text.len() - 1])
+}
+
+/// Calls once for each text; the sum is looked at, the texts are not known to the compiler.
+fn batch(texts: &[Vec<u8>], mut call: impl FnMut(&[u8]) -> u64) -> u64 {
+    texts
+        .iter()
+        .map(|text| call(black_box(text)))
+        .fold(0, u64::wrapping_add)
+}
+
+/// What is timed: it may use what is lent, and answers a number that depends on all that it did.
+type Work<'a> = &'a dyn Fn(&mut Lent) -> u64;
+
+/// The processor time that this thread has used. On a machine that others use too, the time in which they run does not count.
+fn processor_time() -> Duration {
+    #[repr(C)]
+    struct Timespec {
+        seconds: i64,
+        nanoseconds: i64,
+    }
+    unsafe extern "C" {
+        fn clock_gettime(clock: i32, time: *mut Timespec) -> i32;
+    }
+    /// CLOCK_THREAD_CPUTIME_ID of Linux, for which alone the archive is made.
+    const THREAD: i32 = 3;
+    let mut time = Timespec {
+        seconds: 0,
+        nanoseconds: 0,
+    };
+    let status = unsafe { clock_gettime(THREAD, &mut time) };
+    assert_eq!(status, 0, "the thread's clock can be read");
+    Duration::new(time.seconds as u64, time.nanoseconds as u32)
+}
+
+/// The least time of each, in nanoseconds, taken by turns.
+fn by_turns<const N: usize>(lent: &mut Lent, works: [Work; N]) -> [f64; N] {
+    let mut least = [Duration::MAX; N];
+    let start = Instant::now();
+    let mut rounds = 0;
+    while rounds < ROUNDS || start.elapsed() < TIME {
+        for (work, least) in works.iter().zip(&mut least) {
+            let start = processor_time();
+            black_box(work(lent));
+            *least = (processor_time() - start).min(*least);
+        }
+        rounds += 1;
+    }
+    least.map(|time| time.as_secs_f64() * 1e9)
+}

@@ -1,0 +1,58 @@
+//! `differential SECONDS [SEED]` or `differential --cases N [--seed S]`: the port's row call, with the columns of descriptions and with
+//! callers' own, against the Rust's. With a number of cases a run is the same every time. `--fault NAME` asks a library with that fault.
+use differential::command::{self, grouped, Report};
+use differential::rows::compare::{Counts, Run, Stage};
+use differential::rows::faults::FAULTS;
+use differential::rows::model::Model;
+use differential::rows::port_side::{Archive, Library};
+use differential::run::Until;
+use port::column::NAMES;
+use std::process::ExitCode;
+
+fn main() -> ExitCode {
+    // `None` asks the model without a fault.
+    let named = |name: &str| match name {
+        "None" => Ok(None),
+        _ => command::named(FAULTS, name).map(Some),
+    };
+    command::main("differential", named, |until, seed, fault| match fault {
+        None => run(Archive, until, seed),
+        Some(fault) => run(Model(fault), until, seed),
+    })
+}
+
+fn run<L: Library>(library: L, until: Until, seed: u64) -> Report {
+    let mut run = Run::new(library, seed, until);
+    let end = run.from(Stage::Words);
+    Report {
+        counts: counted(&run.counts),
+        cases: format!("{} rows", grouped(run.counts.rows())),
+        end,
+    }
+}
+
+fn counted(counts: &Counts) -> Vec<(u64, String)> {
+    let answers = [
+        (counts.accepted, "accepted"),
+        (
+            counts.with_text,
+            "accepted with texts (and refusal 9 in shorter buffers)",
+        ),
+        (counts.external, "accepted with external columns"),
+        (counts.too_short, "refusal 8"),
+        (counts.refused_3, "refusal 3"),
+        (counts.refused_4, "refusal 4"),
+        (counts.refused_5, "refusal 5"),
+        (counts.refused_102, "102"),
+        (counts.descriptions, "descriptions before rows"),
+        (counts.alone, "demand 3: the bytes used alone"),
+        (counts.longer, "demand 3: a longer input"),
+        (counts.shorter, "demand 3: a shorter beginning"),
+    ];
+    let columns = counts.by_name.iter().zip(NAMES);
+    answers
+        .map(|(count, answer)| (count, answer.to_string()))
+        .into_iter()
+        .chain(columns.map(|(count, name)| (*count, format!("columns {name:?}"))))
+        .collect()
+}

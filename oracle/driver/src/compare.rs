@@ -1,0 +1,225 @@
+//! The differential run: first inputs by rule, then random ones, each asked of both sides. It ends at the first difference,
+//! with the smallest input that it finds.
+use crate::inputs::{self, Style, EDGE_BYTES, LIMIT_LENGTHS, LONG_LENGTHS, SEQUENCES};
+use crate::leaf::{Leaf, KINDS};
+use crate::port_side::{Library, PortSide};
+use crate::random::Random;
+use crate::request::Call;
+use crate::run::{Difference, End, Flow, Until};
+use crate::rust_side;
+use crate::shrink::Shrinking;
+use std::ops::ControlFlow::{Break, Continue};
+
+/// The parts of a run, the cheap ones first. The last has no end of its own.
+#[derive(Debug, Clone, Copy, PartialEq, Eq, PartialOrd, Ord)]
+pub enum Stage {
+    Short,
+    Edges,
+    Places,
+    Lengths,
+    Any,
+}
+
+const STAGES: [Stage; 5] = [
+    Stage::Short,
+    Stage::Edges,
+    Stage::Places,
+    Stage::Lengths,
+    Stage::Any,
+];
+
+/// How many bytes a pass may ask about that makes an input smaller.
+const BUDGET: usize = 20_000_000;
+
+pub struct Run<L> {
+    port: PortSide<L>,
+    random: Random,
+    until: Until,
+    /// How many cases ran, by kind of call.
+    pub counts: [u64; KINDS.len()],
+}
+
+impl<L: Library> Run<L> {
+    pub fn new(library: L, seed: u64, until: Until) -> Self {
+        Run {
+            port: PortSide::new(library),
+            random: Random::new(seed),
+            until,
+            counts: [0; KINDS.len()],
+        }
+    }
+
+    pub fn cases(&self) -> u64 {
+        self.counts.iter().sum()
+    }
+
+    /// The stages from `first` on.
+    pub fn from(&mut self, first: Stage) -> End {
+        for stage in STAGES.into_iter().filter(|stage| *stage >= first) {
+            let flow = match stage {
+                Stage::Short => self.short(),
+                Stage::Edges => self.edges(),
+                Stage::Places => self.places(),
+                Stage::Lengths => self.lengths(),
+                Stage::Any => self.any(),
+            };
+            if let Break(end) = flow {
+                return end;
+            }
+        }
+        End::Enough
+    }
+
+    /// One case: both sides are asked, and the port with every buffer that port_side has.
+    fn case(&mut self, leaf: Leaf, data: &[u8]) -> Flow {
+        if self.until.reached(self.cases(), data.len()) {
+            return Break(End::Enough);
+        }
+        self.counts[leaf.kind()] += 1;
+        if !self.differs(leaf, data) {
+            return Continue(());
+        }
+        Break(End::Different(Box::new(self.smallest(leaf, data))))
+    }
+
+    fn differs(&mut self, leaf: Leaf, data: &[u8]) -> bool {
+        rust_side::answer(leaf, data) != self.port.answer(leaf, data)
+    }
+
+    /// No byte, every one byte and every two bytes, for every call.
+    fn short(&mut self) -> Flow {
+        let leaves = inputs::leaves();
+        for &leaf in &leaves {
+            self.case(leaf, &[])?;
+            for byte in 0..=0xFF {
+                self.case(leaf, &[byte])?;
+            }
+        }
+        for &leaf in &leaves {
+            for pair in 0..=0xFFFF_u16 {
+                self.case(leaf, &pair.to_be_bytes())?;
+            }
+        }
+        Continue(())
+    }
+
+    /// Edge bytes: every three for every call; every four, and a letter behind them, where sequences of four have a meaning.
+    fn edges(&mut self) -> Flow {
+        let triples = tuples::<3>();
+        for leaf in inputs::leaves() {
+            for triple in &triples {
+                self.case(leaf, triple)?;
+            }
+        }
+        let fours = tuples::<4>();
+        for leaf in [
+            Leaf::Character { ccsid: 1208 },
+            Leaf::Graphic { ccsid: 1200 },
+            Leaf::Likely,
+        ] {
+            for &[a, b, c, d] in &fours {
+                self.case(leaf, &[a, b, c, d])?;
+                if leaf == (Leaf::Character { ccsid: 1208 }) {
+                    self.case(leaf, &[a, b, c, d, b'A'])?;
+                }
+            }
+        }
+        Continue(())
+    }
+
+    /// Each sequence at each place of a text of letters: code that goes by blocks meets it at every place of a block.
+    fn places(&mut self) -> Flow {
+        for leaf in inputs::leaves() {
+            for sequence in SEQUENCES {
+                for before in 0..=33 {
+                    for after in [0, 1, 2, 15, 16, 17] {
+                        let mut data = vec![b'a'; before];
+                        data.extend_from_slice(sequence);
+                        data.resize(data.len() + after, b'z');
+                        self.case(leaf, &data)?;
+                    }
+                }
+            }
+        }
+        Continue(())
+    }
+
+    /// Every call at the lengths of a page and at the limit, with bytes of several styles.
+    fn lengths(&mut self) -> Flow {
+        for leaf in inputs::leaves() {
+            for style in inputs::STYLES {
+                for length in LONG_LENGTHS {
+                    self.styled(leaf, style, length)?;
+                }
+            }
+            for style in [Style::DamagedUtf8, Style::DamagedUtf16] {
+                for length in LIMIT_LENGTHS {
+                    self.styled(leaf, style, length)?;
+                }
+            }
+        }
+        Continue(())
+    }
+
+    /// Random calls with random bytes of random lengths.
+    fn any(&mut self) -> Flow {
+        loop {
+            let leaf = inputs::random_leaf(&mut self.random);
+            let style = inputs::random_style(&mut self.random, leaf);
+            let length = inputs::random_length(&mut self.random);
+            self.styled(leaf, style, length)?;
+        }
+    }
+
+    fn styled(&mut self, leaf: Leaf, style: Style, length: usize) -> Flow {
+        let mut data = Vec::new();
+        inputs::fill(&mut self.random, style, length, &mut data);
+        self.case(leaf, &data)
+    }
+
+    /// The smallest input found that still differs: bytes are cut out, then lowered.
+    fn smallest(&mut self, leaf: Leaf, data: &[u8]) -> Difference {
+        let leaf = self.plain(leaf, data);
+        let mut shrinking = Shrinking::new(data, BUDGET, |data: &[u8]| self.differs(leaf, data));
+        shrinking.cut();
+        shrinking.lower();
+        let smallest = shrinking.data;
+        let rust = rust_side::answer(leaf, &smallest);
+        let port = self.port.answer(leaf, &smallest);
+        let lengths = Some((smallest.len(), data.len()));
+        let request = Call {
+            leaf,
+            data: smallest.clone(),
+        };
+        Difference {
+            rust: format!("{request} A {rust}"),
+            port: format!("{request} A {port}"),
+            lengths,
+        }
+    }
+
+    /// The call with the precision that a line passes, where that differs too.
+    fn plain(&mut self, leaf: Leaf, data: &[u8]) -> Leaf {
+        match leaf {
+            Leaf::Decimal { scale, .. } if self.differs(Leaf::decimal(scale), data) => {
+                Leaf::decimal(scale)
+            }
+            _ => leaf,
+        }
+    }
+}
+
+/// All sequences of N edge bytes.
+fn tuples<const N: usize>() -> Vec<[u8; N]> {
+    let edges = EDGE_BYTES.len();
+    (0..edges.pow(N as u32))
+        .map(|number| {
+            let mut rest = number;
+            [(); N].map(|()| {
+                let byte = EDGE_BYTES[rest % edges];
+                rest /= edges;
+                byte
+            })
+        })
+        .collect()
+}

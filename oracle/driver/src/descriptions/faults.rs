@@ -1,0 +1,332 @@
+//! Libraries with a fault, to see that the differential run notices each. A fault shows only on some inputs, as a real one would.
+use super::inputs::triplets;
+use super::port_side::{Archive, Library, AMPLE};
+use super::{COLUMN_LIMIT, DESCRIPTION_LIMIT};
+use port::column::{Column, Name, Order};
+use port::{Described, FixedLength, TOO_FEW_WORDS};
+
+#[derive(Debug, Clone, Copy, PartialEq, Eq)]
+pub enum Fault {
+    /// A later environment entry replaces an earlier one.
+    LaterEntry,
+    /// 0A in a group is Real.
+    GroupReal,
+    /// CE in a group is VarChar, as in an SDA.
+    GroupVarChar,
+    /// An unknown triplet lets pending stand.
+    PendingKept,
+    /// An MDD without data lets an older pending stand.
+    EmptyMddIgnored,
+    /// An SDA without data does not use pending up.
+    EmptySdaIgnored,
+    /// 51 is nullable when declared.
+    DeclaredNullable,
+    /// CCSID 0 turns 30 and 32 into binary when declared, too.
+    DeclaredBinary,
+    /// Column numbers begin with 1.
+    IndexFromOne,
+    /// The reference length is lost.
+    ReferenceLost,
+    /// The reference length keeps the bit that says that it is there.
+    ReferenceBit,
+    /// A reference length of 0 counts as none.
+    ReferenceZero,
+    /// A spare bit is set.
+    SpareBit,
+    /// A word past the columns changes.
+    AfterColumns,
+    /// A word changes although the words are too few.
+    ChangedOn101,
+    /// One word too few is enough.
+    TooFewTaken,
+    /// 101 with one column more than there are.
+    CountOn101,
+    /// 101 comes before refusal 2.
+    TooFewFirst,
+    /// Refusal 1 at the limit.
+    BytesEarly,
+    /// No refusal 1 one above the limit.
+    BytesLate,
+    /// Refusal 2 at the limit.
+    ColumnsEarly,
+    /// Refusal 2 comes before refusal 1.
+    ColumnsFirst,
+    /// The fixed length of a Graphic in characters.
+    GraphicCharacters,
+    /// The fixed length of LobBytes with the bit 8000.
+    LobBit,
+    /// A word with a bit above a type's is taken.
+    HighBitTaken,
+}
+
+pub const FAULTS: [Fault; 25] = [
+    Fault::LaterEntry,
+    Fault::GroupReal,
+    Fault::GroupVarChar,
+    Fault::PendingKept,
+    Fault::EmptyMddIgnored,
+    Fault::EmptySdaIgnored,
+    Fault::DeclaredNullable,
+    Fault::DeclaredBinary,
+    Fault::IndexFromOne,
+    Fault::ReferenceLost,
+    Fault::ReferenceBit,
+    Fault::ReferenceZero,
+    Fault::SpareBit,
+    Fault::AfterColumns,
+    Fault::ChangedOn101,
+    Fault::TooFewTaken,
+    Fault::CountOn101,
+    Fault::TooFewFirst,
+    Fault::BytesEarly,
+    Fault::BytesLate,
+    Fault::ColumnsEarly,
+    Fault::ColumnsFirst,
+    Fault::GraphicCharacters,
+    Fault::LobBit,
+    Fault::HighBitTaken,
+];
+
+/// The archive with a fault.
+pub struct Faulty(pub Fault);
+
+/// The description without the triplets that `drop` names.
+fn without(data: &[u8], drop: impl Fn(&[u8]) -> bool) -> Vec<u8> {
+    let all = triplets(data);
+    let end = all.last().map_or(0, |last| last.end);
+    let kept = all.into_iter().map(|place| &data[place]);
+    let mut rest: Vec<&[u8]> = kept.filter(|triplet| !drop(triplet)).collect();
+    rest.push(&data[end..]);
+    rest.concat()
+}
+
+/// The description in which an entry that is declared again has another LID from there on, and so have the references to it:
+/// a right library then answers what one would with which later entries count. A column does not show its LID.
+fn renamed(data: &[u8]) -> Vec<u8> {
+    let mut renamed = data.to_vec();
+    let mut free = (0..=0xFF).rev().filter(|lid| !data.contains(lid));
+    let mut names: [Option<u8>; 256] = [None; 256];
+    let mut pending = false;
+    for place in triplets(data) {
+        let body = &mut renamed[place][1..];
+        match body {
+            [0x78, rest @ ..] => pending = !rest.is_empty(),
+            [0x70, lid, ..] if pending => {
+                let name = &mut names[usize::from(*lid)];
+                // Where no LID is free the first entry goes on to count.
+                *name = name.map_or(Some(*lid), |old| free.next().or(Some(old)));
+                *lid = name.unwrap_or(*lid);
+                pending = false;
+            }
+            [0x76, 0xD0, columns @ ..] => {
+                for column in columns.as_chunks_mut::<3>().0 {
+                    column[0] = names[usize::from(column[0])].unwrap_or(column[0]);
+                }
+                pending = false;
+            }
+            _ => pending = false,
+        }
+    }
+    renamed
+}
+
+impl Faulty {
+    /// The description that a right library answers as this one answers the given.
+    fn other_input(&self, data: &[u8]) -> Option<Vec<u8>> {
+        match self.0 {
+            Fault::LaterEntry => Some(renamed(data)),
+            Fault::PendingKept => Some(without(data, |triplet| {
+                !matches!(triplet[1], 0x70 | 0x71 | 0x76 | 0x78)
+            })),
+            Fault::EmptyMddIgnored => Some(without(data, |triplet| triplet == [2, 0x78])),
+            Fault::EmptySdaIgnored => Some(without(data, |triplet| triplet == [2, 0x70])),
+            Fault::BytesLate if data.len() == DESCRIPTION_LIMIT + 1 => {
+                Some(data[..DESCRIPTION_LIMIT].to_vec())
+            }
+            _ => None,
+        }
+    }
+
+    /// The wrong answer, where the fault is one of the numbers.
+    fn wrong_number(&self, data: &[u8], answer: Described, lent: usize) -> Option<Described> {
+        let refuse = |number| Some(Described { number, count: 0 });
+        let count = answer.count as usize;
+        match (self.0, answer.number) {
+            (Fault::BytesEarly, 0) if data.len() == DESCRIPTION_LIMIT => refuse(1),
+            (Fault::ColumnsEarly, 0 | TOO_FEW_WORDS) if count == COLUMN_LIMIT => refuse(2),
+            (Fault::ColumnsFirst, 1) => {
+                let cut = Archive.parse_qrydsc(&data[..DESCRIPTION_LIMIT], &mut []);
+                (cut.number == 2).then_some(cut)
+            }
+            (Fault::TooFewFirst, 2) if lent == 0 => Some(Described {
+                number: TOO_FEW_WORDS,
+                count: COLUMN_LIMIT as u64 + 1,
+            }),
+            (Fault::CountOn101, TOO_FEW_WORDS) => Some(Described {
+                count: answer.count + 1,
+                ..answer
+            }),
+            (Fault::TooFewTaken, TOO_FEW_WORDS) if lent + 1 == 2 * count => Some(Described {
+                number: 0,
+                ..answer
+            }),
+            _ => None,
+        }
+    }
+
+    fn wrong_column(&self, column: &mut Column) {
+        let in_group = column.order == Order::Big;
+        let plain = column.code & 0xFE;
+        match self.0 {
+            Fault::GroupReal if in_group && plain == 0x0A => {
+                column.db2_type = Name::Real.plain();
+            }
+            Fault::GroupVarChar if in_group && plain == 0xCE => {
+                column.db2_type = Name::VarChar.with(column.length);
+            }
+            Fault::DeclaredNullable if in_group && column.code == 0x51 => column.nullable = true,
+            Fault::DeclaredBinary if in_group && column.ccsid == 0 && plain == 0x30 => {
+                column.db2_type = Name::Binary.with(column.length);
+            }
+            Fault::IndexFromOne => column.index += 1,
+            Fault::ReferenceLost => column.reference = None,
+            Fault::ReferenceBit => column.reference = column.reference.map(|n| n | 0x8000),
+            Fault::ReferenceZero => column.reference = column.reference.filter(|n| *n != 0),
+            _ => {}
+        }
+    }
+
+    /// Puts the fault into the words, where it is one of them.
+    fn wrong_words(&self, answer: Described, words: &mut [u64]) {
+        let used = match answer.number {
+            0 => 2 * answer.count as usize,
+            _ => 0,
+        };
+        for pair in words[..used].as_chunks_mut::<2>().0 {
+            let mut column = Column::from_words(*pair).expect("the archive's columns are some");
+            self.wrong_column(&mut column);
+            *pair = column.words();
+        }
+        match (self.0, answer.number) {
+            (Fault::SpareBit, 0) if used > 0 => words[0] |= 1 << 63,
+            (Fault::AfterColumns, 0) if used > 0 && words.len() > used => words[used] = 0,
+            (Fault::ChangedOn101, TOO_FEW_WORDS) if !words.is_empty() => words[0] = 0,
+            _ => {}
+        }
+    }
+}
+
+impl Library for Faulty {
+    fn parse_qrydsc(&self, data: &[u8], words: &mut [u64]) -> Described {
+        if let Some(other) = self.other_input(data) {
+            return Archive.parse_qrydsc(&other, words);
+        }
+        // The archive writes into words of its own: a wrong refusal leaves the lent ones alone.
+        let mut own = [0; AMPLE + 8];
+        own[..words.len()].copy_from_slice(words);
+        let own = &mut own[..words.len()];
+        let answer = Archive.parse_qrydsc(data, own);
+        if let Some(wrong) = self.wrong_number(data, answer, words.len()) {
+            return wrong;
+        }
+        self.wrong_words(answer, own);
+        words.copy_from_slice(own);
+        answer
+    }
+
+    fn fixed_length(&self, type_word: u64) -> FixedLength {
+        let mut answer = Archive.fixed_length(type_word);
+        let is = |name: Name| type_word & 0xFF == name as u64;
+        match self.0 {
+            Fault::GraphicCharacters if is(Name::Graphic) => answer.length /= 2,
+            Fault::LobBit if is(Name::LobBytes) && answer.number == 0 => {
+                answer.length = type_word >> 8;
+            }
+            Fault::HighBitTaken => return Archive.fixed_length(type_word & !(1 << 40)),
+            _ => {}
+        }
+        answer
+    }
+}
+
+#[cfg(test)]
+mod tests {
+    use super::*;
+    use crate::descriptions::compare::{Run, Stage};
+    use crate::run::{Difference, End, Until};
+
+    /// The first stage that can notice a fault: those before it would cost time.
+    fn stage(fault: Fault) -> Stage {
+        match fault {
+            Fault::GraphicCharacters | Fault::LobBit | Fault::HighBitTaken => Stage::Types,
+            Fault::TooFewFirst
+            | Fault::BytesEarly
+            | Fault::BytesLate
+            | Fault::ColumnsEarly
+            | Fault::ColumnsFirst => Stage::Limits,
+            Fault::LaterEntry => Stage::Sequences,
+            _ => Stage::Codes,
+        }
+    }
+
+    fn found(fault: Fault) -> Difference {
+        let mut run = Run::new(Faulty(fault), 1, Until::Cases(10_000_000));
+        match run.from(stage(fault)) {
+            End::Different(difference) => *difference,
+            End::Enough => panic!("{fault:?} was not noticed"),
+        }
+    }
+
+    /// The port's line for the smallest description, or type, that shows a fault.
+    fn smallest(fault: Fault) -> String {
+        let line = match fault {
+            Fault::LaterEntry => {
+                "Q 0378000370440378010370440676D0440000 R - C 1 VarChar.0:01:0:0:0:1:0:-:B"
+            }
+            Fault::GroupReal => "Q 0676D00A0000 R - C 1 Real:0A:0:0:0:0:0:-:B",
+            Fault::GroupVarChar => "Q 0676D0CE0000 R - C 1 VarChar.0:CE:0:0:0:0:1208:-:B",
+            Fault::PendingKept => "Q 0378000200037000 R - C 0",
+            Fault::EmptyMddIgnored => "Q 0378000278037000 R - C 0",
+            Fault::EmptySdaIgnored => "Q 0378000270037000 R - C 0",
+            Fault::DeclaredNullable => {
+                "Q 0378510370510676D0510000 R - C 1 LobChar.0:51:0:0:0:1:0:-:B"
+            }
+            Fault::DeclaredBinary => "Q 0378300370300676D0300000 R - C 1 Binary.0:30:0:0:0:0:0:-:B",
+            Fault::IndexFromOne => "Q 037000 R - C - A BADINDEX",
+            Fault::ReferenceLost | Fault::ReferenceZero => {
+                "Q 0570C88000 R - C 1 Blob:C8:32768:0:0:0:0:-:L"
+            }
+            Fault::ReferenceBit => "Q 0570C88000 R - C 1 Blob:C8:32768:0:0:0:0:32768:L",
+            Fault::SpareBit => "Q 037000 R - C - A BADWORD",
+            Fault::AfterColumns => "Q 037000 R - C - A BADREST",
+            Fault::ChangedOn101 | Fault::TooFewTaken | Fault::CountOn101 => {
+                "Q 037000 R - C - A BAD101"
+            }
+            Fault::TooFewFirst => &repeated("037000", 129, "C - A BAD101"),
+            Fault::BytesEarly => &repeated("00", 65_536, "C - A REFUSE1"),
+            Fault::BytesLate => &repeated("00", 65_537, "C 0"),
+            Fault::ColumnsEarly => &repeated("037000", 128, "C - A REFUSE2"),
+            // So many bytes with columns in them take longer to make small than a test may.
+            Fault::ColumnsFirst => "",
+            Fault::GraphicCharacters => "F Graphic.1 A 1",
+            Fault::LobBit => "F LobBytes.32768 A 32768",
+            Fault::HighBitTaken => "vejupa_fixed_length(0x10000000000) A 2",
+        };
+        line.to_string()
+    }
+
+    fn repeated(part: &str, times: usize, answer: &str) -> String {
+        format!("Q {} R - {answer}", part.repeat(times))
+    }
+
+    #[test]
+    fn every_fault_is_noticed_and_its_description_made_small() {
+        for fault in FAULTS {
+            let Difference { port, .. } = found(fault);
+            match fault {
+                Fault::ColumnsFirst => assert!(port.ends_with("C - A REFUSE2")),
+                _ => assert!(port == smallest(fault), "{fault:?}: {:.200}", port),
+            }
+        }
+    }
+}

@@ -1,0 +1,171 @@
+//! The answers of the published Rust. It has no limits of its own: those of the port are applied here.
+use super::{Description, FixedLength, COLUMN_LIMIT, DESCRIPTION_LIMIT};
+use db2_proto::fdoca::{parse_qrydsc, ByteOrder, ColumnDescriptor};
+use db2_proto::types::Db2Type;
+use port::column::{Column, Name, Order, Type};
+
+pub fn describe(data: &[u8]) -> Description {
+    if data.len() > DESCRIPTION_LIMIT {
+        return Description::Refusal(1);
+    }
+    let columns = parsed(data);
+    if columns.len() > COLUMN_LIMIT {
+        return Description::Refusal(2);
+    }
+    Description::Columns(columns.iter().map(column).collect())
+}
+
+/// The columns that the Rust gives, without limits.
+pub fn parsed(data: &[u8]) -> Vec<ColumnDescriptor> {
+    parse_qrydsc(data).expect("the Rust refuses no description")
+}
+
+pub fn fixed_length(asked: Type) -> FixedLength {
+    match published_type(asked).fixed_length() {
+        Some(length) => FixedLength::Bytes(length as u64),
+        None => FixedLength::Varies,
+    }
+}
+
+fn column(column: &ColumnDescriptor) -> Column {
+    Column {
+        index: u16::try_from(column.column_index).expect("below the limit"),
+        db2_type: named(&column.db2_type),
+        code: column.drda_type,
+        length: column.length,
+        precision: column.precision,
+        scale: column.scale,
+        nullable: column.nullable,
+        ccsid: column.ccsid,
+        reference: column.extdta_reference_length,
+        order: match column.byte_order {
+            ByteOrder::BigEndian => Order::Big,
+            ByteOrder::LittleEndian => Order::Little,
+        },
+    }
+}
+
+/// A type of the Rust by its name and its numbers.
+fn named(published: &Db2Type) -> Type {
+    match *published {
+        Db2Type::SmallInt => Name::SmallInt.plain(),
+        Db2Type::Integer => Name::Integer.plain(),
+        Db2Type::BigInt => Name::BigInt.plain(),
+        Db2Type::Real => Name::Real.plain(),
+        Db2Type::Double => Name::Double.plain(),
+        Db2Type::Decimal { precision, scale } => Type::decimal(precision, scale),
+        Db2Type::DecFloat(digits) => Name::DecFloat.with(digits.into()),
+        Db2Type::Char(length) => Name::Char.with(length),
+        Db2Type::VarChar(length) => Name::VarChar.with(length),
+        Db2Type::LongVarChar => Name::LongVarChar.plain(),
+        Db2Type::Clob => Name::Clob.plain(),
+        Db2Type::Binary(length) => Name::Binary.with(length),
+        Db2Type::VarBinary(length) => Name::VarBinary.with(length),
+        Db2Type::Blob => Name::Blob.plain(),
+        Db2Type::BlobLocator => Name::BlobLocator.plain(),
+        Db2Type::Date => Name::Date.plain(),
+        Db2Type::Time => Name::Time.plain(),
+        Db2Type::Timestamp => Name::Timestamp.plain(),
+        Db2Type::Graphic(length) => Name::Graphic.with(length),
+        Db2Type::VarGraphic(length) => Name::VarGraphic.with(length),
+        Db2Type::DbClob => Name::DbClob.plain(),
+        Db2Type::ClobLocator => Name::ClobLocator.plain(),
+        Db2Type::DbClobLocator => Name::DbClobLocator.plain(),
+        Db2Type::LobBytes(length) => Name::LobBytes.with(length),
+        Db2Type::LobChar(length) => Name::LobChar.with(length),
+        Db2Type::RowId(length) => Name::RowId.with(length),
+        Db2Type::Boolean => Name::Boolean.plain(),
+        Db2Type::Xml => Name::Xml.plain(),
+        Db2Type::Null => Name::Null.plain(),
+    }
+}
+
+/// The Rust's type of a name and its numbers.
+pub fn published_type(asked: Type) -> Db2Type {
+    let length = asked.numbers;
+    let [precision, scale] = asked.precision_and_scale();
+    match asked.name {
+        Name::SmallInt => Db2Type::SmallInt,
+        Name::Integer => Db2Type::Integer,
+        Name::BigInt => Db2Type::BigInt,
+        Name::Real => Db2Type::Real,
+        Name::Double => Db2Type::Double,
+        Name::Decimal => Db2Type::Decimal { precision, scale },
+        // The digits stand where a Decimal has its precision.
+        Name::DecFloat => Db2Type::DecFloat(precision),
+        Name::Char => Db2Type::Char(length),
+        Name::VarChar => Db2Type::VarChar(length),
+        Name::LongVarChar => Db2Type::LongVarChar,
+        Name::Clob => Db2Type::Clob,
+        Name::Binary => Db2Type::Binary(length),
+        Name::VarBinary => Db2Type::VarBinary(length),
+        Name::Blob => Db2Type::Blob,
+        Name::BlobLocator => Db2Type::BlobLocator,
+        Name::Date => Db2Type::Date,
+        Name::Time => Db2Type::Time,
+        Name::Timestamp => Db2Type::Timestamp,
+        Name::Graphic => Db2Type::Graphic(length),
+        Name::VarGraphic => Db2Type::VarGraphic(length),
+        Name::DbClob => Db2Type::DbClob,
+        Name::ClobLocator => Db2Type::ClobLocator,
+        Name::DbClobLocator => Db2Type::DbClobLocator,
+        Name::LobBytes => Db2Type::LobBytes(length),
+        Name::LobChar => Db2Type::LobChar(length),
+        Name::RowId => Db2Type::RowId(length),
+        Name::Boolean => Db2Type::Boolean,
+        Name::Xml => Db2Type::Xml,
+        Name::Null => Db2Type::Null,
+    }
+}
+
+#[cfg(test)]
+mod tests {
+    use super::*;
+    use port::column::NAMES;
+
+    #[test]
+    fn a_type_goes_to_the_rust_and_back() {
+        for name in NAMES {
+            for numbers in [0, 5, 34, 0x0205, 0x8000, 0xFFFF] {
+                if let Some(asked) = Type::from_word(name.with(numbers).word()) {
+                    assert_eq!(named(&published_type(asked)), asked);
+                    let shown = format!("{:?}", published_type(asked));
+                    assert!(shown.starts_with(&format!("{name:?}")));
+                }
+            }
+        }
+    }
+
+    #[test]
+    fn the_limits_stand_where_they_must_and_in_their_order() {
+        let columns = |count: usize| [5, 0x70, 2, 0, 4].repeat(count);
+        let padded = |count: usize, length: usize| {
+            let mut data = columns(count);
+            data.resize(length, 0);
+            data
+        };
+        assert!(matches!(describe(&columns(128)), Description::Columns(_)));
+        assert_eq!(describe(&columns(129)), Description::Refusal(2));
+        let at = padded(128, DESCRIPTION_LIMIT);
+        assert!(matches!(describe(&at), Description::Columns(_)));
+        let above = padded(129, DESCRIPTION_LIMIT + 1);
+        assert_eq!(describe(&above), Description::Refusal(1));
+    }
+
+    /// A few of the published rules' own examples.
+    #[test]
+    fn known_answers() {
+        let shown = |data: &[u8]| describe(data).to_string();
+        assert_eq!(shown(&[]), "C 0");
+        assert_eq!(
+            shown(&[9, 0x76, 0xD0, 5, 0, 2, 0x0F, 5, 2]),
+            "C 2 SmallInt:05:2:0:0:1:0:-:B Decimal.5.2:0F:3:5:2:1:0:-:B"
+        );
+        assert_eq!(
+            shown(&[5, 0x70, 0xC8, 0x80, 0]),
+            "C 1 Blob:C8:32768:0:0:0:0:0:L"
+        );
+        assert_eq!(fixed_length(Name::Graphic.with(3)), FixedLength::Bytes(6));
+        assert_eq!(fixed_length(Name::Xml.plain()), FixedLength::Varies);
+    }
+}

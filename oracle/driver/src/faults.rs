@@ -1,0 +1,288 @@
+//! Libraries with a fault, to see that the differential run notices each. A fault shows only on some inputs, as a real one would.
+use crate::leaf::{Leaf, TEXT_LIMIT};
+use crate::port_side::{ample, Archive, Library};
+use port::Outcome;
+
+#[derive(Debug, Clone, Copy, PartialEq, Eq)]
+pub enum Fault {
+    /// The last byte of a text of five or more input bytes is another.
+    WrongByte,
+    /// The length told is one less than the text's.
+    LengthShort,
+    /// The length told is one more than the text's.
+    LengthLong,
+    /// The byte after the text changes, in a large buffer only.
+    AfterText,
+    /// One more U+FFFD behind a text that has one.
+    MoreReplacements,
+    /// One U+FFFD for a row of them.
+    FewerReplacements,
+    /// The buffer changes although refusal 9 is answered.
+    ChangedOnRefusal,
+    /// Refusal 9 with one byte more than needed.
+    NeededLong,
+    /// Refusal 9 where the text just fits.
+    RefusedAtFit,
+    /// Refusal 4 at the limit.
+    LimitEarly,
+    /// No refusal 4 one above the limit.
+    LimitLate,
+    /// Refusal 7 at 128 bytes.
+    DecimalLimitEarly,
+    /// Refusal 7 where 6 is due.
+    EmptyDecimal,
+    /// The sign of a minus zero is lost.
+    MinusZero,
+    /// The precision takes part.
+    PrecisionUsed,
+    /// CCSID 500 by its own table and not by 037's.
+    Own500,
+    /// CCSID 13488 is no UTF-16.
+    No13488,
+    /// 7F counts as shown in the test for text.
+    DeleteShown,
+    /// U+0085 counts as shown in the test for text.
+    ControlsShown,
+    /// A row id in lower case.
+    LowerRowId,
+    /// Another beginning of a locator.
+    LocatorBeginning,
+}
+
+pub const FAULTS: [Fault; 21] = [
+    Fault::WrongByte,
+    Fault::LengthShort,
+    Fault::LengthLong,
+    Fault::AfterText,
+    Fault::MoreReplacements,
+    Fault::FewerReplacements,
+    Fault::ChangedOnRefusal,
+    Fault::NeededLong,
+    Fault::RefusedAtFit,
+    Fault::LimitEarly,
+    Fault::LimitLate,
+    Fault::DecimalLimitEarly,
+    Fault::EmptyDecimal,
+    Fault::MinusZero,
+    Fault::PrecisionUsed,
+    Fault::Own500,
+    Fault::No13488,
+    Fault::DeleteShown,
+    Fault::ControlsShown,
+    Fault::LowerRowId,
+    Fault::LocatorBeginning,
+];
+
+/// The archive with a fault.
+pub struct Faulty(pub Fault);
+
+const REPLACEMENT: &[u8] = "\u{FFFD}".as_bytes();
+
+/// The archive's whole text, where it accepts the bytes.
+fn whole(leaf: Leaf, data: &[u8]) -> Option<Vec<u8>> {
+    let mut text = vec![0; ample(data.len()) + 300];
+    let outcome = Archive.write(leaf, data, &mut text);
+    text.truncate(outcome.length as usize);
+    (outcome.refusal == 0).then_some(text)
+}
+
+/// What a right library would do with another text.
+fn deliver(other: &[u8], text: &mut [u8]) -> Outcome {
+    let refusal = if text.len() < other.len() { 9 } else { 0 };
+    if refusal == 0 {
+        text[..other.len()].copy_from_slice(other);
+    }
+    Outcome {
+        refusal,
+        length: other.len() as u64,
+    }
+}
+
+/// The text with a row of U+FFFD made one.
+fn merged(text: &[u8]) -> Vec<u8> {
+    let mut text = String::from_utf8(text.to_vec()).expect("UTF-8");
+    while text.contains("\u{FFFD}\u{FFFD}") {
+        text = text.replace("\u{FFFD}\u{FFFD}", "\u{FFFD}");
+    }
+    text.into_bytes()
+}
+
+fn has_replacement(text: &[u8]) -> bool {
+    text.windows(3).any(|part| part == REPLACEMENT)
+}
+
+fn exchanged(data: &[u8], from: u8, to: u8) -> Vec<u8> {
+    let exchange = |byte: &u8| if *byte == from { to } else { *byte };
+    data.iter().map(exchange).collect()
+}
+
+impl Faulty {
+    /// Whether the fault is one of the text that this call gives.
+    fn is_in_text(&self, leaf: Leaf, data: &[u8]) -> bool {
+        match self.0 {
+            Fault::WrongByte => data.len() >= 5,
+            Fault::MoreReplacements | Fault::FewerReplacements => matches!(
+                leaf,
+                Leaf::Character { ccsid: 1208 } | Leaf::Graphic { ccsid: 1200 }
+            ),
+            Fault::MinusZero => matches!(leaf, Leaf::Decimal { .. }),
+            Fault::PrecisionUsed => matches!(leaf, Leaf::Decimal { precision: 0, .. }),
+            Fault::Own500 => leaf == Leaf::Character { ccsid: 500 },
+            Fault::No13488 => leaf == Leaf::Graphic { ccsid: 13488 },
+            Fault::LowerRowId => leaf == Leaf::RowId,
+            Fault::LocatorBeginning => leaf == Leaf::Locator,
+            _ => false,
+        }
+    }
+
+    /// The wrong text, where the bytes are accepted and the fault is one of the text.
+    fn wrong_text(&self, leaf: Leaf, data: &[u8]) -> Option<Vec<u8>> {
+        if !self.is_in_text(leaf, data) {
+            return None;
+        }
+        let mut text = whole(leaf, data)?;
+        match self.0 {
+            Fault::WrongByte => *text.last_mut()? ^= 1,
+            Fault::MoreReplacements if has_replacement(&text) => {
+                text.extend_from_slice(REPLACEMENT)
+            }
+            Fault::FewerReplacements => text = merged(&text),
+            Fault::MinusZero if text == b"-0" => text = b"0".to_vec(),
+            Fault::PrecisionUsed => text = b"0".to_vec(),
+            Fault::Own500 => text = whole(leaf, &exchanged(data, 0x4A, 0xBA))?,
+            Fault::No13488 => text = whole(Leaf::Character { ccsid: 13488 }, data)?,
+            Fault::LowerRowId => text.make_ascii_lowercase(),
+            Fault::LocatorBeginning => text[4] = b'L',
+            _ => {}
+        }
+        Some(text)
+    }
+
+    /// The wrong outcome, where the fault is one of a limit.
+    fn wrong_limit(&self, leaf: Leaf, data: &[u8], text: &mut [u8]) -> Option<Outcome> {
+        let refuse = |refusal| Some(Outcome { refusal, length: 0 });
+        let decimal = matches!(leaf, Leaf::Decimal { .. });
+        match self.0 {
+            Fault::LimitEarly if !decimal && data.len() == TEXT_LIMIT => refuse(4),
+            Fault::LimitLate if !decimal && data.len() == TEXT_LIMIT + 1 => {
+                Some(Archive.write(leaf, &data[1..], text))
+            }
+            Fault::DecimalLimitEarly if decimal && data.len() == 128 => refuse(7),
+            Fault::EmptyDecimal if decimal && data.is_empty() => refuse(7),
+            _ => None,
+        }
+    }
+
+    /// The archive's outcome with the fault put into it, where the fault is one of numbers or of other bytes.
+    fn wrong_outcome(&self, mut outcome: Outcome, data: &[u8], text: &mut [u8]) -> Outcome {
+        let length = outcome.length as usize;
+        match (self.0, outcome.refusal) {
+            (Fault::LengthShort, 0) if length > 0 => outcome.length -= 1,
+            (Fault::LengthLong, 0) => outcome.length += 1,
+            (Fault::AfterText, 0) if text.len() > length.max(ample(data.len())) => {
+                text[length] ^= 0x55
+            }
+            (Fault::ChangedOnRefusal, 9) if !text.is_empty() => text[0] ^= 0x55,
+            (Fault::NeededLong, 9) => outcome.length += 1,
+            (Fault::RefusedAtFit, 0) if length > 0 && length == text.len() => outcome.refusal = 9,
+            _ => {}
+        }
+        outcome
+    }
+}
+
+impl Library for Faulty {
+    fn write(&self, leaf: Leaf, data: &[u8], text: &mut [u8]) -> Outcome {
+        if let Some(outcome) = self.wrong_limit(leaf, data, text) {
+            return outcome;
+        }
+        if let Some(other) = self.wrong_text(leaf, data) {
+            return deliver(&other, text);
+        }
+        let outcome = Archive.write(leaf, data, text);
+        self.wrong_outcome(outcome, data, text)
+    }
+
+    fn likely(&self, data: &[u8]) -> u32 {
+        match self.0 {
+            Fault::DeleteShown => Archive.likely(&exchanged(data, 0x7F, 0x41)),
+            Fault::ControlsShown => {
+                let text = String::from_utf8_lossy(data).replace('\u{85}', "A");
+                Archive.likely(if std::str::from_utf8(data).is_ok() {
+                    text.as_bytes()
+                } else {
+                    data
+                })
+            }
+            _ => Archive.likely(data),
+        }
+    }
+}
+
+#[cfg(test)]
+mod tests {
+    use super::*;
+    use crate::compare::{Run, Stage};
+    use crate::run::{Difference, End, Until};
+
+    /// The first stage that can notice a fault: those before it would cost time.
+    fn stage(fault: Fault) -> Stage {
+        match fault {
+            Fault::LimitEarly | Fault::LimitLate => Stage::Lengths,
+            Fault::WrongByte => Stage::Places,
+            Fault::DecimalLimitEarly | Fault::PrecisionUsed => Stage::Any,
+            _ => Stage::Short,
+        }
+    }
+
+    fn found(fault: Fault) -> Difference {
+        let mut run = Run::new(Faulty(fault), 1, Until::Cases(10_000_000));
+        match run.from(stage(fault)) {
+            End::Different(difference) => *difference,
+            End::Enough => panic!("{fault:?} was not noticed"),
+        }
+    }
+
+    /// How the line with the smallest input that shows a fault begins, and the port's answer, where it is short.
+    fn smallest(fault: Fault) -> &'static str {
+        match fault {
+            Fault::WrongByte => "T 1208 0000000000 A 0000000001",
+            Fault::LengthShort => "T 1208 00 A BAD9",
+            Fault::LengthLong => "T 1208 - A BAD9",
+            Fault::AfterText => "T 1208 - A BADREST",
+            Fault::MoreReplacements => "T 1208 80 A EFBFBDEFBFBD",
+            Fault::FewerReplacements => "T 1208 8080 A EFBFBD",
+            Fault::ChangedOnRefusal => "T 1208 80 A BAD9",
+            Fault::NeededLong => "T 1208 00 A BAD9",
+            Fault::RefusedAtFit => "T 1208 00 A BAD9",
+            Fault::LimitEarly | Fault::LimitLate => "T 1208 000000",
+            Fault::DecimalLimitEarly => "P ",
+            Fault::EmptyDecimal => "P 0 - A REFUSE7",
+            Fault::MinusZero => "P 0 0D A 30",
+            Fault::PrecisionUsed => "decode_packed_decimal(00, 0, ",
+            Fault::Own500 => "T 500 4A A 5B",
+            Fault::No13488 => "G 13488 0000 A 0000",
+            Fault::DeleteShown => "L 7F A 1",
+            Fault::ControlsShown => "L C285 A 1",
+            Fault::LowerRowId => "format_rowid(0A) A 30783061",
+            Fault::LocatorBeginning => "format_lob_locator(-) A 4C4F42204C",
+        }
+    }
+
+    #[test]
+    fn every_fault_is_noticed_and_its_input_made_small() {
+        for fault in FAULTS {
+            let Difference { port, lengths, .. } = found(fault);
+            let shown = &port[..port.len().min(60)];
+            assert!(port.starts_with(smallest(fault)), "{fault:?}: {shown}");
+            let length = match fault {
+                Fault::LimitEarly => TEXT_LIMIT,
+                Fault::LimitLate => TEXT_LIMIT + 1,
+                Fault::DecimalLimitEarly => 128,
+                _ => continue,
+            };
+            assert_eq!(lengths.map(|(now, _)| now), Some(length), "{fault:?}");
+            assert!(port.contains(&"00".repeat(length)), "{fault:?}");
+        }
+    }
+}

@@ -1,0 +1,354 @@
+//! Requests and answers, line by line. A line is a request, or a request with an answer behind ` A `, which is dropped, and with
+//! it the columns of a `Q` line.
+use crate::leaf::{Answer, Leaf, PRECISION};
+use port::column::{Column, Name, Numbers, Order, Type, NAMES};
+use std::fmt;
+
+/// What a line asks.
+#[derive(Debug, Clone, PartialEq, Eq)]
+pub enum Request {
+    Leaf(Call),
+    Description {
+        data: Vec<u8>,
+        row: Vec<u8>,
+    },
+    /// A row with a caller's own columns.
+    Row {
+        columns: Vec<Column>,
+        data: Vec<u8>,
+    },
+    FixedLength(Type),
+}
+
+/// The conversion of a single text, with its bytes.
+#[derive(Debug, Clone, PartialEq, Eq)]
+pub struct Call {
+    pub leaf: Leaf,
+    pub data: Vec<u8>,
+}
+
+/// Reads a line. The error says why the line is no request.
+pub fn parse(line: &str) -> Result<Request, String> {
+    let asked = asked(line);
+    let fields: Vec<&str> = asked.split(' ').collect();
+    match fields[..] {
+        ["T", ccsid, data] => {
+            let ccsid = number(ccsid)?;
+            call(Leaf::Character { ccsid }, data)
+        }
+        ["G", ccsid, data] => {
+            let ccsid = number(ccsid)?;
+            call(Leaf::Graphic { ccsid }, data)
+        }
+        ["L", data] => call(Leaf::Likely, data),
+        ["P", scale, data] => call(Leaf::decimal(number(scale)?), data),
+        ["Q", data, "R", row] => Ok(Request::Description {
+            data: bytes(data)?,
+            row: bytes(row)?,
+        }),
+        ["H", count, ref columns @ .., "R", data] if number::<usize>(count)? == columns.len() => {
+            let columns: Result<Vec<Column>, String> = columns
+                .iter()
+                .enumerate()
+                .map(|(place, field)| column(place, field))
+                .collect();
+            Ok(Request::Row {
+                columns: columns?,
+                data: bytes(data)?,
+            })
+        }
+        ["F", asked] => Ok(Request::FixedLength(type_of(asked)?)),
+        ["T" | "G" | "L" | "P" | "Q" | "H" | "F", ..] => {
+            Err(format!("wrong fields: {}", cut(asked)))
+        }
+        _ => Err(format!("no kind of request: {}", cut(asked))),
+    }
+}
+
+/// The part of a line that is the request.
+fn asked(line: &str) -> &str {
+    let before = |text: &'static str, line| str::split(line, text).next().unwrap_or(line);
+    let asked = before(" A ", line);
+    if asked.starts_with("Q ") {
+        before(" C ", asked)
+    } else {
+        asked
+    }
+}
+
+fn call(leaf: Leaf, data: &str) -> Result<Request, String> {
+    let data = bytes(data)?;
+    Ok(Request::Leaf(Call { leaf, data }))
+}
+
+/// A column by its fields; its number is its place.
+fn column(place: usize, field: &str) -> Result<Column, String> {
+    let none = || format!("no column: {}", cut(field));
+    let fields: Vec<&str> = field.split(':').collect();
+    let [db2_type, code, length, precision, scale, nullable, ccsid, reference, order] = fields[..]
+    else {
+        return Err(none());
+    };
+    let &[code] = &bytes(code)?[..] else {
+        return Err(none());
+    };
+    Ok(Column {
+        index: u16::try_from(place).map_err(|_| "too many columns".to_string())?,
+        db2_type: type_of(db2_type)?,
+        code,
+        length: number(length)?,
+        precision: number(precision)?,
+        scale: number(scale)?,
+        nullable: match nullable {
+            "0" => false,
+            "1" => true,
+            _ => return Err(none()),
+        },
+        ccsid: number(ccsid)?,
+        reference: match reference {
+            "-" => None,
+            _ => Some(number(reference)?),
+        },
+        order: match order {
+            "B" => Order::Big,
+            "L" => Order::Little,
+            _ => return Err(none()),
+        },
+    })
+}
+
+/// A type by its name and, behind points, its numbers.
+fn type_of(field: &str) -> Result<Type, String> {
+    let parts: Vec<&str> = field.split('.').collect();
+    let name = NAMES.iter().find(|name| format!("{name:?}") == parts[0]);
+    let numbers = name.map(|name| name.numbers());
+    match (name, numbers, &parts[1..]) {
+        (Some(name), Some(Numbers::None), []) => Ok(name.plain()),
+        (Some(name), Some(Numbers::Digits), [digits]) => {
+            Ok(name.with(number::<u8>(digits)?.into()))
+        }
+        (Some(name), Some(Numbers::Length), [length]) => Ok(name.with(number(length)?)),
+        (Some(Name::Decimal), _, [precision, scale]) => {
+            Ok(Type::decimal(number(precision)?, number(scale)?))
+        }
+        _ => Err(format!("no type: {}", cut(field))),
+    }
+}
+
+/// A decimal number as the format writes it: digits only, no leading zero.
+fn number<N: std::str::FromStr + fmt::Display>(field: &str) -> Result<N, String> {
+    match field.parse::<N>() {
+        Ok(value) if value.to_string() == field => Ok(value),
+        _ => Err(format!("no number, or too large: {}", cut(field))),
+    }
+}
+
+/// Upper-case hex, two digits a byte; `-` stands for no bytes.
+fn bytes(field: &str) -> Result<Vec<u8>, String> {
+    if field == "-" {
+        return Ok(Vec::new());
+    }
+    let (pairs, rest) = field.as_bytes().as_chunks::<2>();
+    if pairs.is_empty() || !rest.is_empty() {
+        return Err(format!("not two hex digits a byte: {}", cut(field)));
+    }
+    pairs
+        .iter()
+        .map(|&[high, low]| Some(hex_value(high)? << 4 | hex_value(low)?))
+        .collect::<Option<Vec<u8>>>()
+        .ok_or_else(|| format!("no upper-case hex: {}", cut(field)))
+}
+
+fn hex_value(digit: u8) -> Option<u8> {
+    match digit {
+        b'0'..=b'9' => Some(digit - b'0'),
+        b'A'..=b'F' => Some(digit - b'A' + 10),
+        _ => None,
+    }
+}
+
+/// The beginning of a text, for a message.
+fn cut(text: &str) -> String {
+    let mut shown: String = text.chars().take(60).collect();
+    if shown.len() < text.len() {
+        shown.push_str("..");
+    }
+    shown
+}
+
+/// Bytes as the format writes them.
+pub struct Hex<'a>(pub &'a [u8]);
+
+impl fmt::Display for Hex<'_> {
+    fn fmt(&self, f: &mut fmt::Formatter<'_>) -> fmt::Result {
+        if self.0.is_empty() {
+            return f.write_str("-");
+        }
+        const DIGITS: &[u8; 16] = b"0123456789ABCDEF";
+        let digit = |value: u8| DIGITS[usize::from(value)] as char;
+        let mut text = String::with_capacity(2 * self.0.len());
+        for byte in self.0 {
+            text.push(digit(byte >> 4));
+            text.push(digit(byte & 0x0F));
+        }
+        f.write_str(&text)
+    }
+}
+
+impl fmt::Display for Request {
+    fn fmt(&self, f: &mut fmt::Formatter<'_>) -> fmt::Result {
+        match self {
+            Request::Leaf(call) => call.fmt(f),
+            Request::Description { data, row } => write!(f, "Q {} R {}", Hex(data), Hex(row)),
+            Request::Row { columns, data } => {
+                write!(f, "H {}", columns.len())?;
+                for column in columns {
+                    write!(f, " {column}")?;
+                }
+                write!(f, " R {}", Hex(data))
+            }
+            Request::FixedLength(asked) => write!(f, "F {asked}"),
+        }
+    }
+}
+
+impl fmt::Display for Call {
+    fn fmt(&self, f: &mut fmt::Formatter<'_>) -> fmt::Result {
+        let data = Hex(&self.data);
+        match self.leaf {
+            Leaf::Character { ccsid } => write!(f, "T {ccsid} {data}"),
+            Leaf::Graphic { ccsid } => write!(f, "G {ccsid} {data}"),
+            Leaf::Likely => write!(f, "L {data}"),
+            Leaf::Decimal {
+                precision: PRECISION,
+                scale,
+            } => write!(f, "P {scale} {data}"),
+            // The format has no line for these: the call is named, so that no one takes it for a request.
+            Leaf::Decimal { precision, scale } => {
+                write!(f, "decode_packed_decimal({data}, {precision}, {scale})")
+            }
+            Leaf::Locator => write!(f, "format_lob_locator({data})"),
+            Leaf::RowId => write!(f, "format_rowid({data})"),
+        }
+    }
+}
+
+impl fmt::Display for Answer<'_> {
+    fn fmt(&self, f: &mut fmt::Formatter<'_>) -> fmt::Result {
+        match self {
+            Answer::Text(text) => Hex(text).fmt(f),
+            Answer::Truth(likely) => write!(f, "{}", u8::from(*likely)),
+            Answer::Refusal(number) => write!(f, "REFUSE{number}"),
+            Answer::Bad9 => f.write_str("BAD9"),
+            Answer::BadRest => f.write_str("BADREST"),
+        }
+    }
+}
+
+#[cfg(test)]
+mod tests {
+    use super::*;
+
+    #[test]
+    fn requests_come_back_as_they_were() {
+        for line in [
+            "T 1208 C141",
+            "G 13488 0041D800",
+            "G 0 -",
+            "L -",
+            "P 255 1D",
+            "Q 0576D00500 R -",
+            "Q - R 00",
+            "H 0 R -",
+            "H 1 Blob:C8:32768:0:0:0:0:0:L R -",
+            "H 2 Decimal.5.2:0F:3:5:2:1:0:-:B Char.3:31:3:0:0:1:37:65535:L R 0012345C00C1C2C3",
+            "F Xml",
+            "F Char.65535",
+            "F DecFloat.255",
+            "F Decimal.5.2",
+        ] {
+            assert_eq!(parse(line).unwrap().to_string(), line);
+        }
+    }
+
+    #[test]
+    fn an_answer_behind_the_request_is_dropped() {
+        assert_eq!(parse("T 37 C1 A 41").unwrap().to_string(), "T 37 C1");
+        assert_eq!(parse("P 0 - A REFUSE6").unwrap().to_string(), "P 0 -");
+        assert_eq!(parse("F Time A 8").unwrap().to_string(), "F Time");
+        assert_eq!(
+            parse("H 0 R 00 A OK 0 - 0").unwrap().to_string(),
+            "H 0 R 00"
+        );
+        for answer in [
+            "C 0 A OK 0 - 0",
+            "C - A REFUSE2",
+            "C 1 Xml:DC:0:0:0:0:0:-:L A SHORT 4 0",
+        ] {
+            let line = format!("Q 0570DC0000 R 00 {answer}");
+            assert_eq!(parse(&line).unwrap().to_string(), "Q 0570DC0000 R 00");
+        }
+    }
+
+    #[test]
+    fn other_lines_are_no_requests() {
+        for line in [
+            "",
+            "T",
+            "T 1208",
+            "T 1208 C1 41",
+            "T 1208  C1",
+            "T 1208 c1",
+            "T 1208 C",
+            "T 1208 C14",
+            "T 65536 C1",
+            "T -1 C1",
+            "T +37 C1",
+            "T 037 C1",
+            "P 256 1C",
+            "L 1 00",
+            "L ",
+            "X 00",
+            "# comment",
+            "Q -",
+            "Q - R",
+            "Q - -",
+            "Q - R - R -",
+            "H 0 -",
+            "H R -",
+            "H 1 R -",
+            "H 0 Xml:DC:0:0:0:0:0:-:L R -",
+            "H 1 Xml:DC:0:0:0:0:0:-:X R -",
+            "H 1 Xml:DC:0:0:0:2:0:-:L R -",
+            "H 1 Xml:DC:0:0:0:0:0:L R -",
+            "H 1 Xml:DCDC:0:0:0:0:0:-:L R -",
+            "H 1 Xml:-:0:0:0:0:0:-:L R -",
+            "H 1 Xml:DC:65536:0:0:0:0:-:L R -",
+            "F",
+            "F xml",
+            "F Xml.0",
+            "F Char",
+            "F Char.65536",
+            "F Char.1.2",
+            "F DecFloat.256",
+            "F Decimal.5",
+            "F Decimal.256.0",
+        ] {
+            assert!(parse(line).is_err(), "{line}");
+        }
+    }
+
+    #[test]
+    fn answers_are_written_in_the_format() {
+        let written = |answer: Answer| answer.to_string();
+        assert_eq!(
+            written(Answer::Text(vec![0xEF, 0xBF, 0xBD].into())),
+            "EFBFBD"
+        );
+        assert_eq!(written(Answer::Text(Vec::new().into())), "-");
+        assert_eq!(written(Answer::Truth(true)), "1");
+        assert_eq!(written(Answer::Refusal(4)), "REFUSE4");
+        assert_eq!(written(Answer::Bad9), "BAD9");
+        assert_eq!(written(Answer::BadRest), "BADREST");
+    }
+}

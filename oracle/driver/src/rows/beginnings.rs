@@ -1,0 +1,68 @@
+//! Demand 3, tried on the compiled code (document 01, "Rows"): an accepted row of at least two bytes, of which some are used, stays what
+//! it is whatever bytes follow it, and its shorter beginnings of at least two bytes are too short, where every column carries its own
+//! end; and for any columns the bytes used, alone, give the same answer.
+use super::compare::Run;
+use super::port_side::Library;
+use super::{inputs, request, rust_side, List, Outcome};
+use crate::run::{Difference, End, Flow};
+use port::column::{Column, Name};
+use std::ops::ControlFlow::{Break, Continue};
+
+/// Document 01's list, read the other way round.
+pub fn carries_own_end(column: &Column) -> bool {
+    let own = column.db2_type.numbers;
+    match column.db2_type.name {
+        Name::LobBytes | Name::LobChar => own & 0x7FFF < 1024,
+        Name::Blob | Name::Clob | Name::DbClob => column.reference.is_some() || column.length != 0,
+        Name::VarChar | Name::VarGraphic => own & 0x8000 == 0 || own & 0x7FFF > 1,
+        _ => true,
+    }
+}
+
+impl<L: Library> Run<L> {
+    /// Tries demand 3 on a row to which `self.rust` is the answer.
+    pub(super) fn beginnings(&mut self, list: &List, data: &[u8]) -> Flow {
+        let Outcome::Accepted { used } = self.rust.outcome else {
+            return Continue(());
+        };
+        let used = used as usize;
+        if data.len() < 2 || used == 0 {
+            return Continue(());
+        }
+        self.counts.alone += 1;
+        if !self.port.gives(&list.words, &data[..used], &self.rust) {
+            return self.broken("the bytes used, alone", list, data, &data[..used]);
+        }
+        if !list.columns.iter().all(carries_own_end) {
+            return Continue(());
+        }
+        let mut longer = data[..used].to_vec();
+        inputs::extend(&mut self.random, &mut longer);
+        self.counts.longer += 1;
+        if !self.port.gives(&list.words, &longer, &self.rust) {
+            return self.broken("a longer input", list, data, &longer);
+        }
+        let text = self.rust.text.len();
+        for length in (2..used).filter(|length| *length < 40 || used - length < 40) {
+            self.counts.shorter += 1;
+            if !self.port.is_too_short(&list.words, &data[..length], text) {
+                return self.broken("a shorter beginning", list, data, &data[..length]);
+            }
+        }
+        Continue(())
+    }
+
+    /// An input on which demand 3 fails: either the two sides differ there, or the Rust breaks it too.
+    fn broken(&mut self, what: &str, list: &List, data: &[u8], other: &[u8]) -> Flow {
+        self.row(list, other)?;
+        let line = |data: &[u8]| {
+            let answer = rust_side::answer(list, data).shown(data);
+            format!("{} A {answer}", request(list, data))
+        };
+        Break(End::Different(Box::new(Difference {
+            rust: line(data),
+            port: format!("{} (demand 3: {what})", line(other)),
+            lengths: None,
+        })))
+    }
+}

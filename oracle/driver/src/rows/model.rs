@@ -1,0 +1,796 @@
+//! A row call written a third time, plainly and with a switch for each fault. Without a fault it answers as the Rust does, which
+//! the run is asked to say; with one it is a wrong library, whose fault shows only on some rows, as a real one would.
+//! The conversions of single texts are the Rust's: `crate::faults` has faults of those.
+use super::faults::Fault;
+use super::port_side::Library;
+use super::{LARGEST_NUMBER, ROW_LIMIT};
+use crate::descriptions::COLUMN_LIMIT;
+use db2_proto::fdoca::doors;
+use db2_proto::types::decode_packed_decimal;
+use port::column::{Column, Name, Order};
+use port::value::{Sort, Value, VALUE_WORDS};
+use port::{Decoded, NO_COLUMN_WORDS, TOO_FEW_WORDS};
+
+pub struct Model(pub Option<Fault>);
+
+/// A value before it has its place.
+struct Found {
+    sort: Sort,
+    held: Held,
+    external: bool,
+}
+
+enum Held {
+    Number(u64),
+    /// Bytes of the column's rest: from where, how many.
+    Part(usize, usize),
+    Text(String),
+}
+
+/// A value and the bytes that it takes, or the bytes that it would take.
+type Decision = Result<(Found, usize), usize>;
+
+fn number(sort: Sort, number: u64) -> Found {
+    Found {
+        sort,
+        held: Held::Number(number),
+        external: false,
+    }
+}
+
+fn part(sort: Sort, from: usize, length: usize) -> Found {
+    Found {
+        sort,
+        held: Held::Part(from, length),
+        external: false,
+    }
+}
+
+fn text(sort: Sort, text: String) -> Found {
+    Found {
+        sort,
+        held: Held::Text(text),
+        external: false,
+    }
+}
+
+impl Found {
+    fn external(self, external: bool) -> Found {
+        Found { external, ..self }
+    }
+}
+
+fn need(rest: &[u8], length: usize) -> Result<&[u8], usize> {
+    rest.get(..length).ok_or(length)
+}
+
+fn all_zero(bytes: &[u8]) -> bool {
+    bytes.iter().all(|byte| *byte == 0)
+}
+
+fn low15(number: u16) -> usize {
+    usize::from(number & 0x7FFF)
+}
+
+fn refused(number: u32) -> Decoded {
+    told(number, 0, 0)
+}
+
+fn told(number: u32, first: usize, second: usize) -> Decoded {
+    Decoded {
+        number,
+        first: first as u64,
+        second: second as u64,
+    }
+}
+
+/// The empty value of a LOB.
+fn empty_lob(column: &Column) -> Found {
+    match column.db2_type.name {
+        Name::Blob => part(Sort::Blob, 0, 0),
+        Name::Xml => text(Sort::Xml, String::new()),
+        _ => text(Sort::Clob, String::new()),
+    }
+}
+
+impl Model {
+    fn has(&self, fault: Fault) -> bool {
+        self.0 == Some(fault)
+    }
+
+    /// The columns of the words, if they are columns'.
+    fn columns(&self, words: &[u64]) -> Option<Vec<Column>> {
+        let (pairs, rest) = words.as_chunks::<2>();
+        if !rest.is_empty() && !self.has(Fault::OddWordTaken) {
+            return None;
+        }
+        pairs.iter().map(|pair| self.column(*pair)).collect()
+    }
+
+    fn column(&self, [mut first, mut second]: [u64; 2]) -> Option<Column> {
+        if self.has(Fault::SpareBitTaken) {
+            first &= !(1 << 51);
+        }
+        if self.has(Fault::WidthWithoutBitTaken) && first & 1 << 50 == 0 {
+            second &= (1 << 48) - 1;
+        }
+        let column = Column::from_words([first, second])?;
+        let largest = if self.has(Fault::LargeNumberTaken) {
+            u16::MAX
+        } else {
+            LARGEST_NUMBER
+        };
+        (column.index <= largest).then_some(column)
+    }
+
+    /// The refusal before the row is read, if any.
+    fn early(&self, words: &[u64], data: &[u8], lent: usize) -> Result<Vec<Column>, Decoded> {
+        let count = words.len() / 2;
+        let needed = VALUE_WORDS * count;
+        let most = if self.has(Fault::ColumnsEarly) {
+            COLUMN_LIMIT - 1
+        } else {
+            COLUMN_LIMIT
+        };
+        let too_many = || count > most;
+        let few = match self.0 {
+            Some(Fault::TooFewTaken) => lent + 1 < needed,
+            Some(Fault::TooFewEarly) => lent <= needed && count > 0,
+            _ => lent < needed,
+        };
+        let columns = self.columns(words);
+        let longest = match self.0 {
+            Some(Fault::RowEarly) => ROW_LIMIT - 1,
+            Some(Fault::RowLate) => ROW_LIMIT + 1,
+            _ => ROW_LIMIT,
+        };
+        let long = data.len() > longest;
+        let decfloat = |columns: &[Column]| {
+            let mut names = columns.iter().map(|column| column.db2_type.name);
+            match self.0 {
+                Some(Fault::DecFloatLast) => names.next_back() == Some(Name::DecFloat),
+                _ => names.any(|name| name == Name::DecFloat),
+            }
+        };
+        let too_few = match self.0 {
+            Some(Fault::ColumnsNeeded) => told(TOO_FEW_WORDS, count, 0),
+            Some(Fault::LentToo) => told(TOO_FEW_WORDS, needed, lent),
+            _ => told(TOO_FEW_WORDS, needed, 0),
+        };
+        if few && self.has(Fault::TooFewFirst) {
+            return Err(too_few);
+        }
+        if too_many() {
+            return Err(refused(3));
+        }
+        if columns.is_none() && self.has(Fault::NoColumnFirst) {
+            return Err(refused(NO_COLUMN_WORDS));
+        }
+        if few {
+            return Err(too_few);
+        }
+        if long && self.has(Fault::LongFirst) {
+            return Err(refused(4));
+        }
+        let columns = columns.ok_or(refused(NO_COLUMN_WORDS))?;
+        if decfloat(&columns) && self.has(Fault::DecFloatFirst) {
+            return Err(refused(5));
+        }
+        if long {
+            return Err(refused(4));
+        }
+        if decfloat(&columns) && !self.has(Fault::DecFloatDecoded) {
+            return Err(refused(5));
+        }
+        Ok(columns)
+    }
+
+    fn skip(&self, data: &[u8]) -> usize {
+        match (self.0, data) {
+            (Some(Fault::SkipLooked), [0xFF, second, ..]) if *second != 0 => 0,
+            (Some(Fault::SkipOfOne), [0xFF, _, ..]) => 1,
+            (Some(Fault::SkipAlone), [0xFF]) => 1,
+            (Some(Fault::NoSkip), _) => 0,
+            (Some(Fault::SkipOfFE), [0xFE, _, ..]) => 2,
+            (_, [0xFF, _, ..]) => 2,
+            _ => 0,
+        }
+    }
+
+    fn is_null(&self, indicator: u8) -> bool {
+        match self.0 {
+            Some(Fault::HighIndicators) => indicator >= 0x80,
+            Some(Fault::AnyIndicator) => indicator != 0,
+            _ => indicator == 0xFF,
+        }
+    }
+
+    /// The values with their rests' places, and the bytes used; or the refusal.
+    fn walk(
+        &self,
+        columns: &[Column],
+        data: &[u8],
+    ) -> Result<(Vec<(Found, usize)>, usize), Decoded> {
+        let skip = self.skip(data);
+        let mut at = skip;
+        let mut values = Vec::new();
+        for (place, column) in columns.iter().enumerate() {
+            if column.nullable {
+                let from = match self.0 {
+                    Some(Fault::IndicatorFromRest) => at,
+                    Some(Fault::IndicatorFromRow) => 0,
+                    _ => skip,
+                };
+                let short = told(8, at + 1 - from, data.len() - from.min(data.len()));
+                let indicator = *data.get(at).ok_or(short)?;
+                at += 1;
+                if self.is_null(indicator) {
+                    if self.has(Fault::NullTakesValue) && column.db2_type.name == Name::SmallInt {
+                        at = data.len().min(at + 2);
+                    }
+                    values.push((number(Sort::Null, 0), at));
+                    continue;
+                }
+            }
+            if place > 0 && self.has(Fault::OnlyFirst) {
+                values.push((number(Sort::Null, 0), at));
+                continue;
+            }
+            let from = if self.has(Fault::ValueFromBody) {
+                skip
+            } else {
+                at
+            };
+            let (found, used) = self
+                .value(&data[at..], column)
+                .map_err(|need| told(8, at - from + need, data.len() - from))?;
+            values.push((found, at));
+            at += used;
+        }
+        Ok((values, at))
+    }
+
+    fn value(&self, rest: &[u8], column: &Column) -> Decision {
+        let own = column.db2_type.numbers;
+        let [precision, scale] = column.db2_type.precision_and_scale();
+        let plain = usize::from(own);
+        match column.db2_type.name {
+            Name::SmallInt => {
+                let bits = self.bits(rest, column, 2)?;
+                let wrong = self.has(Fault::SmallIntUnsigned);
+                let signed = if wrong { bits } else { bits as i16 as u64 };
+                Ok((number(Sort::SmallInt, signed), 2))
+            }
+            Name::Integer => {
+                let bits = self.bits(rest, column, 4)?;
+                let wrong = self.has(Fault::IntegerUnsigned);
+                let signed = if wrong { bits } else { bits as i32 as u64 };
+                Ok((number(Sort::Integer, signed), 4))
+            }
+            Name::BigInt => Ok((number(Sort::BigInt, self.bits(rest, column, 8)?), 8)),
+            Name::Real => {
+                let bits = self.bits(rest, column, 4)? as u32;
+                Ok((self.real(bits), 4))
+            }
+            Name::Double => {
+                let bits = self.bits(rest, column, 8)?;
+                Ok((self.double(bits), 8))
+            }
+            Name::Decimal => {
+                let length = match self.0 {
+                    Some(Fault::DecimalByLength) => usize::from(column.length.max(1)),
+                    _ => (usize::from(precision) + 2) / 2,
+                };
+                let scale = if self.has(Fault::ScaleOfColumn) {
+                    column.scale
+                } else {
+                    scale
+                };
+                let packed = need(rest, length)?;
+                let decimal = decode_packed_decimal(packed, precision, scale);
+                Ok((text(Sort::Decimal, decimal.expect("it has a byte")), length))
+            }
+            Name::DecFloat => Ok((number(Sort::Null, 0), 0)),
+            Name::Char => {
+                let length = match self.0 {
+                    Some(Fault::CharByColumn) => usize::from(column.length),
+                    _ => plain,
+                };
+                let bytes = need(rest, length)?;
+                let shown = match (self.0, column.ccsid) {
+                    (Some(Fault::CharGraphic), 1200) => doors::decode_graphic_bytes(bytes, 1200),
+                    _ => doors::decode_character_bytes(bytes, column.ccsid),
+                };
+                Ok((text(Sort::Char, shown), length))
+            }
+            Name::VarChar if own & 0x8000 != 0 => self.header(rest, own),
+            Name::VarChar => {
+                let (bytes, used) = self.counted(rest, column, 1)?;
+                let most = if self.has(Fault::VarCharCut) {
+                    plain
+                } else {
+                    usize::MAX
+                };
+                let bytes = &bytes[..bytes.len().min(most)];
+                let shown = doors::decode_character_bytes(bytes, column.ccsid);
+                Ok((text(Sort::VarChar, shown), used))
+            }
+            Name::LongVarChar => {
+                let (bytes, used) = self.counted(rest, column, 1)?;
+                let shown = doors::decode_character_bytes(bytes, column.ccsid);
+                let sort = if self.has(Fault::LongIsClob) {
+                    Sort::Clob
+                } else {
+                    Sort::VarChar
+                };
+                Ok((text(sort, shown), used))
+            }
+            Name::Binary => {
+                need(rest, plain)?;
+                Ok((part(Sort::Binary, 0, plain), plain))
+            }
+            Name::VarBinary => {
+                if own & 0x8000 != 0 && self.has(Fault::VarBinaryHeader) {
+                    let (_, used) = self.header(rest, own)?;
+                    return Ok((part(Sort::Blob, 0, used).external(true), used));
+                }
+                let (bytes, used) = self.counted(rest, column, 1)?;
+                Ok((part(Sort::Binary, 2, bytes.len()), used))
+            }
+            Name::Date => self.dated(rest, column, Sort::Date, 10),
+            Name::Time => self.dated(rest, column, Sort::Time, 8),
+            Name::Timestamp => {
+                let length = match (self.0, column.length) {
+                    (Some(Fault::TimestampAlways26), _) => 26,
+                    (Some(Fault::TimestampOf0), 0) | (_, 1..) => usize::from(column.length),
+                    _ => 26,
+                };
+                self.dated(rest, column, Sort::Timestamp, length)
+            }
+            Name::Boolean => {
+                let least = if self.has(Fault::BooleanOf0) { 0 } else { 1 };
+                let length = usize::from(column.length).max(least);
+                let bytes = need(rest, length)?;
+                let looked = if self.has(Fault::BooleanFirst) {
+                    &bytes[..1]
+                } else {
+                    bytes
+                };
+                let truth = !all_zero(looked);
+                Ok((number(Sort::Boolean, truth.into()), length))
+            }
+            Name::Blob | Name::Clob | Name::DbClob | Name::Xml => match column.reference {
+                Some(width) => self.reference(rest, column, width.into()),
+                None => self.lob(rest, column),
+            },
+            Name::BlobLocator | Name::ClobLocator | Name::DbClobLocator => {
+                let bytes = need(rest, 4)?;
+                let empty = self.has(Fault::EmptyLocator) && all_zero(bytes);
+                Ok((self.locator(column, bytes, 4).external(!empty), 4))
+            }
+            Name::LobBytes | Name::LobChar => self.materialized(rest, column),
+            Name::RowId => {
+                let shown = doors::format_rowid(need(rest, plain)?);
+                let lower = self.has(Fault::LowerRowId);
+                let shown = if lower { shown.to_lowercase() } else { shown };
+                Ok((text(Sort::RowId, shown), plain))
+            }
+            Name::Graphic => {
+                let length = plain * self.bytes_of_one(column, Fault::GraphicInBytes);
+                let shown = self.graphic(need(rest, length)?, column);
+                let sort = if self.has(Fault::GraphicIsVarChar) {
+                    Sort::VarChar
+                } else {
+                    Sort::Char
+                };
+                Ok((text(sort, shown), length))
+            }
+            Name::VarGraphic if own & 0x8000 != 0 => self.header(rest, own),
+            Name::VarGraphic => {
+                let of_one = self.bytes_of_one(column, Fault::VarGraphicInBytes);
+                let (bytes, used) = self.counted(rest, column, of_one)?;
+                Ok((text(Sort::VarChar, self.graphic(bytes, column)), used))
+            }
+            Name::Null => Ok((number(Sort::Null, 0), 0)),
+        }
+    }
+
+    /// The bits of so many bytes, in the column's order.
+    fn bits(&self, rest: &[u8], column: &Column, length: usize) -> Result<u64, usize> {
+        let bytes = need(rest, length)?;
+        let big = match self.0 {
+            Some(Fault::DoubleBig) if column.db2_type.name == Name::Double => true,
+            Some(Fault::BigIntLittle) if column.db2_type.name == Name::BigInt => false,
+            _ => column.order == Order::Big,
+        };
+        let add = |bits: u64, byte: &u8| bits << 8 | u64::from(*byte);
+        Ok(if big {
+            bytes.iter().fold(0, add)
+        } else {
+            bytes.iter().rev().fold(0, add)
+        })
+    }
+
+    fn real(&self, bits: u32) -> Found {
+        let bits = match self.0 {
+            Some(Fault::NanMadeQuiet) if f32::from_bits(bits).is_nan() => bits | 0x0040_0000,
+            Some(Fault::SubnormalLost) if f32::from_bits(bits).is_subnormal() => bits & 1 << 31,
+            _ => bits,
+        };
+        let nan = f32::from_bits(bits).is_nan();
+        number(if nan { Sort::RealNan } else { Sort::Real }, bits.into())
+    }
+
+    fn double(&self, bits: u64) -> Found {
+        let bits = match self.0 {
+            Some(Fault::MinusZeroLost) if bits == 1 << 63 => 0,
+            _ => bits,
+        };
+        let nan = match self.0 {
+            Some(Fault::NanIsDouble) => false,
+            Some(Fault::InfinityIsNan) => !f64::from_bits(bits).is_finite(),
+            _ => f64::from_bits(bits).is_nan(),
+        };
+        number(if nan { Sort::DoubleNan } else { Sort::Double }, bits)
+    }
+
+    /// Two bytes of length, big-endian, and so many times `of_one` bytes.
+    fn counted<'a>(
+        &self,
+        rest: &'a [u8],
+        column: &Column,
+        of_one: usize,
+    ) -> Result<(&'a [u8], usize), usize> {
+        let length = [need(rest, 2)?[0], rest[1]];
+        let little = self.has(Fault::LittleLength) && column.order == Order::Little;
+        let length = if little {
+            u16::from_le_bytes(length)
+        } else {
+            u16::from_be_bytes(length)
+        };
+        let total = 2 + of_one * usize::from(length);
+        let expected = if self.has(Fault::CountedWithoutLength) {
+            total - 2
+        } else {
+            total
+        };
+        let bytes = rest.get(..total).ok_or(expected)?;
+        Ok((&bytes[2..], total))
+    }
+
+    fn dated(&self, rest: &[u8], column: &Column, sort: Sort, length: usize) -> Decision {
+        let length = match (self.0, sort) {
+            (Some(Fault::DateByColumn), Sort::Date) => usize::from(column.length),
+            (Some(Fault::TimeOf10), Sort::Time) => 10,
+            _ => length,
+        };
+        let shown = doors::decode_character_bytes(need(rest, length)?, column.ccsid);
+        Ok((text(sort, shown), length))
+    }
+
+    /// How many bytes a length of a graphic column counts as one.
+    fn bytes_of_one(&self, column: &Column, never: Fault) -> usize {
+        let little = column.order == Order::Little || self.has(Fault::GraphicBigDoubled);
+        let utf16 =
+            column.ccsid == 1200 || column.ccsid == 13488 && self.has(Fault::Graphic13488Doubled);
+        if little && utf16 && !self.has(never) {
+            2
+        } else {
+            1
+        }
+    }
+
+    fn graphic(&self, bytes: &[u8], column: &Column) -> String {
+        if self.has(Fault::GraphicLittle) && column.order == Order::Little && bytes.len() % 2 == 0 {
+            let turned: Vec<u8> = bytes
+                .chunks(2)
+                .flat_map(|unit| [unit[1], unit[0]])
+                .collect();
+            return doors::decode_graphic_bytes(&turned, column.ccsid);
+        }
+        doors::decode_graphic_bytes(bytes, column.ccsid)
+    }
+
+    /// A flagged VarChar or VarGraphic.
+    fn header(&self, rest: &[u8], own: u16) -> Decision {
+        let of_value = match rest {
+            [high, low, ..] => Some(u16::from_be_bytes([*high, *low])),
+            _ => None,
+        };
+        let of_value =
+            of_value.filter(|length| length & 0x8000 != 0 && !self.has(Fault::HeaderLengthUnread));
+        let (start, length) = match of_value {
+            Some(length) => (2, low15(length)),
+            None => (0, low15(own)),
+        };
+        let total = start + length;
+        let header = &need(rest, total)?[start..];
+        let reference = header.len() >= 9 && header[0] == 0x02;
+        let empty = match self.0 {
+            Some(Fault::HeaderOfZeros) => all_zero(header) || reference && all_zero(&header[1..9]),
+            Some(Fault::HeaderEnd) => reference && all_zero(&header[1..]),
+            Some(Fault::HeaderFirst) => header.len() >= 9 && all_zero(&header[1..9]),
+            _ => reference && all_zero(&header[1..9]),
+        };
+        if empty {
+            return Ok((text(Sort::Clob, String::new()), total));
+        }
+        let external = !self.has(Fault::HeaderNotExternal);
+        let header = if self.has(Fault::HeaderWithLength) {
+            &rest[..total]
+        } else {
+            header
+        };
+        let shown = doors::format_lob_locator(header);
+        Ok((text(Sort::Clob, shown).external(external), total))
+    }
+
+    /// The value that shows a reference, or a locator, of `used` bytes.
+    fn locator(&self, column: &Column, bytes: &[u8], used: usize) -> Found {
+        match column.db2_type.name {
+            Name::Blob | Name::BlobLocator => {
+                let most = if self.has(Fault::BlobShowsAll) {
+                    used
+                } else {
+                    4
+                };
+                part(Sort::Blob, 0, used.min(most))
+            }
+            Name::Xml => text(Sort::Xml, doors::format_lob_locator(bytes)),
+            _ => text(Sort::Clob, doors::format_lob_locator(bytes)),
+        }
+        .external(true)
+    }
+
+    /// A LOB with a reference length.
+    fn reference(&self, rest: &[u8], column: &Column, width: usize) -> Decision {
+        let bytes = need(rest, width)?;
+        let nine = width >= 9 && bytes[0] == 0x02;
+        let empty = match self.0 {
+            Some(Fault::ReferenceOfZeros) => nine && all_zero(&bytes[1..]),
+            Some(Fault::ReferenceEnd) => all_zero(bytes) || nine && all_zero(&bytes[1..9]),
+            _ => all_zero(bytes) || nine && all_zero(&bytes[1..]),
+        };
+        let empty = empty || width == 0;
+        if empty {
+            return Ok((empty_lob(column), width));
+        }
+        let external = !self.has(Fault::ReferenceNotExternal);
+        Ok((self.locator(column, bytes, width).external(external), width))
+    }
+
+    /// A LOB without one.
+    fn lob(&self, rest: &[u8], column: &Column) -> Decision {
+        let is_xml = column.db2_type.name == Name::Xml;
+        need(rest, 4)?;
+        let least = if self.has(Fault::ReferenceOf10) {
+            10
+        } else {
+            9
+        };
+        let looked = !(is_xml && self.has(Fault::XmlAlwaysInline))
+            && !(column.length != 0 && self.has(Fault::ReferenceOfLength0));
+        if rest.len() >= least && rest[0] == 0x02 && looked {
+            let bytes = &rest[..9];
+            if all_zero(&bytes[1..]) {
+                return Ok((empty_lob(column), 9));
+            }
+            return Ok((self.locator(column, bytes, 9), 9));
+        }
+        if column.length == 0 && (!is_xml || self.has(Fault::XmlLocator)) {
+            let bytes = &rest[..4];
+            if self.has(Fault::LocatorOfZeros) && all_zero(bytes) {
+                return Ok((empty_lob(column), 4));
+            }
+            return Ok((self.locator(column, bytes, 4), 4));
+        }
+        let length = u32::from_be_bytes([rest[0], rest[1], rest[2], rest[3]]);
+        let length = if self.has(Fault::InlineOf16) {
+            length & 0xFFFF
+        } else {
+            length
+        };
+        let total = 4 + length as usize;
+        let bytes = &need(rest, total)?[4..];
+        let shown = || match self.0 {
+            Some(Fault::InlineByCcsid) => doors::decode_character_bytes(bytes, column.ccsid),
+            _ => String::from_utf8_lossy(bytes).into_owned(),
+        };
+        let found = match column.db2_type.name {
+            Name::Blob => part(Sort::Blob, 4, bytes.len()),
+            Name::Xml => text(Sort::Xml, shown()),
+            _ => text(Sort::Clob, shown()),
+        };
+        Ok((found, total))
+    }
+
+    /// LobBytes and LobChar.
+    fn materialized(&self, rest: &[u8], column: &Column) -> Decision {
+        let is_bytes = column.db2_type.name == Name::LobBytes;
+        let own = column.db2_type.numbers;
+        let length = if self.has(Fault::LobBitKept) {
+            own.into()
+        } else {
+            low15(own)
+        };
+        if rest.len() < length {
+            return self.short_reference(rest, is_bytes, length).ok_or(length);
+        }
+        let bytes = &rest[..length];
+        let likely = !is_bytes
+            || match self.0 {
+                Some(Fault::LobBytesAlwaysText) => true,
+                Some(Fault::EmptyLobIsBlob) => length > 0 && doors::bytes_are_likely_text(bytes),
+                _ => doors::bytes_are_likely_text(bytes),
+            };
+        let shown = || match self.0 {
+            Some(Fault::LikelyAsUtf8) if is_bytes => String::from_utf8_lossy(bytes).into_owned(),
+            _ => doors::decode_character_bytes(bytes, column.ccsid),
+        };
+        let found = match (likely, is_bytes) {
+            (true, true) => text(Sort::VarChar, shown()),
+            (true, false) => text(Sort::Clob, shown()),
+            (false, _) => part(Sort::Blob, 0, length),
+        };
+        Ok((found, length))
+    }
+
+    /// All that is left, where it is a reference.
+    fn short_reference(
+        &self,
+        rest: &[u8],
+        is_bytes: bool,
+        length: usize,
+    ) -> Option<(Found, usize)> {
+        let least = match self.0 {
+            Some(Fault::Lob1025) => 1025,
+            Some(Fault::Lob1023) => 1023,
+            _ => 1024,
+        };
+        let bytes = if self.has(Fault::Lob17) { 17 } else { 16 };
+        let is_digit = |byte: &&u8| match self.0 {
+            Some(Fault::LobUpperOnly) => matches!(byte, b'0'..=b'9' | b'A'..=b'F'),
+            Some(Fault::LobLetterG) => byte.is_ascii_hexdigit() || **byte == b'G',
+            _ => byte.is_ascii_hexdigit(),
+        };
+        let looked = if self.has(Fault::LobFirst16) {
+            &rest[..rest.len().min(16)]
+        } else {
+            rest
+        };
+        let digits = looked.iter().filter(is_digit).count();
+        let enough = if self.has(Fault::Lob15Digits) { 15 } else { 16 };
+        if length < least || rest.len() < bytes || digits < enough {
+            return None;
+        }
+        let used = if self.has(Fault::LobTakes16) {
+            16
+        } else {
+            rest.len()
+        };
+        let found = match is_bytes {
+            true => part(Sort::Blob, 0, used),
+            false => text(Sort::Clob, doors::format_lob_locator(&rest[..used])),
+        };
+        Some((found.external(!self.has(Fault::LobNotExternal)), used))
+    }
+
+    /// The words of the values, and the texts.
+    fn placed(&self, values: Vec<(Found, usize)>, skip: usize) -> (Vec<u64>, Vec<u8>) {
+        let mut words = Vec::new();
+        let mut texts = Vec::new();
+        for (place, (found, rest)) in values.into_iter().enumerate() {
+            let (mut number, mut length) = match found.held {
+                Held::Number(number) => (number, 0),
+                Held::Part(from, 0) if self.has(Fault::EmptyBinaryPlace) => {
+                    ((rest + from) as u64, 0)
+                }
+                Held::Part(_, 0) => (0, 0),
+                Held::Part(from, length) if self.has(Fault::PlaceFromBody) => {
+                    ((rest + from - skip) as u64, length as u64)
+                }
+                Held::Part(from, length) => ((rest + from) as u64, length as u64),
+                Held::Text(shown) => {
+                    let start = texts.len();
+                    texts.extend_from_slice(shown.as_bytes());
+                    (start as u64, shown.len() as u64)
+                }
+            };
+            let held = found.sort.held();
+            match self.0 {
+                Some(Fault::EmptyTextAt0) if held == port::value::Held::Text && length == 0 => {
+                    number = 0
+                }
+                Some(Fault::LengthOfNumber) if found.sort == Sort::BigInt => length = 8,
+                _ => {}
+            }
+            let external = found.external && !(self.has(Fault::ExternalOfFirst8) && place >= 8);
+            let value = Value {
+                sort: found.sort,
+                external,
+                number,
+                length,
+            };
+            let mut value = value.words();
+            if self.has(Fault::SpareValueBit) && external {
+                value[0] |= 1 << 9;
+            }
+            words.extend(value);
+        }
+        (words, texts)
+    }
+
+    /// Hands an accepted row out, or refuses it for want of text space.
+    fn hand_out(
+        &self,
+        (words, texts): (Vec<u64>, Vec<u8>),
+        used: usize,
+        values: &mut [u64],
+        text: &mut [u8],
+    ) -> Decoded {
+        let fits = match self.0 {
+            Some(Fault::NineAtFit) => texts.len() < text.len() || texts.is_empty(),
+            Some(Fault::NineLate) => texts.len() <= text.len() + 1,
+            _ => texts.len() <= text.len(),
+        };
+        if !fits {
+            match self.0 {
+                Some(Fault::NineWritesText) if !text.is_empty() => text[0] ^= 0x55,
+                Some(Fault::NineWritesValues) if !values.is_empty() => values[0] ^= 0x55,
+                Some(Fault::NineLong) => return told(9, texts.len() + 1, 0),
+                Some(Fault::NineWithLent) => return told(9, texts.len(), text.len()),
+                _ => {}
+            }
+            return told(9, texts.len(), 0);
+        }
+        let taken = words.len().min(values.len());
+        values[..taken].copy_from_slice(&words[..taken]);
+        let shown = texts.len().min(text.len());
+        if !self.has(Fault::NoText) {
+            text[..shown].copy_from_slice(&texts[..shown]);
+        }
+        if self.has(Fault::WordAfterChanged) && values.len() > words.len() {
+            values[words.len()] = 0;
+        }
+        if self.has(Fault::ByteAfterChanged) && text.len() > texts.len() + 20 {
+            text[texts.len()] = 0;
+        }
+        let second = if self.has(Fault::TextsCountedWrong) {
+            used
+        } else {
+            texts.len()
+        };
+        told(0, used, second)
+    }
+}
+
+impl Library for Model {
+    fn decode_row(
+        &self,
+        columns: &[u64],
+        data: &[u8],
+        values: &mut [u64],
+        text: &mut [u8],
+    ) -> Decoded {
+        let columns = match self.early(columns, data, values.len()) {
+            Ok(columns) => columns,
+            Err(refusal) => return refusal,
+        };
+        let (found, used) = match self.walk(&columns, data) {
+            Ok(walked) => walked,
+            Err(refusal) => {
+                if self.has(Fault::ShortWritesValues) && !values.is_empty() {
+                    values[0] = 0;
+                }
+                return refusal;
+            }
+        };
+        let skip = self.skip(data);
+        let counted = if self.has(Fault::UsedWithoutSkip) {
+            used - skip
+        } else {
+            used
+        };
+        self.hand_out(self.placed(found, skip), counted, values, text)
+    }
+}

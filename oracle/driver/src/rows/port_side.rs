@@ -1,0 +1,265 @@
+//! The answers of the port, and the checks of what a line does not show: where refusal 9 and 101 come and with which numbers, and
+//! that every word and byte that is no value's or text's keeps what it had.
+use super::{Answer, Bad, Outcome};
+use port::value::VALUE_WORDS;
+use port::{Decoded, TOO_FEW_WORDS};
+
+/// What is asked. The archive is one; `model` has others, which are wrong.
+pub trait Library {
+    fn decode_row(
+        &self,
+        columns: &[u64],
+        data: &[u8],
+        values: &mut [u64],
+        text: &mut [u8],
+    ) -> Decoded;
+}
+
+/// The static library.
+pub struct Archive;
+
+impl Library for Archive {
+    fn decode_row(
+        &self,
+        columns: &[u64],
+        data: &[u8],
+        values: &mut [u64],
+        text: &mut [u8],
+    ) -> Decoded {
+        port::decode_row(columns, data, values, text)
+    }
+}
+
+/// No row's texts are longer: three bytes for one, and for each column what a locator's text begins with or a decimal's scale adds.
+pub fn ample(columns: usize, data: &[u8]) -> usize {
+    3 * data.len() + 258 * columns
+}
+
+/// Words and bytes behind the lent ones that are looked at too.
+const GUARD: usize = 8;
+
+/// Memory to lend, with more of it behind: each word, or byte, is another number, so that what is moved, or set to one value, shows.
+struct Lent<T> {
+    before: Vec<T>,
+    now: Vec<T>,
+}
+
+impl<T: Copy + PartialEq> Lent<T> {
+    fn new() -> Self {
+        Lent {
+            before: Vec::new(),
+            now: Vec::new(),
+        }
+    }
+
+    /// So many, as they were at first, and behind them the guard.
+    fn fresh(&mut self, size: usize, fill: impl Fn(u64) -> T) -> &mut [T] {
+        let end = size + GUARD;
+        if self.before.len() < end {
+            let made = |place: u64| fill((place + 1).wrapping_mul(0x9E37_79B9_7F4A_7C15));
+            self.before = (0..end as u64).map(made).collect();
+            self.now = self.before.clone();
+        }
+        self.now[..end].copy_from_slice(&self.before[..end]);
+        &mut self.now[..size]
+    }
+
+    /// Whether so many, and the guard, are as they were from `start` on.
+    fn kept(&self, start: usize, size: usize) -> bool {
+        let end = size + GUARD;
+        self.now[start..end] == self.before[start..end]
+    }
+}
+
+/// Answers by a library, with buffers that are used again from call to call.
+pub struct PortSide<L> {
+    library: L,
+    values: Lent<u64>,
+    text: Lent<u8>,
+    answer: Answer,
+    /// Calls made, which pick the lengths of the larger buffers.
+    turn: usize,
+}
+
+impl<L: Library> PortSide<L> {
+    pub fn new(library: L) -> Self {
+        PortSide {
+            library,
+            values: Lent::new(),
+            text: Lent::new(),
+            answer: Answer::new(),
+            turn: 0,
+        }
+    }
+
+    /// The answer with buffers just large enough, after the checks with others.
+    pub fn answer(&mut self, columns: &[u64], data: &[u8]) -> &Answer {
+        self.turn += 1;
+        let outcome = self.outcome(columns, data);
+        if !matches!(outcome, Outcome::Accepted { .. }) {
+            self.answer.set(outcome);
+        }
+        &self.answer
+    }
+
+    /// The outcome; where it is accepted the answer holds it already.
+    fn outcome(&mut self, columns: &[u64], data: &[u8]) -> Outcome {
+        let words = VALUE_WORDS * (columns.len() / 2);
+        let first = self.call(columns, data, words, 0);
+        let texts = match first.number {
+            0 if first.second == 0 => 0,
+            9 if first.first > 0 && first.second == 0 => first.first,
+            0 | 9 => return Outcome::Bad(Bad::Nine),
+            _ => return self.refused(columns, data, first),
+        };
+        match usize::try_from(texts) {
+            Ok(texts) if texts <= ample(columns.len() / 2, data) => {
+                self.accepted(columns, data, first, texts)
+            }
+            _ => Outcome::Bad(Bad::Nine),
+        }
+    }
+
+    /// A call with so many words for values and bytes for texts.
+    fn call(&mut self, columns: &[u64], data: &[u8], words: usize, bytes: usize) -> Decoded {
+        let values = self.values.fresh(words, |number| number);
+        let text = self.text.fresh(bytes, |number| (number >> 32) as u8);
+        self.library.decode_row(columns, data, values, text)
+    }
+
+    /// Whether nothing has changed.
+    fn kept(&self, words: usize, bytes: usize) -> bool {
+        self.values.kept(0, words) && self.text.kept(0, bytes)
+    }
+
+    /// A row that is accepted with `texts` bytes of text; `first` was the answer with none.
+    fn accepted(&mut self, columns: &[u64], data: &[u8], first: Decoded, texts: usize) -> Outcome {
+        let words = VALUE_WORDS * (columns.len() / 2);
+        if texts > 0 && !self.kept(words, 0) {
+            return Outcome::Bad(Bad::Nine);
+        }
+        // Exactly as many words and bytes as are needed.
+        let exact = if texts > 0 {
+            self.call(columns, data, words, texts)
+        } else {
+            first
+        };
+        if (exact.number, exact.second) != (0, texts as u64) {
+            return Outcome::Bad(Bad::Nine);
+        }
+        if !self.values.kept(words, words) || !self.text.kept(texts, texts) {
+            return Outcome::Bad(Bad::Rest);
+        }
+        self.answer.set(Outcome::Accepted { used: exact.first });
+        self.answer
+            .values
+            .extend_from_slice(&self.values.now[..words]);
+        self.answer.text.extend_from_slice(&self.text.now[..texts]);
+        // More of both.
+        let ample = ample(columns.len() / 2, data);
+        let bytes = [texts + 1, texts + 7, ample.max(texts), ample + 99][self.turn % 4];
+        let more = words + 1 + self.turn % 3;
+        if self.call(columns, data, more, bytes) != exact || !self.same(words, more, texts, bytes) {
+            return Outcome::Bad(Bad::Rest);
+        }
+        // One byte too few, with words exact or more.
+        if texts > 0 {
+            let words = words + self.turn % 2;
+            let short = self.call(columns, data, words, texts - 1);
+            let nine = Decoded {
+                number: 9,
+                first: texts as u64,
+                second: 0,
+            };
+            if short != nine || !self.kept(words, texts - 1) {
+                return Outcome::Bad(Bad::Nine);
+            }
+        }
+        match self.too_few_is_said(columns, data, texts) {
+            true => self.answer.outcome,
+            false => Outcome::Bad(Bad::TooFew),
+        }
+    }
+
+    /// Whether the values and texts are those of the answer, and all else is as it was.
+    fn same(&self, words: usize, lent_words: usize, bytes: usize, lent_bytes: usize) -> bool {
+        self.values.now[..words] == self.answer.values
+            && self.text.now[..bytes] == self.answer.text
+            && self.values.kept(words, lent_words)
+            && self.text.kept(bytes, lent_bytes)
+    }
+
+    /// Whether 101 comes with fewer words than needed, and changes nothing.
+    fn too_few_is_said(&mut self, columns: &[u64], data: &[u8], bytes: usize) -> bool {
+        let needed = VALUE_WORDS * (columns.len() / 2);
+        if needed == 0 {
+            return true;
+        }
+        let words = [needed - 1, 0, needed - 1, needed / 2][self.turn % 4];
+        let too_few = Decoded {
+            number: TOO_FEW_WORDS,
+            first: needed as u64,
+            second: 0,
+        };
+        self.call(columns, data, words, bytes) == too_few && self.kept(words, bytes)
+    }
+
+    /// A refusal but 9: the same with room for all and more, and nothing changed. All but refusal 3 come after 101.
+    fn refused(&mut self, columns: &[u64], data: &[u8], first: Decoded) -> Outcome {
+        let words = VALUE_WORDS * (columns.len() / 2);
+        if !self.kept(words, 0) {
+            return Outcome::Bad(Bad::Rest);
+        }
+        let bytes = [1, ample(columns.len() / 2, data).min(5000)][self.turn % 2];
+        let more = words + self.turn % 3;
+        if self.call(columns, data, more, bytes) != first || !self.kept(more, bytes) {
+            return Outcome::Bad(Bad::Rest);
+        }
+        if first.number == 3 {
+            let same = self.call(columns, data, 0, 0) == first && self.kept(0, 0);
+            if !same {
+                return Outcome::Bad(Bad::TooFew);
+            }
+        } else if !self.too_few_is_said(columns, data, bytes) {
+            return Outcome::Bad(Bad::TooFew);
+        }
+        let Decoded {
+            number,
+            first,
+            second,
+        } = first;
+        match number {
+            8 => Outcome::TooShort {
+                expected: first,
+                actual: second,
+            },
+            TOO_FEW_WORDS => Outcome::Bad(Bad::TooFew),
+            _ if (first, second) != (0, 0) => Outcome::Bad(Bad::Rest),
+            _ => Outcome::Refusal(number),
+        }
+    }
+
+    /// Whether one call, with room for all, gives an answer that another gave (`used` of it, its values and its texts).
+    pub fn gives(&mut self, columns: &[u64], data: &[u8], answer: &Answer) -> bool {
+        let Outcome::Accepted { used } = answer.outcome else {
+            return false;
+        };
+        let (words, bytes) = (answer.values.len(), answer.text.len());
+        let decoded = Decoded {
+            number: 0,
+            first: used,
+            second: bytes as u64,
+        };
+        self.call(columns, data, words, bytes) == decoded
+            && self.values.now[..words] == answer.values
+            && self.text.now[..bytes] == answer.text
+            && self.values.kept(words, words)
+            && self.text.kept(bytes, bytes)
+    }
+
+    /// Whether one call says that the row is too short, and changes nothing.
+    pub fn is_too_short(&mut self, columns: &[u64], data: &[u8], bytes: usize) -> bool {
+        let words = VALUE_WORDS * (columns.len() / 2);
+        self.call(columns, data, words, bytes).number == 8 && self.kept(words, bytes)
+    }
+}

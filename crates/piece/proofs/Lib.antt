@@ -1,3 +1,4 @@
 pub mod PieceLaws
 pub mod ItemLaws
 pub mod Bound
+pub mod Texts

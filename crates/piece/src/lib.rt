@@ -17,7 +17,7 @@ ghost use Rattle.refusal.specs.Refusal.{inputLimit};
 ghost use Rattle.types.specs.Places.{blankValue};
 ghost use Rattle.buffer.specs.Buffer.{written};
 ghost use Rattle.rules.specs.Extent.{need, extentOf};
-ghost use Rattle.rules.specs.Walk.{short, columnNeed, cellShort};
+ghost use Rattle.rules.specs.Walk.{short, skipOf, columnNeed, cellShort};
 ghost use Rattle.rules.specs.Row.{pieceValue};
 ghost use Rattle.rules.specs.Conversions.{ported};
 ghost use Rattle.piece.specs.Piece.{valueIn, valueText, pieceIn, pieceText};
@@ -39,6 +39,19 @@ pub struct PieceWritten {
     pub place: ValuePlace,
     pub used: usize,
     pub written: usize,
+}
+
+// Where a row's body begins: an FF and the byte after it are skipped; that byte is not looked at.
+pub fn skip_of(data: &[u8]) -> usize
+    ensures { λ r. ⌜ r ≡ skipOf (now («data» .entry)) ⌝ }
+{
+    if data.len() < 2 {
+        return 0;
+    }
+    if data[0] == 0xFF {
+        return 2;
+    }
+    0
 }
 
 // How many bytes the column takes of the rest of the row. It is there where that is at most their number.

@@ -4,6 +4,7 @@ use piece::piece_length;
 use piece::piece_need;
 use piece::piece_write;
 use piece::shortage;
+use piece::skip_of;
 use refusal::INPUT_LIMIT;
 use refusal::Outcome;
 use refusal::Refusal;
@@ -21,11 +22,12 @@ ghost use lib.ListN.{length};
 ghost use Rattle.refusal.specs.Refusal.{inputLimit, refusalNumber, refusalValues};
 ghost use Rattle.types.specs.Names.{namedIn};
 ghost use Rattle.types.specs.Places.{maxColumns, blankValue};
-ghost use Rattle.rules.specs.Walk.{skipOf, walkBody};
+ghost use Rattle.rules.specs.Walk.{walkBody};
 ghost use Rattle.rules.specs.Row.{toldRow, covered, bodyDecision, answerOf, textAfter, refusedRow};
 ghost use Rattle.rules.specs.Conversions.{ported, rowAnswer, rowText};
 ghost use Rattle.rules.specs.Value.{bytesAt, valueBytes};
-ghost use Rattle.row.specs.Whole.{Whole, textsOf, neededBeyond};
+ghost use Rattle.piece.specs.Texts.{textsOf, neededBeyond};
+ghost use Rattle.row.specs.Whole.{Whole};
 
 fn blank_value() -> ValuePlace
     ensures { λ r. ⌜ r ≡ blankValue ⌝ }
@@ -46,19 +48,6 @@ fn refused(r: Refusal) -> RowAnswer
         places,
         used: 0,
     }
-}
-
-// An FF and the byte after it are skipped; that byte is not looked at.
-fn skip_of(data: &[u8]) -> usize
-    ensures { λ r. ⌜ r ≡ skipOf (now («data» .entry)) ⌝ }
-{
-    if data.len() < 2 {
-        return 0;
-    }
-    if data[0] == 0xFF {
-        return 2;
-    }
-    0
 }
 
 fn is_dec_float(t: Db2Type) -> bool

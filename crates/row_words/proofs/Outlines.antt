@@ -1,11 +1,9 @@
 -- A walk by how it ends, and what is decided of the row then. Assumes nothing.
 use Prim.Native.Nat.{ℕ, _≤_, _<_}
-use mathlib.Core.Path.{_≡_, refl, sym, ap, _∙_}
-use mathlib.Core.Bool.{Bool, true, false, cond}
+use mathlib.Core.Path.{_≡_, ap, _∙_}
 use mathlib.Core.List.{List, [], _∷_}
 use native.Mathlib.Omega.{arith}
-use borrow.Author.Tests.{lt-ltb, le-ltb, ltb-true, ltb-false}
-use lib.Dec.{ltb}
+use borrow.Author.Tests.{lt-ltb, le-ltb}
 use lib.ListN.{length}
 use Rattle.types.specs.declared.ColumnDescriptor.{ColumnDescriptor}
 use Rattle.rules.specs.Walk.{Piece, Walk, done, short, walkBody}
@@ -14,7 +12,9 @@ use Rattle.rules.specs.Conversions.{ported}
 use Rattle.rules.proofs.Walks.{piecesOf}
 use Rattle.row_words.specs.declared.Walked.{Walked}
 use Rattle.row_words.specs.declared.Walked.the-variants.{Done, Short}
-use Rattle.row_words.specs.Passes.{outline, textsOf, neededBeyond}
+use Rattle.row_words.specs.Passes.{outline}
+use Rattle.piece.specs.Texts.{textsOf}
+use Rattle.piece.proofs.Texts.{texts-are}
 
 pub is-done : (n : ℕ) (w : Walk) → Done n ≡ outline w → w ≡ done (piecesOf w) n
 is-done n (done ps m) h = let e : n ≡ m = cc in rw e
@@ -23,30 +23,6 @@ is-done n (short x y) h = let z : _≡_ {A = ℕ} 0 1 = cc in absurd (omega arit
 pub is-short : (x y : ℕ) (w : Walk) → Short x y ≡ outline w → w ≡ short x y
 is-short x y (done ps m) h = let z : _≡_ {A = ℕ} 0 1 = cc in absurd (omega arith)
 is-short x y (short p q) h = cc
-
-pub texts-are : (n : ℕ) (w : Walk) → Done n ≡ outline w → textsOf w ≡ rowTexts ported (piecesOf w)
-texts-are n w h = let e = is-done n w h in rw e
-
--- ---- the texts' length, where it goes beyond a buffer of n bytes
-pub needed-none : (n : ℕ) (t : List ℕ) → length t ≤ n → 0 ≡ neededBeyond n t
-needed-none n t h = rw (le-ltb n (length t) h)
-
-pub needed-some : (n k : ℕ) (t : List ℕ) → n < k → k ≡ length t → k ≡ neededBeyond n t
-needed-some n k t h e = rw (← e, lt-ltb n k h)
-
-pub beyond : (n r : ℕ) (t : List ℕ) → r ≡ neededBeyond n t → 0 < r → (n < length t) × (r ≡ length t)
-beyond n r t e h = by (ltb n (length t)) refl e
-  where
-    by : (b : Bool) → ltb n (length t) ≡ b → r ≡ cond b (length t) 0 → (n < length t) × (r ≡ length t)
-    by true q k = (ltb-true n (length t) q, k)
-    by false q k = absurd (omega arith)
-
-pub within : (n r : ℕ) (t : List ℕ) → r ≡ neededBeyond n t → r ≤ 0 → length t ≤ n
-within n r t e h = by (ltb n (length t)) refl e
-  where
-    by : (b : Bool) → ltb n (length t) ≡ b → r ≡ cond b (length t) 0 → length t ≤ n
-    by true q k = omega (arith, ltb-true n (length t) q)
-    by false q k = ltb-false n (length t) q
 
 -- ---- what is decided
 module _ (cs : List ColumnDescriptor) (start : ℕ) (s d : List ℕ) where
@@ -62,10 +38,10 @@ module _ (cs : List ColumnDescriptor) (start : ℕ) (s d : List ℕ) where
     pub decided-text : (k : ℕ) → length d < k → k ≡ length (textsOf (walkBody cs start s)) → bodyDecision ported cs start s d ≡ refusal 9 (k ∷ [])
     unfolding walkDecision
     decided-text k l e =
-        let q : k ≡ length (rowTexts ported (piecesOf (walkBody cs start s))) = e ∙ ap length (texts-are n (walkBody cs start s) h) in
+        let q : k ≡ length (rowTexts ported (piecesOf (walkBody cs start s))) = e ∙ ap length (texts-are (walkBody cs start s)) in
         by-texts ∙ rw (← q, lt-ltb (length d) k l)
 
     pub decided-accepted : length (textsOf (walkBody cs start s)) ≤ length d → bodyDecision ported cs start s d ≡ acceptance (piecesOf (walkBody cs start s)) n
     unfolding walkDecision
     decided-accepted l =
-        by-texts ∙ rw (le-ltb (length d) (length (rowTexts ported (piecesOf (walkBody cs start s)))) (rw (texts-are n (walkBody cs start s) h) at l))
+        by-texts ∙ rw (le-ltb (length d) (length (rowTexts ported (piecesOf (walkBody cs start s)))) (rw (texts-are (walkBody cs start s)) at l))

@@ -12,8 +12,10 @@ use Rattle.row_words.specs.declared.Walked.the-variants.{Done, Short}
 use Rattle.row_words.specs.declared.RowOutcome.{RowOutcome}
 use Rattle.row_words.specs.declared.RowOutcome.the-variants.{Accepted, TooShort, TextTooShort}
 use Rattle.row_words.specs.Rows.{valuesAfter}
-use Rattle.row_words.specs.Passes.{outline, textsOf, neededBeyond, Says}
-use Rattle.row_words.proofs.Outlines.{texts-are, beyond, within, decided-short, decided-text, decided-accepted}
+use Rattle.row_words.specs.Passes.{outline, Says}
+use Rattle.piece.specs.Texts.{textsOf, neededBeyond}
+use Rattle.piece.proofs.Texts.{texts-are, needed-more, needed-fits}
+use Rattle.row_words.proofs.Outlines.{decided-short, decided-text, decided-accepted}
 
 module _ (cs : List ColumnDescriptor) (s d v : List ℕ) where
   abbrev pub Told : RowOutcome → List ℕ → List ℕ → Type 0
@@ -30,11 +32,11 @@ module _ (cs : List ColumnDescriptor) (s d v : List ℕ) where
       pub told-text : (k : ℕ) → k ≡ neededBeyond (length d) (textsOf (walkBody cs start s)) → 0 < k → Told (TextTooShort k) v d
       unfolding textAfter
       told-text k e l =
-          let b = beyond (length d) k (textsOf (walkBody cs start s)) e l in
+          let b = needed-more (length d) k (textsOf (walkBody cs start s)) e l in
           rw (← q, decided-text cs start s d n h k (rw (← (b .1)) at (b .0)) (b .1)) (refl, (refl, refl))
 
       pub told-accepted : (k : ℕ) → k ≡ neededBeyond (length d) (textsOf (walkBody cs start s)) → k ≤ 0 → (m : ℕ) → m ≡ length (textsOf (walkBody cs start s))
           → (words out : List ℕ) → words ≡ valuesAfter (bodyDecision ported cs start s d) v → out ≡ textAfter ported (bodyDecision ported cs start s d) d → Told (Accepted n m) words out
       told-accepted k e l m w words out f g =
-          let a = decided-accepted cs start s d n h (within (length d) k (textsOf (walkBody cs start s)) e l) in
-          rw (← q) ((piecesOf (walkBody cs start s), (a, w ∙ ap length (texts-are n (walkBody cs start s) h))), (f, g))
+          let a = decided-accepted cs start s d n h (needed-fits (length d) k (textsOf (walkBody cs start s)) e l) in
+          rw (← q) ((piecesOf (walkBody cs start s), (a, w ∙ ap length (texts-are (walkBody cs start s)))), (f, g))

@@ -50,14 +50,6 @@ abbrev pub outline : Walk → Walked
 outline (done ps n) = Done n
 outline (short expected actual) = Short expected actual
 
--- the length of a walk's texts where a buffer of n bytes is too short for them, else 0
-abbrev pub textsOf : Walk → List ℕ
-textsOf (done ps n) = rowTexts ported ps
-textsOf (short expected actual) = []
-
-abbrev pub neededBeyond : ℕ → List ℕ → ℕ
-neededBeyond n t = cond (ltb n (length t)) (length t) 0
-
 -- what an outcome says of a decision
 abbrev pub Says : RowOutcome → Decision → Type 0
 Says (Accepted used written) d = (ps : List Piece) × ((d ≡ acceptance ps used) × (written ≡ length (rowTexts ported ps)))

@@ -9,6 +9,7 @@ use piece::piece_length;
 use piece::piece_need;
 use piece::piece_write;
 use piece::shortage;
+use piece::skip_of;
 use types::Db2Value;
 use types::ValuePlace;
 use words::column_named;
@@ -31,7 +32,8 @@ ghost use Rattle.rules.specs.Row.{bodyDecision, textAfter};
 ghost use Rattle.rules.specs.Conversions.{ported};
 ghost use Rattle.words.specs.Reading.{columnNamed, readColumns};
 ghost use Rattle.row_words.specs.Rows.{valuesAfter};
-ghost use Rattle.row_words.specs.Passes.{checkedOf, columnsNamed, numberWidth, threeSet, outline, textsOf, neededBeyond, Says};
+ghost use Rattle.row_words.specs.Passes.{checkedOf, columnsNamed, numberWidth, threeSet, outline, Says};
+ghost use Rattle.piece.specs.Texts.{textsOf, neededBeyond};
 
 // What the columns' words say before the row is looked at: how many columns are of type DecFloat, or that some words are no column's.
 pub enum Checked {
@@ -88,19 +90,6 @@ pub fn check_columns(columns: &[u64]) -> Checked
         return Checked::Columns { dec_floats };
     }
     Checked::NoColumn
-}
-
-// An FF and the byte after it are skipped; that byte is not looked at.
-fn skip_of(data: &[u8]) -> usize
-    ensures { λ r. ⌜ r ≡ skipOf (now («data» .entry)) ⌝ }
-{
-    if data.len() < 2 {
-        return 0;
-    }
-    if data[0] == 0xFF {
-        return 2;
-    }
-    0
 }
 
 // How many bytes a column takes that is a number and has no indicator; else 0. Such columns are common, and their first word says all that is

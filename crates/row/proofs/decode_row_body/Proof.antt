@@ -13,8 +13,10 @@ use Rattle.rules.specs.Row.{covered, rowTexts, answerOf, textAfter}
 use Rattle.rules.specs.Conversions.{ported}
 use Rattle.rules.proofs.Walks.{piecesOf}
 use Rattle.rules.proofs.Progress.{Walking, walking-start, walking-step, walking-short, walking-end, placing-there, placing-room, placing-within, covered-at, rest-is}
-use Rattle.row.specs.Whole.{Whole, textsOf}
-use Rattle.row.proofs.Wholes.{whole-is, texts-are, needed-more, needed-fits, decided-short, decided-lacking, decided-accepted}
+use Rattle.piece.specs.Texts.{textsOf}
+use Rattle.piece.proofs.Texts.{texts-are, needed-more, needed-fits}
+use Rattle.row.specs.Whole.{Whole}
+use Rattle.row.proofs.Wholes.{whole-is, decided-short, decided-lacking, decided-accepted}
 use Rattle.buffer.proofs.Writing.{as-long}
 use Rattle.row.proofs.Filling.{Filling, filling-start, filling-step, filling-end, next-within}
 use Rattle.row.proofs.decode_row_body.Statement.{statement}

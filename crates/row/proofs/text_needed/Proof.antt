@@ -14,8 +14,9 @@ use Rattle.rules.specs.Conversions.{ported}
 use Rattle.rules.proofs.Walks.{piecesOf}
 use Rattle.rules.proofs.Progress.{Measuring, measuring-start, measuring-there, measuring-bound, measuring-step, measuring-end, end-within, covered-at, rest-is}
 use Rattle.piece.proofs.Bound.{Bytes, texts-bound}
-use Rattle.row.specs.Whole.{textsOf}
-use Rattle.row.proofs.Wholes.{whole-is, texts-are, needed-none, needed-some}
+use Rattle.piece.specs.Texts.{textsOf}
+use Rattle.piece.proofs.Texts.{texts-are, needed-none, needed-some}
+use Rattle.row.proofs.Wholes.{whole-is}
 use Rattle.row.proofs.Scales.{owned-scaled, covered-scaled}
 use Rattle.row.proofs.text_needed.Statement.{statement}
 use Rattle.row.proofs.text_needed.Tie as tie

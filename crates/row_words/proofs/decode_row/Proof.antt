@@ -6,8 +6,9 @@ use denote.Ref.{now}
 use lib.ListN.{length}
 use Rattle.rules.specs.Walk.{walkBody}
 use Rattle.rules.proofs.Rows.{skip-fits}
-use Rattle.row_words.specs.Passes.{columnsNamed, textsOf}
-use Rattle.row_words.proofs.Outlines.{within}
+use Rattle.row_words.specs.Passes.{columnsNamed}
+use Rattle.piece.specs.Texts.{textsOf}
+use Rattle.piece.proofs.Texts.{needed-fits}
 use Rattle.row_words.proofs.Telling.{told-short, told-text, told-accepted}
 use Rattle.row_words.proofs.decode_row.Statement.{statement}
 use Rattle.row_words.proofs.decode_row.Tie as tie
@@ -31,7 +32,7 @@ returns : tie.Need-returns
 returns c = told-text (columnsNamed (now (c .before .before .before .before .before .before .before .before .before .before .before .args .columns))) (now (c .before .before .before .before .before .before .before .before .before .before .before .args .«data»)) (now (c .before .before .before .before .before .before .before .before .before .before .before .args .text)) (now (c .before .before .before .before .before .before .before .before .before .before .before .args .values)) (c .before .before .before .before .before .before .skip-of .result) (c .before .before .before .before .before .before .skip-of .ensures) _ (sym (c .before .before .before .end .given .1) ∙ c .before .before .before .before .before .walk-columns .ensures) (c .before .text-needed .result) (c .before .text-needed .ensures) (c .if1 .taken)
 
 write-columns-requires : tie.Need-write-columns-requires
-write-columns-requires c κs = (omega (arith, c .before .before .before .before .before .before .before .before .skip-of .ensures, skip-fits (now (c .before .before .before .before .before .before .before .before .before .before .before .before .before .args .«data»))), (c .before .before .before .before .before .before .before .before .before .before .before .before .before .pre .1 .0, (sym (c .before .before .before .before .before .end .given .1) ∙ c .before .before .before .before .before .before .before .walk-columns .ensures, (c .before .before .before .before .before .before .before .before .before .before .before .before .before .pre .1 .1, within (length (now (c .before .before .before .before .before .before .before .before .before .before .before .before .before .args .text))) (c .before .before .before .text-needed .result) (textsOf (walkBody (columnsNamed (now (c .before .before .before .before .before .before .before .before .before .before .before .before .before .args .columns))) (c .before .before .before .before .before .before .before .before .skip-of .result) (now (c .before .before .before .before .before .before .before .before .before .before .before .before .before .args .«data»)))) (c .before .before .before .text-needed .ensures) (c .before .before .if1 .left)))))
+write-columns-requires c κs = (omega (arith, c .before .before .before .before .before .before .before .before .skip-of .ensures, skip-fits (now (c .before .before .before .before .before .before .before .before .before .before .before .before .before .args .«data»))), (c .before .before .before .before .before .before .before .before .before .before .before .before .before .pre .1 .0, (sym (c .before .before .before .before .before .end .given .1) ∙ c .before .before .before .before .before .before .before .walk-columns .ensures, (c .before .before .before .before .before .before .before .before .before .before .before .before .before .pre .1 .1, needed-fits (length (now (c .before .before .before .before .before .before .before .before .before .before .before .before .before .args .text))) (c .before .before .before .text-needed .result) (textsOf (walkBody (columnsNamed (now (c .before .before .before .before .before .before .before .before .before .before .before .before .before .args .columns))) (c .before .before .before .before .before .before .before .before .skip-of .result) (now (c .before .before .before .before .before .before .before .before .before .before .before .before .before .args .«data»)))) (c .before .before .before .text-needed .ensures) (c .before .before .if1 .left)))))
 
 returns-2 : tie.Need-returns-2
 returns-2 c = told-short (columnsNamed (now (c .before .before .before .before .before .before .before .before .before .args .columns))) (now (c .before .before .before .before .before .before .before .before .before .args .«data»)) (now (c .before .before .before .before .before .before .before .before .before .args .text)) (now (c .before .before .before .before .before .before .before .before .before .args .values)) (c .before .before .before .before .skip-of .result) (c .before .before .before .before .skip-of .ensures) _ _ (sym (c .before .expected .given .1) ∙ c .before .before .before .walk-columns .ensures)

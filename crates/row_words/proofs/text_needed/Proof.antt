@@ -1,6 +1,6 @@
 -- `row_words::text_needed` meets its contract: a law for the start, a turn and the end of the measuring loop. Assumes nothing.
 use Prim.Native.Nat.{_+_, _-_, _*_, _/_, _≤_}
-use mathlib.Core.Path.{_≡_, sym, ap, _∙_}
+use mathlib.Core.Path.{_≡_, sym, ap, _∙_, refl}
 use mathlib.Core.List.{_∷_}
 use borrow.Author.Needs.{needs}
 use native.Mathlib.Omega.{arith}
@@ -12,9 +12,11 @@ use Rattle.rules.specs.Conversions.{ported}
 use Rattle.rules.proofs.Walks.{piecesOf}
 use Rattle.rules.proofs.Progress.{Measuring, measuring-start, measuring-there, measuring-bound, measuring-step, measuring-end, end-within, rest-is}
 use Rattle.piece.proofs.Bound.{Bytes}
-use Rattle.row_words.specs.Passes.{columnsNamed, textsOf}
+use Rattle.row_words.specs.Passes.{columnsNamed}
+use Rattle.piece.specs.Texts.{textsOf}
+use Rattle.piece.proofs.Texts.{texts-are, needed-none, needed-some}
 use Rattle.row_words.proofs.Named.{named-length, named-at}
-use Rattle.row_words.proofs.Outlines.{is-done, texts-are, needed-none, needed-some}
+use Rattle.row_words.proofs.Outlines.{is-done}
 use Rattle.row_words.proofs.Bounds.{named-bound}
 use Rattle.row_words.proofs.text_needed.Statement.{statement}
 use Rattle.row_words.proofs.text_needed.Tie as tie
@@ -41,7 +43,7 @@ module _ (c : tie.Start Inv-loop μ-loop) where
   bound h = rw (named-length (now (c .args .columns))) at (named-bound (now (c .args .columns)) (c .args .start) (now (c .args .«data»)) (piecesOf walked) (c .args .end) h (ends .0) whole)
 
   texts : length (rowTexts ported (piecesOf walked)) ≡ length (textsOf walked)
-  texts = ap length (sym (texts-are (c .args .end) walked (c .pre .1 .1 .1)))
+  texts = ap length (sym (texts-are walked))
 
 sub-if1 : tie.Need-sub-if1 Inv-loop μ-loop
 sub-if1 c = ends (c .before .before) .0
@@ -56,7 +58,7 @@ add-if1 : tie.Need-add-if1 Inv-loop μ-loop
 add-if1 c = omega (arith, ends (c .before .before), c .before .before .pre .1 .1 .0, c .before .before .pre .0)
 
 returns : tie.Need-returns Inv-loop μ-loop
-returns c = needed-none (c .before .before .before .args .room) (textsOf (walked (c .before .before .before))) (omega (arith, bound (c .before .before .before) (λ j. omega (arith, c .before .shared-slice-known2 .given j)), texts (c .before .before .before), c .if1 .taken))
+returns c = needed-none (c .before .before .before .args .room) _ (textsOf (walked (c .before .before .before))) refl (omega (arith, bound (c .before .before .before) (λ j. omega (arith, c .before .shared-slice-known2 .given j)), texts (c .before .before .before), c .if1 .taken))
 
 loop-holds : tie.Need-loop-holds Inv-loop μ-loop
 loop-holds c = (omega arith, measuring-start ported _ _ _ _ _ (c .before .before .before .pre .1 .0) (whole (c .before .before .before)))
@@ -110,10 +112,10 @@ loop-again : tie.Need-loop-again Inv-loop μ-loop
 loop-again c = (omega (arith, c .before .before .before .before .before .before .before .loop-test .taken), measuring-step ported _ _ _ _ _ (c .before .before .before .before .before .before .before .before .loop .inv .1) (c .before .before .before .before .column-named .result) (named-at _ _ (c .before .before .before .before .before .before .before .loop-test .taken) (c .before .before .before .before .column-named .ensures)) _ (rest-is (c .before .before .before .before .before .before .before .before .before .before .before .before .args .«data» .now) (c .before .before .before .before .before .before .before .before .loop .at)) _ _ (c .before .before .piece-length .ensures .0) (c .before .before .piece-length .ensures .1))
 
 returns-2 : tie.Need-returns-2 Inv-loop μ-loop
-returns-2 c = needed-none (c .before .before .before .before .before .before .args .room) (textsOf (walked (c .before .before .before .before .before .before))) (omega (arith, measuring-end ported _ _ _ _ _ (c .before .before .loop .inv .1) (omega (arith, c .before .loop-test .left, named-length (c .before .before .before .before .before .before .args .columns .now))), texts (c .before .before .before .before .before .before), c .if2 .taken))
+returns-2 c = needed-none (c .before .before .before .before .before .before .args .room) _ (textsOf (walked (c .before .before .before .before .before .before))) refl (omega (arith, measuring-end ported _ _ _ _ _ (c .before .before .loop .inv .1) (omega (arith, c .before .loop-test .left, named-length (c .before .before .before .before .before .before .args .columns .now))), texts (c .before .before .before .before .before .before), c .if2 .taken))
 
 returns-3 : tie.Need-returns-3 Inv-loop μ-loop
-returns-3 c = needed-some (c .before .before .before .before .before .before .args .room) (c .before .before .loop .total) (textsOf (walked (c .before .before .before .before .before .before))) (c .if2 .left) (measuring-end ported _ _ _ _ _ (c .before .before .loop .inv .1) (omega (arith, c .before .loop-test .left, named-length (c .before .before .before .before .before .before .args .columns .now))) ∙ texts (c .before .before .before .before .before .before))
+returns-3 c = needed-some (c .before .before .before .before .before .before .args .room) (c .before .before .loop .total) (textsOf (walked (c .before .before .before .before .before .before))) (measuring-end ported _ _ _ _ _ (c .before .before .loop .inv .1) (omega (arith, c .before .loop-test .left, named-length (c .before .before .before .before .before .before .args .columns .now))) ∙ texts (c .before .before .before .before .before .before)) (c .if2 .left)
 
 pub text-needed-spec : {M : Type 1} → statement M
 text-needed-spec =

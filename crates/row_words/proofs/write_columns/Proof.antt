@@ -11,9 +11,11 @@ use Rattle.rules.specs.Row.{acceptance, rowTexts, bodyDecision, textAfter}
 use Rattle.rules.specs.Conversions.{ported}
 use Rattle.rules.proofs.Walks.{piecesOf}
 use Rattle.rules.proofs.Progress.{placing-there, placing-room, placing-within, rest-is}
-use Rattle.row_words.specs.Passes.{columnsNamed, textsOf}
+use Rattle.row_words.specs.Passes.{columnsNamed}
+use Rattle.piece.specs.Texts.{textsOf}
+use Rattle.piece.proofs.Texts.{texts-are}
 use Rattle.row_words.proofs.Named.{named-length, named-at}
-use Rattle.row_words.proofs.Outlines.{is-done, texts-are, decided-accepted}
+use Rattle.row_words.proofs.Outlines.{is-done, decided-accepted}
 use Rattle.row_words.proofs.Putting.{Putting, putting-start, putting-step, putting-end, as-many}
 use Rattle.row_words.proofs.write_columns.Statement.{statement}
 use Rattle.row_words.proofs.write_columns.Tie as tie
@@ -31,7 +33,7 @@ module _ (c : tie.Start Inv-loop μ-loop) where
   walked = walkBody (columnsNamed (now (c .args .columns))) (c .args .start) (now (c .args .«data»))
 
   texts : textsOf walked ≡ rowTexts ported (piecesOf walked)
-  texts = texts-are (c .args .end) walked (c .pre .1 .1 .0)
+  texts = texts-are walked
 
   decided : bodyDecision ported (columnsNamed (now (c .args .columns))) (c .args .start) (now (c .args .«data»)) (now (c .args .text)) ≡ acceptance (piecesOf walked) (c .args .end)
   decided = decided-accepted (columnsNamed (now (c .args .columns))) (c .args .start) (now (c .args .«data»)) (now (c .args .text)) (c .args .end) (c .pre .1 .1 .0) (c .pre .1 .1 .1 .1)

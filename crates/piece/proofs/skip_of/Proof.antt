@@ -1,9 +1,9 @@
--- `row_words::skip_of` meets its contract: the same two tests. Assumes nothing.
+-- `piece::skip_of` meets its contract: the same two tests. Assumes nothing.
 use borrow.Author.Needs.{needs}
 use borrow.Author.Tests.{lt-leb, le-leb, eq-eqb, ne-eqb}
 use Rattle.rules.specs.Walk.{skipOf}
-use Rattle.row_words.proofs.skip_of.Statement.{statement}
-use Rattle.row_words.proofs.skip_of.Tie as tie
+use Rattle.piece.proofs.skip_of.Statement.{statement}
+use Rattle.piece.proofs.skip_of.Tie as tie
 
 returns : tie.Need-returns
 unfolding skipOf

@@ -1,4 +1,5 @@
 pub mod PieceLaws
+pub mod NumberLaws
 pub mod ItemLaws
 pub mod Bound
 pub mod Texts

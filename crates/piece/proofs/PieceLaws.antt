@@ -1,24 +1,24 @@
 -- Laws of pieces that the code rests on: what an indicator says, and what a column then takes. Assumes nothing.
 use Prim.Native.Nat.{ℕ, _+_, _-_, _≤_, _<_}
-use mathlib.Core.Path.{_≡_, refl, sym, ap, _∙_, subst}
-use mathlib.Core.Bool.{Bool, true, false, cond, not}
+use mathlib.Core.Path.{_≡_, refl, sym, ap, _∙_}
+use mathlib.Core.Bool.{Bool, true, false, cond, not, true≢false}
 use mathlib.Core.List.{List, [], _∷_}
 use native.Mathlib.Numerals.{one-add}
 use native.Mathlib.Omega.{arith}
 use lib.ListN.{length, getD, take, drop, length-drop}
 use lib.Seq.{take-all}
 use lib.Dec.{eqb}
-use borrow.Author.Tests.{eq-eqb, ne-eqb}
+use borrow.Author.Tests.{eq-eqb, ne-eqb, eqb-true, eqb-false}
 use Rattle.types.specs.declared.ColumnDescriptor.{ColumnDescriptor}
 use Rattle.rules.specs.Extent.{need, extentOf}
 use Rattle.rules.specs.Walk.{nullableNeed, cellNeed, columnNeed, Piece, absent, present, cellPiece, short, cellShort}
 use Rattle.rules.specs.Row.{textOf, pieceItem}
 use Rattle.rules.specs.Conversions.{ported}
-use Rattle.piece.specs.Piece.{valueIn, valueText, pieceIn, pieceText}
+use Rattle.piece.specs.Piece.{isNull, valueIn, valueText, pieceIn, pieceText}
 
--- all bytes but the first
-pub rest-of : (s : List ℕ) → take (length s - 1) (drop 1 s) ≡ drop 1 s
-rest-of s = take-all (length s - 1) (drop 1 s) (omega (arith, length-drop 1 s))
+-- all bytes from a place on
+pub all-after : (k : ℕ) (s : List ℕ) → take (length s - k) (drop k s) ≡ drop k s
+all-after k s = take-all (length s - k) (drop k s) (omega (arith, length-drop k s))
 
 -- a test of what is not so
 said : (b t : Bool) → not b ≡ t → b ≡ not t
@@ -31,16 +31,13 @@ module _ (c : ColumnDescriptor) (n : not (c .nullable) ≡ true) (s : List ℕ) 
   plain : c .nullable ≡ false
   plain = said (c .nullable) true n
 
-  pub plain-need : columnNeed c s ≡ need (extentOf c) s
+  plain-need : columnNeed c s ≡ need (extentOf c) s
   unfolding columnNeed
   plain-need = ap (λ (b : Bool). cellNeed b (extentOf c) s) plain
 
-  pub plain-piece : (at : ℕ) → pieceIn c at s ≡ valueIn c at s
+  plain-piece : (at : ℕ) → pieceIn c at s ≡ valueIn c at s
   unfolding cellPiece
   plain-piece at = ap (λ (b : Bool). cellPiece b c at (take (columnNeed c s) s)) plain ∙ ap (λ (k : ℕ). present c at (take k s)) plain-need
-
-  pub plain-text : pieceText c s ≡ valueText c s
-  plain-text = ap (λ (p : Piece). textOf (pieceItem ported p)) (plain-piece 0)
 
   pub plain-short : (offset : ℕ) → cellShort (c .nullable) (extentOf c) offset s ≡ short (need (extentOf c) s) (length s)
   unfolding cellShort
@@ -62,22 +59,10 @@ module _ (c : ColumnDescriptor) (n : not (c .nullable) ≡ false) where
   marked-short : (offset : ℕ) (s : List ℕ) → cellShort (c .nullable) (extentOf c) offset s ≡ cellShort true (extentOf c) offset s
   marked-short offset s = ap (λ (b : Bool). cellShort b (extentOf c) offset s) marked
 
-  pub none-need : (s : List ℕ) → length s ≡ 0 → columnNeed c s ≡ 1
+  none-need : (s : List ℕ) → length s ≡ 0 → columnNeed c s ≡ 1
   unfolding nullableNeed
   none-need [] h = marked-need []
   none-need (b ∷ s) h = absurd (omega (arith, h))
-
-  pub some-need : (s : List ℕ) → 1 ≤ columnNeed c s
-  unfolding nullableNeed
-  some-need s = subst (λ (k : ℕ). 1 ≤ k) (sym (marked-need s)) (go s)
-    where
-      take-one : (t : Bool) (k : ℕ) → 1 ≤ cond t 1 (1 + k)
-      take-one true k = omega arith
-      take-one false k = omega arith
-
-      go : (s : List ℕ) → 1 ≤ nullableNeed (extentOf c) s
-      go [] = omega arith
-      go (b ∷ t) = take-one (eqb b 0xFF) (need (extentOf c) t)
 
   pub none-short : (offset : ℕ) (s : List ℕ) → length s ≡ 0 → cellShort (c .nullable) (extentOf c) offset s ≡ short (offset + 1) offset
   unfolding cellShort
@@ -92,7 +77,7 @@ module _ (c : ColumnDescriptor) (n : not (c .nullable) ≡ false) where
 
   -- FF is Null
   module _ (s : List ℕ) (e : getD s 0 0 ≡ 0xFF) where
-    pub null-need : columnNeed c s ≡ 1
+    null-need : columnNeed c s ≡ 1
     unfolding nullableNeed
     null-need = marked-need s ∙ go s e
       where
@@ -100,7 +85,7 @@ module _ (c : ColumnDescriptor) (n : not (c .nullable) ≡ false) where
         go [] f = refl
         go (b ∷ t) f = rw (eq-eqb b 0xFF f) refl
 
-    pub null-piece : (at : ℕ) → pieceIn c at s ≡ absent
+    null-piece : (at : ℕ) → pieceIn c at s ≡ absent
     unfolding cellPiece
     null-piece at = marked-piece at 1 s null-need ∙ go s e
       where
@@ -108,13 +93,9 @@ module _ (c : ColumnDescriptor) (n : not (c .nullable) ≡ false) where
         go [] f = refl
         go (b ∷ t) f = rw (eq-eqb b 0xFF f) refl
 
-    pub null-text : pieceText c s ≡ []
-    unfolding pieceItem textOf
-    null-text = ap (λ (p : Piece). textOf (pieceItem ported p)) (null-piece 0)
-
   -- any other means a value
   module _ (s : List ℕ) (h : 0 < length s) (e : getD s 0 0 ≡ 0xFF → ⊥) where
-    pub value-need : columnNeed c s ≡ 1 + need (extentOf c) (drop 1 s)
+    value-need : columnNeed c s ≡ 1 + need (extentOf c) (drop 1 s)
     unfolding nullableNeed
     value-need = marked-need s ∙ go s h e
       where
@@ -122,7 +103,7 @@ module _ (c : ColumnDescriptor) (n : not (c .nullable) ≡ false) where
         go [] k f = absurd (omega (arith, k))
         go (b ∷ t) k f = rw (ne-eqb b 0xFF f) refl
 
-    pub value-piece : (at : ℕ) → pieceIn c at s ≡ valueIn c (at + 1) (drop 1 s)
+    value-piece : (at : ℕ) → pieceIn c at s ≡ valueIn c (at + 1) (drop 1 s)
     unfolding cellPiece
     value-piece at = marked-piece at (1 + need (extentOf c) (drop 1 s)) s value-need ∙ go s h e
       where
@@ -130,6 +111,75 @@ module _ (c : ColumnDescriptor) (n : not (c .nullable) ≡ false) where
         go [] k f = absurd (omega (arith, k))
         go (b ∷ t) k f = rw (one-add, ne-eqb b 0xFF f) refl
 
-    pub value-text : pieceText c s ≡ valueText c (drop 1 s)
+-- ---- both together: what stands before a value, and whether there is one
+
+abbrev pub leadOf : ColumnDescriptor → ℕ
+leadOf c = cond (c .nullable) 1 0
+
+pub null-is : (b : Bool) (s : List ℕ) → not b ≡ true → false ≡ isNull b s
+null-is true s e = absurd (true≢false (sym e))
+null-is false s e = refl
+
+pub null-none : (b : Bool) (s : List ℕ) → not b ≡ false → length s ≡ 0 → true ≡ isNull b s
+null-none true [] e h = refl
+null-none true (x ∷ s) e h = absurd (omega (arith, h))
+null-none false s e h = absurd (true≢false e)
+
+pub null-says : (b : Bool) (s : List ℕ) → not b ≡ false → 0 < length s → eqb (getD s 0 0) 0xFF ≡ isNull b s
+null-says true [] e h = absurd (omega (arith, h))
+null-says true (x ∷ s) e h = refl
+null-says false s e h = absurd (true≢false e)
+
+module _ (c : ColumnDescriptor) (s : List ℕ) where
+  module _ (h : isNull (c .nullable) s ≡ true) where
+    pub null-takes : columnNeed c s ≡ 1
+    null-takes = go (c .nullable) refl s refl h
+      where
+        go : (b : Bool) → c .nullable ≡ b → (t : List ℕ) → s ≡ t → isNull b t ≡ true → columnNeed c s ≡ 1
+        go true e [] q k = none-need c (ap not e) s (ap length q)
+        go true e (x ∷ t) q k = null-need c (ap not e) s (ap (λ (l : List ℕ). getD l 0 0) q ∙ eqb-true x 0xFF k)
+        go false e t q k = absurd (true≢false (sym k))
+
+    pub null-absent : 0 < length s → (at : ℕ) → pieceIn c at s ≡ absent
+    null-absent m at = go (c .nullable) refl s refl h
+      where
+        go : (b : Bool) → c .nullable ≡ b → (t : List ℕ) → s ≡ t → isNull b t ≡ true → pieceIn c at s ≡ absent
+        go true e [] q k = absurd (omega (arith, m, ap length q))
+        go true e (x ∷ t) q k = null-piece c (ap not e) s (ap (λ (l : List ℕ). getD l 0 0) q ∙ eqb-true x 0xFF k) at
+        go false e t q k = absurd (true≢false (sym k))
+
+    pub absent-text : 0 < length s → pieceText c s ≡ []
+    unfolding pieceItem textOf
+    absent-text m = ap (λ (p : Piece). textOf (pieceItem ported p)) (null-absent m 0)
+
+  module _ (h : isNull (c .nullable) s ≡ false) where
+    pub lead-within : leadOf c ≤ length s
+    lead-within = go (c .nullable) s h
+      where
+        go : (b : Bool) (t : List ℕ) → isNull b t ≡ false → cond b 1 0 ≤ length t
+        go true [] k = absurd (true≢false k)
+        go true (x ∷ t) k = omega arith
+        go false t k = omega arith
+
+    -- an indicator that is there, and not FF
+    some : (t : List ℕ) → isNull true t ≡ false → (0 < length t) × (getD t 0 0 ≡ 0xFF → ⊥)
+    some [] k = absurd (true≢false k)
+    some (x ∷ t) k = (omega arith, eqb-false x 0xFF k)
+
+    pub value-takes : columnNeed c s ≡ leadOf c + need (extentOf c) (drop (leadOf c) s)
+    value-takes = go (c .nullable) refl h
+      where
+        go : (b : Bool) → c .nullable ≡ b → isNull b s ≡ false → columnNeed c s ≡ cond b 1 0 + need (extentOf c) (drop (cond b 1 0) s)
+        go true e k = value-need c (ap not e) s (some s k .0) (some s k .1)
+        go false e k = omega (arith, plain-need c (ap not e) s)
+
+    pub value-stands : (at : ℕ) → pieceIn c at s ≡ valueIn c (at + leadOf c) (drop (leadOf c) s)
+    value-stands at = go (c .nullable) refl h
+      where
+        go : (b : Bool) → c .nullable ≡ b → isNull b s ≡ false → pieceIn c at s ≡ valueIn c (at + cond b 1 0) (drop (cond b 1 0) s)
+        go true e k = value-piece c (ap not e) s (some s k .0) (some s k .1) at
+        go false e k = let z : at ≡ at + 0 = omega arith in plain-piece c (ap not e) s at ∙ ap (λ (n : ℕ). valueIn c n s) z
+
+    pub value-reads : pieceText c s ≡ valueText c (drop (leadOf c) s)
     unfolding pieceItem
-    value-text = ap (λ (p : Piece). textOf (pieceItem ported p)) (value-piece 0)
+    value-reads = ap (λ (p : Piece). textOf (pieceItem ported p)) (value-stands 0)

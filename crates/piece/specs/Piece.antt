@@ -1,17 +1,38 @@
 -- For inner functions; no public promise rests on it. The piece of a row that a column makes of the rest of the row, and its text. Assumes nothing.
-use Prim.Native.Nat.{ℕ, _+_, _≤_}
-use mathlib.Core.List.{List, []}
+use Prim.Native.Nat.{ℕ, _+_, _≤_, _<_}
+use mathlib.Core.Path.{_≡_}
+use mathlib.Core.Bool.{Bool, true, false}
+use mathlib.Core.List.{List, [], _∷_}
+use lib.Dec.{eqb}
 use lib.ListN.{length, take, drop}
 use Rattle.types.specs.declared.ColumnDescriptor.{ColumnDescriptor}
+use Rattle.types.specs.declared.Db2Type.{Db2Type}
 use Rattle.types.specs.declared.Db2Value.{Db2Value}
 use Rattle.types.specs.declared.Db2Value.the-variants as value
-use Rattle.rules.specs.Extent.{need, extentOf}
+use Rattle.types.specs.declared.ValuePlace.{ValuePlace}
+use Rattle.rules.specs.declared.Extent.the-variants.{Fixed}
+use Rattle.rules.specs.Extent.{need, extentOf, typeExtent}
+use Rattle.rules.specs.Meaning.{typeItem}
 use Rattle.rules.specs.Walk.{Piece, present, columnNeed, cellPiece}
 use Rattle.rules.specs.Row.{place, partValue, textValue, startOf, textOf, pieceItem}
 use Rattle.rules.specs.Conversions.{ported}
 use Rattle.cell.specs.declared.CellItem.{CellItem}
 use Rattle.cell.specs.declared.CellItem.the-variants.{Nothing, Number, Boolean, Part, Text}
 use Rattle.cell.specs.Cell.{byteSort, textSort, textBy, Readable}
+
+-- whether the rest s of a row has no value of a column: its indicator says Null, or is not there
+abbrev pub isNull : Bool → List ℕ → Bool
+isNull false s = false
+isNull true [] = true
+isNull true (b ∷ s) = eqb b 0xFF
+
+-- values of this type take n bytes and have no text, unless n is 0
+abbrev pub Numbers : ℕ → Db2Type → Type 0
+Numbers n t =
+    0 < n → ((c : ColumnDescriptor) → typeExtent t c ≡ Fixed n) × ((c : ColumnDescriptor) (s : List ℕ) → textOf (typeItem ported t c s) ≡ [])
+
+abbrev pub numberPlace : Db2Value → ValuePlace
+numberPlace v = record { value = v; external = false }
 
 -- as the walk has it, where s is the rest of the row and `at` the place of its first byte
 abbrev pub pieceIn : ColumnDescriptor → ℕ → List ℕ → Piece

@@ -7,10 +7,17 @@ use cell::extents::column_need;
 use cell::refers::refers;
 use items::item_len;
 use items::item_write;
+use numbers::big_int;
+use numbers::double;
+use numbers::integer;
+use numbers::real;
+use numbers::small_int;
 use types::ColumnDescriptor;
+use types::Db2Type;
 use types::Db2Value;
 use types::ValuePlace;
 ghost use mathlib.Core.Path.{_≡_};
+ghost use mathlib.Core.Bool.{cond};
 ghost use Prim.Native.Nat.{_+_, _≤_};
 ghost use lib.ListN.{length};
 ghost use Rattle.refusal.specs.Refusal.{inputLimit};
@@ -20,7 +27,8 @@ ghost use Rattle.rules.specs.Extent.{need, extentOf};
 ghost use Rattle.rules.specs.Walk.{short, skipOf, columnNeed, cellShort};
 ghost use Rattle.rules.specs.Row.{pieceValue};
 ghost use Rattle.rules.specs.Conversions.{ported};
-ghost use Rattle.piece.specs.Piece.{valueIn, valueText, pieceIn, pieceText};
+ghost use Rattle.cell.specs.Inner.{mostNeed};
+ghost use Rattle.piece.specs.Piece.{isNull, Numbers, numberPlace, valueIn, valueText, pieceIn, pieceText};
 
 // The Rust's two numbers of a row that is too short.
 pub struct Lacking {
@@ -54,21 +62,62 @@ pub fn skip_of(data: &[u8]) -> usize
     0
 }
 
+// Whether a nullable column's indicator says Null. A row that ends before it has no value either.
+fn is_null(rest: &[u8], nullable: bool) -> bool
+    ensures { λ r. ⌜ r ≡ isNull nullable (now (rest .entry)) ⌝ }
+{
+    if !nullable {
+        return false;
+    }
+    if rest.len() == 0 {
+        return true;
+    }
+    rest[0] == 0xFF
+}
+
+// How many bytes stand before a value: its indicator, where the column has one.
+fn lead(nullable: bool) -> usize
+    ensures { λ r. ⌜ (r ≡ cond nullable 1 0) × (r ≤ 1) ⌝ }
+{
+    if nullable { 1 } else { 0 }
+}
+
+// The byte count of a type's values where they are numbers; else 0. Numbers are decoded where they stand: a call with a slice and a column, both
+// through memory, takes longer than the decoding.
+fn number_bytes(t: Db2Type) -> usize
+    ensures { λ r. ⌜ Numbers r t × (r ≤ 8) ⌝ }
+{
+    match t {
+        Db2Type::SmallInt => 2,
+        Db2Type::Integer => 4,
+        Db2Type::BigInt => 8,
+        Db2Type::Real => 4,
+        Db2Type::Double => 8,
+        _ => 0,
+    }
+}
+
+fn value_need(rest: &[u8], column: ColumnDescriptor) -> usize
+    ensures { λ r. ⌜ (r ≡ need (extentOf column) (now (rest .entry))) × (r ≤ mostNeed) ⌝ }
+{
+    let t = column.db2_type;
+    let n = number_bytes(t);
+    if 0 < n {
+        return n;
+    }
+    column_need(rest, column)
+}
+
 // How many bytes the column takes of the rest of the row. It is there where that is at most their number.
 pub fn piece_need(rest: &[u8], column: ColumnDescriptor) -> usize
     ensures { λ r. ⌜ r ≡ columnNeed column (now (rest .entry)) ⌝ }
 {
-    if !column.nullable {
-        return column_need(rest, column);
-    }
-    if rest.len() == 0 {
+    if is_null(rest, column.nullable) {
         return 1;
     }
-    if rest[0] == 0xFF {
-        return 1;
-    }
-    let n = column_need(&rest[1..], column);
-    1 + n
+    let from = lead(column.nullable);
+    let n = value_need(&rest[from..], column);
+    from + n
 }
 
 // What is lacking where the column takes more bytes than there are. `offset` bytes of the body are read.
@@ -112,8 +161,8 @@ fn null_piece() -> PieceWritten
     }
 }
 
-// A column's text where a value is there, which begins with the first byte.
-fn value_length(rest: &[u8], column: ColumnDescriptor) -> PieceLength
+// The text of a value that is no number.
+fn other_length(rest: &[u8], column: ColumnDescriptor) -> PieceLength
     requires there { ⌜ need (extentOf column) (now rest) ≤ length (now rest) ⌝ }
     requires limit { ⌜ length (now rest) ≤ inputLimit ⌝ }
     ensures used { λ r. ⌜ r .used ≡ need (extentOf column) (now (rest .entry)) ⌝ }
@@ -125,6 +174,21 @@ fn value_length(rest: &[u8], column: ColumnDescriptor) -> PieceLength
     PieceLength { used, len }
 }
 
+// A column's text where a value is there, which begins with the first byte.
+fn value_length(rest: &[u8], column: ColumnDescriptor) -> PieceLength
+    requires there { ⌜ need (extentOf column) (now rest) ≤ length (now rest) ⌝ }
+    requires limit { ⌜ length (now rest) ≤ inputLimit ⌝ }
+    ensures used { λ r. ⌜ r .used ≡ need (extentOf column) (now (rest .entry)) ⌝ }
+    ensures len { λ r. ⌜ r .len ≡ length (valueText column (now (rest .entry))) ⌝ }
+{
+    let t = column.db2_type;
+    let n = number_bytes(t);
+    if 0 < n {
+        return PieceLength { used: n, len: 0 };
+    }
+    other_length(rest, column)
+}
+
 // The length of the column's text.
 pub fn piece_length(rest: &[u8], column: ColumnDescriptor) -> PieceLength
     requires there { ⌜ columnNeed column (now rest) ≤ length (now rest) ⌝ }
@@ -132,19 +196,31 @@ pub fn piece_length(rest: &[u8], column: ColumnDescriptor) -> PieceLength
     ensures used { λ r. ⌜ r .used ≡ columnNeed column (now (rest .entry)) ⌝ }
     ensures len { λ r. ⌜ r .len ≡ length (pieceText column (now (rest .entry))) ⌝ }
 {
-    if !column.nullable {
-        return value_length(rest, column);
-    }
-    if rest[0] == 0xFF {
+    if is_null(rest, column.nullable) {
         return PieceLength { used: 1, len: 0 };
     }
-    let v = value_length(&rest[1..], column);
-    let used = 1 + v.used;
+    let from = lead(column.nullable);
+    let v = value_length(&rest[from..], column);
+    let used = from + v.used;
     PieceLength { used, len: v.len }
 }
 
-// A column's value where it is there, which begins with the first byte, at place `at` of the input.
-fn value_write(
+// A number: it has no text, and refers to nothing.
+fn number_piece(value: Db2Value, used: usize) -> PieceWritten
+    ensures { λ r. ⌜ (r .place ≡ numberPlace value) × ((r .used ≡ used) × (r .written ≡ 0)) ⌝ }
+{
+    PieceWritten {
+        place: ValuePlace {
+            value,
+            external: false,
+        },
+        used,
+        written: 0,
+    }
+}
+
+// The value, where it is no number.
+fn other_write(
     rest: &[u8],
     at: usize,
     column: ColumnDescriptor,
@@ -171,6 +247,34 @@ fn value_write(
     }
 }
 
+// A column's value where it is there, which begins with the first byte, at place `at` of the input.
+fn value_write(
+    rest: &[u8],
+    at: usize,
+    column: ColumnDescriptor,
+    next: usize,
+    out: &mut [u8],
+) -> PieceWritten
+    requires there { ⌜ need (extentOf column) (now rest) ≤ length (now rest) ⌝ }
+    requires limit { ⌜ at + length (now rest) ≤ inputLimit ⌝ }
+    requires room { ⌜ length (valueText column (now rest)) ≤ length (now out) ⌝ }
+    ensures place { λ r. ⌜ r .place ≡ pieceValue ported (valueIn column at (now (rest .entry))) next ⌝ }
+    ensures used { λ r. ⌜ r .used ≡ need (extentOf column) (now (rest .entry)) ⌝ }
+    ensures count { λ r. ⌜ r .written ≡ length (valueText column (now (rest .entry))) ⌝ }
+    ensures bytes { λ _. ⌜ now (out .exit) ≡ written (valueText column (now (rest .entry))) (now (out .entry)) ⌝ }
+{
+    let t = column.db2_type;
+    let order = column.byte_order;
+    match t {
+        Db2Type::SmallInt => number_piece(small_int(rest, order), 2),
+        Db2Type::Integer => number_piece(integer(rest, order), 4),
+        Db2Type::BigInt => number_piece(big_int(rest, order), 8),
+        Db2Type::Real => number_piece(real(rest, order), 4),
+        Db2Type::Double => number_piece(double(rest, order), 8),
+        _ => other_write(rest, at, column, next, out),
+    }
+}
+
 // The column's value, where the rest of the row begins at place `at` of the input; its text is written into out, whose first byte is the next unwritten
 // one of the text buffer, at place `next` of it.
 pub fn piece_write(
@@ -188,16 +292,13 @@ pub fn piece_write(
     ensures count { λ r. ⌜ r .written ≡ length (pieceText column (now (rest .entry))) ⌝ }
     ensures bytes { λ _. ⌜ now (out .exit) ≡ written (pieceText column (now (rest .entry))) (now (out .entry)) ⌝ }
 {
-    if !column.nullable {
-        return value_write(rest, at, column, next, out);
-    }
-    let indicator = rest[0];
-    if indicator == 0xFF {
+    if is_null(rest, column.nullable) {
         return null_piece();
     }
-    let v = value_write(&rest[1..], at + 1, column, next, out);
+    let from = lead(column.nullable);
+    let v = value_write(&rest[from..], at + from, column, next, out);
     let place = v.place;
-    let used = 1 + v.used;
+    let used = from + v.used;
     PieceWritten {
         place,
         used,

@@ -1,7 +1,7 @@
 -- `piece::shortage` meets its contract: the tests on the way to each `return` say whether there is an indicator. Assumes nothing.
 use native.Mathlib.Omega.{arith}
 use denote.Ref.{now}
-use Rattle.piece.proofs.PieceLaws.{rest-of, plain-short, none-short, some-short}
+use Rattle.piece.proofs.PieceLaws.{all-after, plain-short, none-short, some-short}
 use borrow.Author.Needs.{needs}
 use Rattle.piece.proofs.shortage.Statement.{statement}
 use Rattle.piece.proofs.shortage.Tie as tie
@@ -34,7 +34,7 @@ sub-actual : tie.Need-sub-actual
 sub-actual c = search needs
 
 returns-3 : tie.Need-returns-3
-returns-3 c = rw (c .column-need2 .ensures .0, rest-of (now (c .before .before .before .before .before .before .args .rest))) (some-short (c .before .before .before .before .before .before .args .column) (c .before .before .before .if1 .left) (c .before .before .before .before .before .before .args .offset) (now (c .before .before .before .before .before .before .args .rest)) (omega (arith, c .before .before .if2 .left)))
+returns-3 c = rw (c .column-need2 .ensures .0, all-after 1 (now (c .before .before .before .before .before .before .args .rest))) (some-short (c .before .before .before .before .before .before .args .column) (c .before .before .before .if1 .left) (c .before .before .before .before .before .before .args .offset) (now (c .before .before .before .before .before .before .args .rest)) (omega (arith, c .before .before .if2 .left)))
 
 pub shortage-spec : {M : Type 1} → statement M
 shortage-spec =

@@ -94,6 +94,7 @@ fn main() -> ExitCode {
 }
 
 fn heading() -> String {
+    use rows::AGAIN;
     let machine = std::fs::read_to_string("/proc/cpuinfo").unwrap_or_default();
     let processor = machine
         .lines()
@@ -104,8 +105,11 @@ fn heading() -> String {
          rounds, the two by turns in each, with {BATCH} bytes of short texts, or one long text, a reading of the clock. The port's buffer is lent \
          by the caller and warm: it is used again for each call, once with 3 n + 14 bytes for n bytes of input (any text fits), \
          once exactly as long as the text; for a description with {AMPLE} words (any list fits), and with two a column; by value it has none, and one \
-         column of the list is looked at, at a place that the compiler does not know. The Rust's time \
-         includes the allocation of its text or list, and its freeing. Ratio: port / Rust."
+         column of the list is looked at, at a place that the compiler does not know. For a row of c columns the text buffer has 3 n + 258 c bytes (any \
+         texts fit), or is exactly as long as the texts together; the columns are described before. By value a short row is decoded {AGAIN} times \
+         over by both, since the port's column list does not outlive a call. The floor of a row is no call: the columns' words and the row are \
+         read, and the values' words and the texts, which are ready, are copied. The Rust's time \
+         includes the allocation of its text, list or values, and its freeing. Ratio: port / Rust."
     )
 }
 

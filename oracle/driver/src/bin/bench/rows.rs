@@ -16,7 +16,7 @@ use std::rc::Rc;
 pub const VALUES: usize = VALUE_WORDS * COLUMN_LIMIT;
 
 /// By value a row is decoded so many times, with columns read once; a long row once.
-const AGAIN: usize = 256;
+pub const AGAIN: usize = 256;
 
 /// So many rows are decoded by value, each that many times.
 const ROWS_BY_VALUE: usize = 8;

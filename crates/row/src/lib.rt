@@ -69,10 +69,6 @@ fn text_needed(data: &[u8], start: usize, end: usize, columns: Columns, room: us
     ensures { λ r. ⌜ r ≡ neededBeyond room (textsOf (walkBody (covered columns) start (now («data» .entry)))) ⌝ }
 {
     let count = columns.count;
-    // no text of n bytes is longer than 3 n + 258
-    if 3 * (end - start) + 258 * count <= room {
-        return 0;
-    }
     let mut at = start;
     let mut total: usize = 0;
     let mut i: usize = 0;
@@ -90,7 +86,8 @@ fn text_needed(data: &[u8], start: usize, end: usize, columns: Columns, room: us
 }
 
 // The body of a row that begins at a place of the input. Nothing is written before it is known that every column has its bytes and that the texts
-// fit. A column list handed on is a list copied: both loops stand here, and only a text buffer that may be too short has the texts measured.
+// fit. A column list handed on is a list copied: both loops stand here, and only for a text buffer that may be too short is the list handed on, to have
+// the texts measured.
 fn decode_row_body(data: &[u8], start: usize, columns: Columns, text: &mut [u8]) -> RowAnswer
     requires count { ⌜ columns .count ≤ maxColumns ⌝ }
     requires start { ⌜ start ≤ length (now «data») ⌝ }
@@ -115,9 +112,13 @@ fn decode_row_body(data: &[u8], start: usize, columns: Columns, text: &mut [u8])
         end += n;
         j += 1;
     }
-    let needed = text_needed(data, start, end, columns, text.len());
-    if 0 < needed {
-        return refused(Refusal::TextBufferTooShort { needed });
+    // no column of n bytes has a text longer than 3 n + 258
+    let room = text.len();
+    if room < 3 * (end - start) + 258 * count {
+        let needed = text_needed(data, start, end, columns, room);
+        if 0 < needed {
+            return refused(Refusal::TextBufferTooShort { needed });
+        }
     }
     let blank = blank_value();
     let mut places = [blank; MAX_COLUMNS];

@@ -4,6 +4,7 @@ use native.Mathlib.Omega.{arith}
 use Prim.Native.Nat.{_+_, _*_, _≤_, _<_, _-_}
 use mathlib.Core.Path.{_≡_, refl, ap, sym, _∙_}
 use mathlib.Core.List.{_∷_}
+use mathlib.Core.Logic.{⊎-elim}
 use denote.Ref.{now}
 use lib.ListN.{length, getD, take, drop, length-map, length-drop}
 use lib.Seq.{length-take-le}
@@ -17,6 +18,7 @@ use Rattle.piece.specs.Texts.{textsOf}
 use Rattle.piece.proofs.Texts.{texts-are, needed-more, needed-fits}
 use Rattle.row.specs.Whole.{Whole}
 use Rattle.row.proofs.Wholes.{whole-is, decided-short, decided-lacking, decided-accepted}
+use Rattle.row.proofs.Scales.{owned-scaled, covered-bound}
 use Rattle.buffer.proofs.Writing.{as-long}
 use Rattle.row.proofs.Filling.{Filling, filling-start, filling-step, filling-end, next-within}
 use Rattle.row.proofs.decode_row_body.Statement.{statement}
@@ -29,11 +31,11 @@ abbrev μ-loop : tie.MeasureT-loop
 μ-loop «data» start text columns count end₀ j₀ end j = count - j
 
 abbrev Inv-loop2 : tie.InvT-loop2
-Inv-loop2 «data» start text₀ columns count end j needed places₀ at₀ next₀ k₀ text places at next k =
+Inv-loop2 «data» start text₀ columns count end j room places₀ at₀ next₀ k₀ text places at next k =
     (k ≤ columns .count) × Filling (covered columns) start «data» end text₀ places k at next text
 
 abbrev μ-loop2 : tie.MeasureT-loop2
-μ-loop2 «data» start text₀ columns count end j needed places₀ at₀ next₀ k₀ text places at next k = count - k
+μ-loop2 «data» start text₀ columns count end j room places₀ at₀ next₀ k₀ text places at next k = count - k
 
 -- what is known from the start
 module _ (c : tie.Start Inv-loop μ-loop Inv-loop2 μ-loop2) where
@@ -66,20 +68,25 @@ module _ (c : tie.After-loop Inv-loop μ-loop Inv-loop2 μ-loop2) where
   texts-is : length (textsOf (walkBody (covered (c .before .before .before .before .args .t3)) (c .before .before .before .before .args .start) (now (c .before .before .before .before .args .«data»)))) ≡ length (rowTexts ported (piecesOf (walkBody (covered (c .before .before .before .before .args .t3)) (c .before .before .before .before .args .start) (now (c .before .before .before .before .args .«data»)))))
   texts-is = ap length (texts-are (walkBody (covered (c .before .before .before .before .args .t3)) (c .before .before .before .before .args .start) (now (c .before .before .before .before .args .«data»))))
 
--- the texts fit
-module _ (c : tie.Else2 Inv-loop μ-loop Inv-loop2 μ-loop2) where
-  fits : length (rowTexts ported (piecesOf (walkBody (covered (c .before .before .before .before .before .before .args .t3)) (c .before .before .before .before .before .before .args .start) (now (c .before .before .before .before .before .before .args .«data»))))) ≤ length (now (c .before .before .before .before .before .before .args .text))
+  bound : length (rowTexts ported (piecesOf (walkBody (covered (c .before .before .before .before .args .t3)) (c .before .before .before .before .args .start) (now (c .before .before .before .before .args .«data»))))) ≤ 3 * (c .before .loop .end - c .before .before .before .before .args .start) + 258 * c .before .before .before .before .args .t3 .count
+  bound = covered-bound (c .before .before .before .before .args .t3) (enough (c .before .before .before .before)) (owned-scaled (c .before .before .before .before .args .t3 .columns) _ (c .before .before .before .before .good .1 .1 .0 .1 .1 .0 .1 .1)) (c .before .before .before .before .args .start) (c .before .loop .end) (now (c .before .before .before .before .args .«data»)) (λ i. omega (arith, c .before .before .before .shared-slice-known .given i)) (c .before .before .before .before .pre .1 .0) whole
+
+-- where the two ways meet: the texts fit, as measured or as no text can be longer
+module _ (c : tie.Joined2 Inv-loop μ-loop Inv-loop2 μ-loop2) where
+  fits : length (rowTexts ported (piecesOf (walkBody (covered (c .before .before .before .before .before .args .t3)) (c .before .before .before .before .before .args .start) (now (c .before .before .before .before .before .args .«data»))))) ≤ length (now (c .before .before .before .before .before .args .text))
   fits =
-      let k : length (textsOf (walkBody (covered (c .before .before .before .before .before .before .args .t3)) (c .before .before .before .before .before .before .args .start) (now (c .before .before .before .before .before .before .args .«data»)))) ≤ length (now (c .before .before .before .before .before .before .args .text)) = needed-fits (length (now (c .before .before .before .before .before .before .args .text))) (c .before .text-needed .result) (textsOf (walkBody (covered (c .before .before .before .before .before .before .args .t3)) (c .before .before .before .before .before .before .args .start) (now (c .before .before .before .before .before .before .args .«data»)))) (c .before .text-needed .ensures) (c .if2 .left) in
-      omega (arith, k, texts-is (c .before .before))
+      ⊎-elim
+      (λ w. let k : length (textsOf (walkBody (covered (c .before .before .before .before .before .args .t3)) (c .before .before .before .before .before .args .start) (now (c .before .before .before .before .before .args .«data»)))) ≤ length (now (c .before .before .before .before .before .args .text)) = needed-fits (length (now (c .before .before .before .before .before .args .text))) (w .1 .result) (textsOf (walkBody (covered (c .before .before .before .before .before .args .t3)) (c .before .before .before .before .before .args .start) (now (c .before .before .before .before .before .args .«data»)))) (w .1 .ensures) (w .2 .left) in omega (arith, k, texts-is (c .before)))
+      (λ w. omega (arith, bound (c .before), w .left))
+      (c .if2 .came)
 
 -- a turn of the second loop
 module _ (c : tie.In-loop2 Inv-loop μ-loop Inv-loop2 μ-loop2) where
-  here2 : (d : ColumnDescriptor) → drop (c .before .loop2 .k) (covered (c .before .before .before .before .before .before .before .before .before .args .t3)) ≡ getD (c .before .before .before .before .before .before .before .before .before .args .t3 .columns) (c .before .loop2 .k) d ∷ drop (c .before .loop2 .k + 1) (covered (c .before .before .before .before .before .before .before .before .before .args .t3))
-  here2 d = covered-at (c .before .before .before .before .before .before .before .before .before .args .t3 .columns) (c .before .before .before .before .before .before .before .before .before .args .t3 .count) (c .before .loop2 .k) d (enough (c .before .before .before .before .before .before .before .before .before)) (c .loop2-test .taken)
+  here2 : (d : ColumnDescriptor) → drop (c .before .loop2 .k) (covered (c .before .before .before .before .before .before .before .before .args .t3)) ≡ getD (c .before .before .before .before .before .before .before .before .args .t3 .columns) (c .before .loop2 .k) d ∷ drop (c .before .loop2 .k + 1) (covered (c .before .before .before .before .before .before .before .before .args .t3))
+  here2 d = covered-at (c .before .before .before .before .before .before .before .before .args .t3 .columns) (c .before .before .before .before .before .before .before .before .args .t3 .count) (c .before .loop2 .k) d (enough (c .before .before .before .before .before .before .before .before)) (c .loop2-test .taken)
 
-  rest2 : take (length (c .before .before .before .before .before .before .before .before .before .args .«data» .now) - c .before .loop2 .at) (drop (c .before .loop2 .at) (c .before .before .before .before .before .before .before .before .before .args .«data» .now)) ≡ drop (c .before .loop2 .at) (c .before .before .before .before .before .before .before .before .before .args .«data» .now)
-  rest2 = rest-is (c .before .before .before .before .before .before .before .before .before .args .«data» .now) (c .before .loop2 .at)
+  rest2 : take (length (c .before .before .before .before .before .before .before .before .args .«data» .now) - c .before .loop2 .at) (drop (c .before .loop2 .at) (c .before .before .before .before .before .before .before .before .args .«data» .now)) ≡ drop (c .before .loop2 .at) (c .before .before .before .before .before .before .before .before .args .«data» .now)
+  rest2 = rest-is (c .before .before .before .before .before .before .before .before .args .«data» .now) (c .before .loop2 .at)
 
 loop-holds : tie.Need-loop-holds Inv-loop μ-loop Inv-loop2 μ-loop2
 loop-holds c = (omega arith, walking-start _ _ _ (c .before .before .pre .1 .0))
@@ -135,8 +142,20 @@ loop-again c =
     let t = c .before .before .before .before in
     (omega arith, walking-step _ _ _ (t .before .loop .inv .1) _ (here t _) _ (rest t) _ (c .before .piece-need .ensures) (c .if1 .left))
 
+sub-if2 : tie.Need-sub-if2 Inv-loop μ-loop Inv-loop2 μ-loop2
+sub-if2 c = c .before .loop .inv .1 .after
+
+mul-if2 : tie.Need-mul-if2 Inv-loop μ-loop Inv-loop2 μ-loop2
+mul-if2 c = omega (arith, c .before .loop .inv .1 .within, c .before .before .before .before .pre .1 .1)
+
+mul-if2-2 : tie.Need-mul-if2-2 Inv-loop μ-loop Inv-loop2 μ-loop2
+mul-if2-2 c = omega (arith, c .before .before .before .before .pre .0)
+
+add-if2 : tie.Need-add-if2 Inv-loop μ-loop Inv-loop2 μ-loop2
+add-if2 c = omega (arith, c .before .loop .inv .1 .within, c .before .before .before .before .pre .1 .1, c .before .before .before .before .pre .0)
+
 text-needed-requires : tie.Need-text-needed-requires Inv-loop μ-loop Inv-loop2 μ-loop2
-text-needed-requires c κs = (c .before .before .before .before .pre .0, (c .before .before .before .before .pre .1 .0, (c .before .before .before .before .pre .1 .1, whole c)))
+text-needed-requires c κs = (c .before .before .before .before .before .pre .0, (c .before .before .before .before .before .pre .1 .0, (c .before .before .before .before .before .pre .1 .1, whole (c .before))))
 
 refused-requires-2 : tie.Need-refused-requires-2 Inv-loop μ-loop Inv-loop2 μ-loop2
 refused-requires-2 c κs = search needs
@@ -144,10 +163,10 @@ refused-requires-2 c κs = search needs
 returns-2 : tie.Need-returns-2 Inv-loop μ-loop Inv-loop2 μ-loop2
 unfolding answerOf textAfter
 returns-2 c =
-    let t = c .before .before .before in
-    let m = needed-more (length (now (c .before .before .before .before .before .before .before .args .text))) (c .before .before .text-needed .result) (textsOf (walkBody (covered (c .before .before .before .before .before .before .before .args .t3)) (c .before .before .before .before .before .before .before .args .start) (now (c .before .before .before .before .before .before .before .args .«data»)))) (c .before .before .text-needed .ensures) (c .before .if2 .taken) in
+    let t = c .before .before .before .before in
+    let m = needed-more (length (now (c .before .before .before .before .before .before .before .before .args .text))) (c .before .before .text-needed .result) (textsOf (walkBody (covered (c .before .before .before .before .before .before .before .before .args .t3)) (c .before .before .before .before .before .before .before .before .args .start) (now (c .before .before .before .before .before .before .before .before .args .«data»)))) (c .before .before .text-needed .ensures) (c .before .if3 .taken) in
     let n = c .before .before .text-needed .result in
-    let d = now (c .before .before .before .before .before .before .before .args .text) in
+    let d = now (c .before .before .before .before .before .before .before .before .args .text) in
     let h : length d < n = omega (arith, m .0, m .1) in
     rw (decided-lacking _ _ _ d (done-is t) (m .1 ∙ texts-is t) h) (c .refused2 .ensures, refl)
 
@@ -155,13 +174,13 @@ blank-value-requires : tie.Need-blank-value-requires Inv-loop μ-loop Inv-loop2 
 blank-value-requires c κs = search needs
 
 loop2-holds : tie.Need-loop2-holds Inv-loop μ-loop Inv-loop2 μ-loop2
-loop2-holds c = (omega arith, filling-start _ _ _ _ _ (c .before .before .before .before .before .before .before .pre .1 .0) (done-is (c .before .before .before)) (fits (c .before)) _ (c .blank-value .ensures))
+loop2-holds c = (omega arith, filling-start _ _ _ _ _ (c .before .before .before .before .before .before .pre .1 .0) (done-is (c .before .before)) (fits (c .before)) _ (c .blank-value .ensures))
 
 mul-column-2 : tie.Need-mul-column-2 Inv-loop μ-loop Inv-loop2 μ-loop2
-mul-column-2 c = omega (arith, c .before .before .before .before .before .before .before .before .before .pre .0)
+mul-column-2 c = omega (arith, c .before .before .before .before .before .before .before .before .pre .0)
 
 element-copy-out-column-2 : tie.Need-element-copy-out-column-2 Inv-loop μ-loop Inv-loop2 μ-loop2
-element-copy-out-column-2 c = omega (arith, c .before .before .before .before .before .before .before .before .before .pre .0)
+element-copy-out-column-2 c = omega (arith, c .before .before .before .before .before .before .before .before .pre .0)
 
 sub-piece-write : tie.Need-sub-piece-write Inv-loop μ-loop Inv-loop2 μ-loop2
 sub-piece-write c = c .before .before .loop2 .inv .1 .placing .going .within
@@ -187,33 +206,33 @@ piece-write-requires c κs =
     let p = t .before .loop2 .inv .1 .placing in (
       placing-there ported _ _ _ _ _ _ p _ (here2 t _) _ (rest2 t),
       (
-        omega (arith, ap length (rest2 t), length-drop (t .before .loop2 .at) (c .before .before .before .before .before .before .before .before .before .before .before .before .args .«data» .now), p .going .within, c .before .before .before .before .before .before .before .before .before .before .before .before .pre .1 .1),
+        omega (arith, ap length (rest2 t), length-drop (t .before .loop2 .at) (c .before .before .before .before .before .before .before .before .before .before .before .args .«data» .now), p .going .within, c .before .before .before .before .before .before .before .before .before .before .before .pre .1 .1),
         placing-room ported _ _ _ _ _ _ p _ (here2 t _) _ (rest2 t),
       ),
     )
 
 mul-places : tie.Need-mul-places Inv-loop μ-loop Inv-loop2 μ-loop2
-mul-places c = omega (arith, c .before .before .before .before .before .before .before .before .before .before .before .before .before .before .before .before .pre .0)
+mul-places c = omega (arith, c .before .before .before .before .before .before .before .before .before .before .before .before .before .before .before .pre .0)
 
 array-set-from-places : tie.Need-array-set-from-places Inv-loop μ-loop Inv-loop2 μ-loop2
-array-set-from-places c = omega (arith, c .before .before .before .before .before .before .before .before .before .before .before .before .before .before .before .before .pre .0)
+array-set-from-places c = omega (arith, c .before .before .before .before .before .before .before .before .before .before .before .before .before .before .before .pre .0)
 
 add-at : tie.Need-add-at Inv-loop μ-loop Inv-loop2 μ-loop2
 add-at c =
     let t = c .before .before .before .before .before .before .before .before in
     let w = c .before .before .before .before .piece-write .ensures in
-    let f = filling-step _ _ _ _ _ (t .before .loop2 .inv .1) _ (here2 t _) _ (rest2 t) (omega (arith, c .before .before .before .before .before .before .before .before .before .before .before .before .before .before .before .before .before .pre .0)) _ (w .0) _ _ (w .1 .0) (w .1 .1 .0) _ (w .1 .1 .1) in
-    omega (arith, f .placing .going .within, c .before .before .before .before .before .before .before .before .before .before .before .before .before .before .before .before .before .pre .1 .1)
+    let f = filling-step _ _ _ _ _ (t .before .loop2 .inv .1) _ (here2 t _) _ (rest2 t) (omega (arith, c .before .before .before .before .before .before .before .before .before .before .before .before .before .before .before .before .pre .0)) _ (w .0) _ _ (w .1 .0) (w .1 .1 .0) _ (w .1 .1 .1) in
+    omega (arith, f .placing .going .within, c .before .before .before .before .before .before .before .before .before .before .before .before .before .before .before .before .pre .1 .1)
 
 add-next : tie.Need-add-next Inv-loop μ-loop Inv-loop2 μ-loop2
 add-next c =
     let t = c .before .before .before .before .before .before .before .before .before in
     let p = t .before .loop2 .inv .1 .placing in
     let h = placing-within ported _ _ _ _ _ _ p _ (here2 t _) _ (rest2 t) _ (c .before .before .before .before .before .piece-write .ensures .1 .1 .0) in
-    omega (arith, h, c .before .before .before .before .before .before .before .before .before .before .before .before .before .before .before .before .before .before .good .1 .1 .1 .0 .0)
+    omega (arith, h, c .before .before .before .before .before .before .before .before .before .before .before .before .before .before .before .before .before .good .1 .1 .1 .0 .0)
 
 add-k : tie.Need-add-k Inv-loop μ-loop Inv-loop2 μ-loop2
-add-k c = omega (arith, c .before .before .before .before .before .before .before .before .before .before .before .before .before .before .before .before .before .before .pre .0)
+add-k c = omega (arith, c .before .before .before .before .before .before .before .before .before .before .before .before .before .before .before .before .before .pre .0)
 
 loop2-less : tie.Need-loop2-less Inv-loop μ-loop Inv-loop2 μ-loop2
 loop2-less c = omega arith
@@ -222,7 +241,7 @@ loop2-again : tie.Need-loop2-again Inv-loop μ-loop Inv-loop2 μ-loop2
 loop2-again c =
     let t = c .before .before .before .before .before .before .before .before .before in
     let w = c .before .before .before .before .before .piece-write .ensures in
-    (omega arith, filling-step _ _ _ _ _ (t .before .loop2 .inv .1) _ (here2 t _) _ (rest2 t) (omega (arith, c .before .before .before .before .before .before .before .before .before .before .before .before .before .before .before .before .before .before .pre .0)) _ (w .0) _ _ (w .1 .0) (w .1 .1 .0) _ (w .1 .1 .1))
+    (omega arith, filling-step _ _ _ _ _ (t .before .loop2 .inv .1) _ (here2 t _) _ (rest2 t) (omega (arith, c .before .before .before .before .before .before .before .before .before .before .before .before .before .before .before .before .before .pre .0)) _ (w .0) _ _ (w .1 .0) (w .1 .1 .0) _ (w .1 .1 .1))
 
 same-length : tie.Need-same-length Inv-loop μ-loop Inv-loop2 μ-loop2
 same-length c = as-long (c .before .loop2 .inv .1 .placing .texts)
@@ -230,8 +249,8 @@ same-length c = as-long (c .before .loop2 .inv .1 .placing .texts)
 returns-3 : tie.Need-returns-3 Inv-loop μ-loop Inv-loop2 μ-loop2
 unfolding answerOf textAfter
 returns-3 c =
-    let e = filling-end _ _ _ _ _ (c .before .loop2 .inv .1) (omega (arith, all-covered (c .before .before .before .before .before .before .before .before .before))) in
-    rw (decided-accepted _ _ _ _ (done-is (c .before .before .before .before .before)) (fits (c .before .before .before)), e .0, e .1) (refl, e .2)
+    let e = filling-end _ _ _ _ _ (c .before .loop2 .inv .1) (omega (arith, all-covered (c .before .before .before .before .before .before .before .before))) in
+    rw (decided-accepted _ _ _ _ (done-is (c .before .before .before .before)) (fits (c .before .before .before)), e .0, e .1) (refl, e .2)
 
 pub decode-row-body-spec : {M : Type 1} → statement M
 decode-row-body-spec =
@@ -256,6 +275,10 @@ decode-row-body-spec =
     add-j
     loop-less
     loop-again
+    sub-if2
+    mul-if2
+    mul-if2-2
+    add-if2
     text-needed-requires
     refused-requires-2
     returns-2

@@ -2,7 +2,7 @@
 use borrow.Author.Needs.{needs}
 use native.Mathlib.Omega.{arith}
 use Prim.Native.Nat.{_+_, _*_, _≤_, _-_}
-use mathlib.Core.Path.{_≡_, refl, ap, sym, _∙_}
+use mathlib.Core.Path.{_≡_, ap, sym, _∙_}
 use mathlib.Core.List.{_∷_}
 use denote.Ref.{now}
 use lib.ListN.{length, getD, take, drop, length-map, length-drop}
@@ -13,11 +13,11 @@ use Rattle.rules.specs.Row.{covered, rowTexts}
 use Rattle.rules.specs.Conversions.{ported}
 use Rattle.rules.proofs.Walks.{piecesOf}
 use Rattle.rules.proofs.Progress.{Measuring, measuring-start, measuring-there, measuring-bound, measuring-step, measuring-end, end-within, covered-at, rest-is}
-use Rattle.piece.proofs.Bound.{Bytes, texts-bound}
+use Rattle.piece.proofs.Bound.{Bytes}
 use Rattle.piece.specs.Texts.{textsOf}
 use Rattle.piece.proofs.Texts.{texts-are, needed-none, needed-some}
 use Rattle.row.proofs.Wholes.{whole-is}
-use Rattle.row.proofs.Scales.{owned-scaled, covered-scaled}
+use Rattle.row.proofs.Scales.{owned-scaled, covered-bound}
 use Rattle.row.proofs.text_needed.Statement.{statement}
 use Rattle.row.proofs.text_needed.Tie as tie
 
@@ -46,44 +46,24 @@ module _ (c : tie.Start Inv-loop μ-loop) where
   all-texts = ap length (texts-are (walkBody (covered (c .args .t4)) (c .args .start) (now (c .args .«data»))))
 
   bound : Bytes (now (c .args .«data»)) → length (rowTexts ported (piecesOf (walkBody (covered (c .args .t4)) (c .args .start) (now (c .args .«data»))))) ≤ 3 * (c .args .end - c .args .start) + 258 * c .args .t4 .count
-  bound bytes =
-      let scaled = covered-scaled (c .args .t4 .count) (c .args .t4 .columns) (owned-scaled (c .args .t4 .columns) _ (c .good .1 .1 .1 .0 .1 .1 .0 .1 .1)) in
-      rw all-covered at (texts-bound (covered (c .args .t4)) (c .args .start) (now (c .args .«data»)) _ (c .args .end) scaled bytes (ends .0) whole)
+  bound bytes = covered-bound (c .args .t4) enough (owned-scaled (c .args .t4 .columns) _ (c .good .1 .1 .1 .0 .1 .1 .0 .1 .1)) (c .args .start) (c .args .end) (now (c .args .«data»)) bytes (c .pre .1 .0) (c .pre .1 .1 .1)
 
 -- a turn: the column, and what is lent of the input
 module _ (c : tie.In-loop Inv-loop μ-loop) where
-  here : (d : ColumnDescriptor) → drop (c .before .loop .i) (covered (c .before .before .before .before .args .t4)) ≡ getD (c .before .before .before .before .args .t4 .columns) (c .before .loop .i) d ∷ drop (c .before .loop .i + 1) (covered (c .before .before .before .before .args .t4))
-  here d = covered-at (c .before .before .before .before .args .t4 .columns) (c .before .before .before .before .args .t4 .count) (c .before .loop .i) d (enough (c .before .before .before .before)) (c .loop-test .taken)
+  here : (d : ColumnDescriptor) → drop (c .before .loop .i) (covered (c .before .before .before .args .t4)) ≡ getD (c .before .before .before .args .t4 .columns) (c .before .loop .i) d ∷ drop (c .before .loop .i + 1) (covered (c .before .before .before .args .t4))
+  here d = covered-at (c .before .before .before .args .t4 .columns) (c .before .before .before .args .t4 .count) (c .before .loop .i) d (enough (c .before .before .before)) (c .loop-test .taken)
 
-  rest : take (length (c .before .before .before .before .args .«data» .now) - c .before .loop .at) (drop (c .before .loop .at) (c .before .before .before .before .args .«data» .now)) ≡ drop (c .before .loop .at) (c .before .before .before .before .args .«data» .now)
-  rest = rest-is (c .before .before .before .before .args .«data» .now) (c .before .loop .at)
-
-sub-if1 : tie.Need-sub-if1 Inv-loop μ-loop
-sub-if1 c = ends (c .before) .0
-
-mul-if1 : tie.Need-mul-if1 Inv-loop μ-loop
-mul-if1 c = omega (arith, ends (c .before), c .before .pre .1 .1 .0)
-
-mul-if1-2 : tie.Need-mul-if1-2 Inv-loop μ-loop
-mul-if1-2 c = omega (arith, c .before .pre .0)
-
-add-if1 : tie.Need-add-if1 Inv-loop μ-loop
-add-if1 c = omega (arith, ends (c .before), c .before .pre .1 .1 .0, c .before .pre .0)
-
-returns : tie.Need-returns Inv-loop μ-loop
-returns c =
-    let n = length (textsOf (walkBody (covered (c .before .before .args .t4)) (c .before .before .args .start) (now (c .before .before .args .«data»)))) in
-    let h : n ≤ c .before .before .args .room = omega (arith, bound (c .before .before) (λ i. omega (arith, c .before .shared-slice-known .given i)), all-texts (c .before .before), c .if1 .taken) in
-    needed-none _ n (textsOf (walkBody (covered (c .before .before .args .t4)) (c .before .before .args .start) (now (c .before .before .args .«data»)))) refl h
+  rest : take (length (c .before .before .before .args .«data» .now) - c .before .loop .at) (drop (c .before .loop .at) (c .before .before .before .args .«data» .now)) ≡ drop (c .before .loop .at) (c .before .before .before .args .«data» .now)
+  rest = rest-is (c .before .before .before .args .«data» .now) (c .before .loop .at)
 
 loop-holds : tie.Need-loop-holds Inv-loop μ-loop
-loop-holds c = (omega arith, measuring-start ported _ _ _ _ _ (c .before .before .pre .1 .0) (whole (c .before .before)))
+loop-holds c = (omega arith, measuring-start ported _ _ _ _ _ (c .before .pre .1 .0) (whole (c .before)))
 
 mul-column : tie.Need-mul-column Inv-loop μ-loop
-mul-column c = omega (arith, c .before .before .before .before .pre .0)
+mul-column c = omega (arith, c .before .before .before .pre .0)
 
 element-copy-out-column : tie.Need-element-copy-out-column Inv-loop μ-loop
-element-copy-out-column c = omega (arith, c .before .before .before .before .pre .0)
+element-copy-out-column c = omega (arith, c .before .before .before .pre .0)
 
 sub-piece-length : tie.Need-sub-piece-length Inv-loop μ-loop
 sub-piece-length c = c .before .before .loop .inv .1 .going .within
@@ -97,23 +77,23 @@ part-piece-length-end c = search needs
 piece-length-requires : tie.Need-piece-length-requires Inv-loop μ-loop
 piece-length-requires c κs = (
   measuring-there ported _ _ _ _ _ (c .before .before .before .loop .inv .1) _ (here (c .before .before) _) _ (rest (c .before .before)),
-  omega (arith, ap length (rest (c .before .before)), length-drop (c .before .before .before .loop .at) (c .before .before .before .before .before .before .args .«data» .now), c .before .before .before .before .before .before .pre .1 .1 .0),
+  omega (arith, ap length (rest (c .before .before)), length-drop (c .before .before .before .loop .at) (c .before .before .before .before .before .args .«data» .now), c .before .before .before .before .before .pre .1 .1 .0),
 )
 
 add-at : tie.Need-add-at Inv-loop μ-loop
 add-at c =
     let t = c .before .before .before .before in
     let m = measuring-step ported _ _ _ _ _ (t .before .loop .inv .1) _ (here t _) _ (rest t) _ _ (c .before .piece-length .ensures .0) (c .before .piece-length .ensures .1) in
-    omega (arith, m .going .within, t .before .before .before .before .pre .1 .1 .0)
+    omega (arith, m .going .within, t .before .before .before .pre .1 .1 .0)
 
 add-total : tie.Need-add-total Inv-loop μ-loop
 add-total c =
     let t = c .before .before .before .before .before in
     let m = measuring-bound ported _ _ _ _ _ (t .before .loop .inv .1) _ (here t _) _ (rest t) _ (c .before .before .piece-length .ensures .1) in
-    omega (arith, bound (t .before .before .before .before) (λ i. omega (arith, t .before .before .before .shared-slice-known .given i)), ends (t .before .before .before .before), t .before .before .before .before .pre .1 .1 .0, t .before .before .before .before .pre .0)
+    omega (arith, bound (t .before .before .before) (λ i. omega (arith, t .before .before .shared-slice-known .given i)), ends (t .before .before .before), t .before .before .before .pre .1 .1 .0, t .before .before .before .pre .0)
 
 add-i : tie.Need-add-i Inv-loop μ-loop
-add-i c = omega (arith, c .before .before .before .before .before .before .before .before .before .pre .0)
+add-i c = omega (arith, c .before .before .before .before .before .before .before .before .pre .0)
 
 loop-less : tie.Need-loop-less Inv-loop μ-loop
 loop-less c = omega arith
@@ -125,14 +105,14 @@ loop-again c =
 
 -- all texts are measured
 module _ (c : tie.After-loop Inv-loop μ-loop) where
-  total-is : c .before .loop .total ≡ length (textsOf (walkBody (covered (c .before .before .before .before .args .t4)) (c .before .before .before .before .args .start) (now (c .before .before .before .before .args .«data»))))
-  total-is = measuring-end ported _ _ _ _ _ (c .before .loop .inv .1) (omega (arith, all-covered (c .before .before .before .before))) ∙ sym (all-texts (c .before .before .before .before))
+  total-is : c .before .loop .total ≡ length (textsOf (walkBody (covered (c .before .before .before .args .t4)) (c .before .before .before .args .start) (now (c .before .before .before .args .«data»))))
+  total-is = measuring-end ported _ _ _ _ _ (c .before .loop .inv .1) (omega (arith, all-covered (c .before .before .before))) ∙ sym (all-texts (c .before .before .before))
+
+returns : tie.Need-returns Inv-loop μ-loop
+returns c = needed-none _ _ (textsOf (walkBody (covered (c .before .before .before .before .args .t4)) (c .before .before .before .before .args .start) (now (c .before .before .before .before .args .«data»)))) (total-is (c .before)) (c .if1 .taken)
 
 returns-2 : tie.Need-returns-2 Inv-loop μ-loop
-returns-2 c = needed-none _ _ (textsOf (walkBody (covered (c .before .before .before .before .before .args .t4)) (c .before .before .before .before .before .args .start) (now (c .before .before .before .before .before .args .«data»)))) (total-is (c .before)) (c .if2 .taken)
-
-returns-3 : tie.Need-returns-3 Inv-loop μ-loop
-returns-3 c = needed-some _ _ (textsOf (walkBody (covered (c .before .before .before .before .before .args .t4)) (c .before .before .before .before .before .args .start) (now (c .before .before .before .before .before .args .«data»)))) (total-is (c .before)) (c .if2 .left)
+returns-2 c = needed-some _ _ (textsOf (walkBody (covered (c .before .before .before .before .args .t4)) (c .before .before .before .before .args .start) (now (c .before .before .before .before .args .«data»)))) (total-is (c .before)) (c .if1 .left)
 
 pub text-needed-spec : {M : Type 1} → statement M
 text-needed-spec =
@@ -140,11 +120,6 @@ text-needed-spec =
     (tie.spec
     Inv-loop
     μ-loop
-    sub-if1
-    mul-if1
-    mul-if1-2
-    add-if1
-    returns
     loop-holds
     mul-column
     element-copy-out-column
@@ -157,5 +132,5 @@ text-needed-spec =
     add-i
     loop-less
     loop-again
-    returns-2
-    returns-3)
+    returns
+    returns-2)

@@ -1,5 +1,6 @@
 //! The command line of the programs that compare, and what they print.
 use crate::run::{End, Until};
+use port::column::NAMES;
 use std::process::ExitCode;
 use std::time::{Duration, Instant};
 
@@ -8,6 +9,17 @@ pub struct Report {
     pub counts: Vec<(u64, String)>,
     pub cases: String,
     pub end: End,
+}
+
+/// The counts of a run: by answer, and then the columns by type.
+pub fn counted(answers: &[(u64, &str)], by_name: &[u64; NAMES.len()]) -> Vec<(u64, String)> {
+    let answers = answers
+        .iter()
+        .map(|(count, answer)| (*count, answer.to_string()));
+    let columns = by_name.iter().zip(NAMES);
+    answers
+        .chain(columns.map(|(count, name)| (*count, format!("columns {name:?}"))))
+        .collect()
 }
 
 /// Reads the command line, makes the run, prints the report. The status says whether a difference was found.

@@ -5,7 +5,7 @@ use crate::leaf::{Leaf, KINDS};
 use crate::port_side::{Library, PortSide};
 use crate::random::Random;
 use crate::request::Call;
-use crate::run::{Difference, End, Flow, Until};
+use crate::run::{self, Difference, End, Flow, Until};
 use crate::rust_side;
 use crate::shrink::Shrinking;
 use std::ops::ControlFlow::{Break, Continue};
@@ -53,21 +53,14 @@ impl<L: Library> Run<L> {
         self.counts.iter().sum()
     }
 
-    /// The stages from `first` on.
     pub fn from(&mut self, first: Stage) -> End {
-        for stage in STAGES.into_iter().filter(|stage| *stage >= first) {
-            let flow = match stage {
-                Stage::Short => self.short(),
-                Stage::Edges => self.edges(),
-                Stage::Places => self.places(),
-                Stage::Lengths => self.lengths(),
-                Stage::Any => self.any(),
-            };
-            if let Break(end) = flow {
-                return end;
-            }
-        }
-        End::Enough
+        run::from(&STAGES, first, |stage| match stage {
+            Stage::Short => self.short(),
+            Stage::Edges => self.edges(),
+            Stage::Places => self.places(),
+            Stage::Lengths => self.lengths(),
+            Stage::Any => self.any(),
+        })
     }
 
     /// One case: both sides are asked, and the port with every buffer that port_side has.

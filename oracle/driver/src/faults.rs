@@ -223,7 +223,7 @@ impl Library for Faulty {
 mod tests {
     use super::*;
     use crate::compare::{Run, Stage};
-    use crate::run::{Difference, End, Until};
+    use crate::run::{Difference, Until};
 
     /// The first stage that can notice a fault: those before it would cost time.
     fn stage(fault: Fault) -> Stage {
@@ -237,10 +237,8 @@ mod tests {
 
     fn found(fault: Fault) -> Difference {
         let mut run = Run::new(Faulty(fault), 1, Until::Cases(10_000_000));
-        match run.from(stage(fault)) {
-            End::Different(difference) => *difference,
-            End::Enough => panic!("{fault:?} was not noticed"),
-        }
+        let difference = run.from(stage(fault)).difference();
+        difference.unwrap_or_else(|| panic!("{fault:?} was not noticed"))
     }
 
     /// How the line with the smallest input that shows a fault begins, and the port's answer, where it is short.

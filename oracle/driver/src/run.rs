@@ -1,7 +1,7 @@
 //! When a differential run ends, and with what.
 use crate::shrink::cut_line;
 use std::fmt;
-use std::ops::ControlFlow;
+use std::ops::ControlFlow::{self, Break, Continue};
 use std::time::Instant;
 
 /// When a run without a difference ends.
@@ -31,7 +31,25 @@ pub enum End {
     Different(Box<Difference>),
 }
 
+impl End {
+    pub fn difference(self) -> Option<Difference> {
+        match self {
+            End::Enough => None,
+            End::Different(difference) => Some(*difference),
+        }
+    }
+}
+
 pub type Flow = ControlFlow<End>;
+
+/// The stages of a run from `first` on, up to the one that ends it.
+pub fn from<S: Copy + Ord>(stages: &[S], first: S, run: impl FnMut(S) -> Flow) -> End {
+    let mut left = stages.iter().copied().filter(|stage| *stage >= first);
+    match left.try_for_each(run) {
+        Break(end) => end,
+        Continue(()) => End::Enough,
+    }
+}
 
 /// Two answers to one request, each a line.
 #[derive(Debug)]

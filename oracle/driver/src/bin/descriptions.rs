@@ -1,11 +1,10 @@
 //! `descriptions SECONDS [SEED]` or `descriptions --cases N [--seed S]`: the port's reading of descriptions and types against the
 //! Rust's. With a number of cases a run is the same every time. `--fault NAME` puts a fault into the port's answers.
-use differential::command::{self, grouped, Report};
+use differential::command::{self, counted, grouped, Report};
 use differential::descriptions::compare::{Counts, Run, Stage};
 use differential::descriptions::faults::{Faulty, FAULTS};
 use differential::descriptions::port_side::{Archive, Library};
 use differential::run::Until;
-use port::column::NAMES;
 use std::process::ExitCode;
 
 fn main() -> ExitCode {
@@ -22,14 +21,15 @@ fn run<L: Library>(library: L, until: Until, seed: u64) -> Report {
     let descriptions = grouped(run.counts.descriptions());
     let types = grouped(run.counts.types());
     Report {
-        counts: counted(&run.counts),
+        // No description has a column of type Null.
+        counts: counted(&answers(&run.counts), &run.counts.by_name),
         cases: format!("{descriptions} descriptions and {types} types"),
         end,
     }
 }
 
-fn counted(counts: &Counts) -> Vec<(u64, String)> {
-    let answers = [
+fn answers(counts: &Counts) -> [(u64, &'static str); 7] {
+    [
         (counts.fixed, "fixed length"),
         (counts.varies, "length varies"),
         (counts.no_type, "no type"),
@@ -37,12 +37,5 @@ fn counted(counts: &Counts) -> Vec<(u64, String)> {
         (counts.columns, "with columns"),
         (counts.refused_1, "refusal 1"),
         (counts.refused_2, "refusal 2"),
-    ];
-    // No description has a column of type Null.
-    let columns = counts.by_name.iter().zip(NAMES);
-    answers
-        .map(|(count, answer)| (count, answer.to_string()))
-        .into_iter()
-        .chain(columns.map(|(count, name)| (*count, format!("columns {name:?}"))))
-        .collect()
+    ]
 }

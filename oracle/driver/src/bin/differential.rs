@@ -1,12 +1,11 @@
 //! `differential SECONDS [SEED]` or `differential --cases N [--seed S]`: the port's row call, with the columns of descriptions and with
 //! callers' own, against the Rust's. With a number of cases a run is the same every time. `--fault NAME` asks a library with that fault.
-use differential::command::{self, grouped, Report};
+use differential::command::{self, counted, grouped, Report};
 use differential::rows::compare::{Counts, Run, Stage};
 use differential::rows::faults::FAULTS;
 use differential::rows::model::Model;
 use differential::rows::port_side::{Archive, Library};
 use differential::run::Until;
-use port::column::NAMES;
 use std::process::ExitCode;
 
 fn main() -> ExitCode {
@@ -25,14 +24,14 @@ fn run<L: Library>(library: L, until: Until, seed: u64) -> Report {
     let mut run = Run::new(library, seed, until);
     let end = run.from(Stage::Words);
     Report {
-        counts: counted(&run.counts),
+        counts: counted(&answers(&run.counts), &run.counts.by_name),
         cases: format!("{} rows", grouped(run.counts.rows())),
         end,
     }
 }
 
-fn counted(counts: &Counts) -> Vec<(u64, String)> {
-    let answers = [
+fn answers(counts: &Counts) -> [(u64, &'static str); 12] {
+    [
         (counts.accepted, "accepted"),
         (
             counts.with_text,
@@ -48,11 +47,5 @@ fn counted(counts: &Counts) -> Vec<(u64, String)> {
         (counts.alone, "demand 3: the bytes used alone"),
         (counts.longer, "demand 3: a longer input"),
         (counts.shorter, "demand 3: a shorter beginning"),
-    ];
-    let columns = counts.by_name.iter().zip(NAMES);
-    answers
-        .map(|(count, answer)| (count, answer.to_string()))
-        .into_iter()
-        .chain(columns.map(|(count, name)| (*count, format!("columns {name:?}"))))
-        .collect()
+    ]
 }

@@ -5,7 +5,7 @@ use super::port_side::{Library, PortSide};
 use super::{rust_side, Description, FixedLength};
 use crate::random::Random;
 use crate::request::Request;
-use crate::run::{Difference, End, Flow, Until};
+use crate::run::{self, Difference, End, Flow, Until};
 use crate::shrink::Shrinking;
 use port::column::{Name, Numbers, Type, NAMES};
 use port::NO_TYPE_WORD;
@@ -101,21 +101,14 @@ impl<L: Library> Run<L> {
         self.counts.descriptions() + self.counts.types()
     }
 
-    /// The stages from `first` on.
     pub fn from(&mut self, first: Stage) -> End {
-        for stage in STAGES.into_iter().filter(|stage| *stage >= first) {
-            let flow = match stage {
-                Stage::Types => self.types(),
-                Stage::Codes => self.codes(),
-                Stage::Limits => self.limits(),
-                Stage::Sequences => self.sequences(),
-                Stage::Any => self.any(),
-            };
-            if let Break(end) = flow {
-                return end;
-            }
-        }
-        End::Enough
+        run::from(&STAGES, first, |stage| match stage {
+            Stage::Types => self.types(),
+            Stage::Codes => self.codes(),
+            Stage::Limits => self.limits(),
+            Stage::Sequences => self.sequences(),
+            Stage::Any => self.any(),
+        })
     }
 
     /// One description: both sides are asked, and the port with every number of words that port_side has.

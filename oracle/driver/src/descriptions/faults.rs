@@ -253,7 +253,7 @@ impl Library for Faulty {
 mod tests {
     use super::*;
     use crate::descriptions::compare::{Run, Stage};
-    use crate::run::{Difference, End, Until};
+    use crate::run::{Difference, Until};
 
     /// The first stage that can notice a fault: those before it would cost time.
     fn stage(fault: Fault) -> Stage {
@@ -271,10 +271,8 @@ mod tests {
 
     fn found(fault: Fault) -> Difference {
         let mut run = Run::new(Faulty(fault), 1, Until::Cases(10_000_000));
-        match run.from(stage(fault)) {
-            End::Different(difference) => *difference,
-            End::Enough => panic!("{fault:?} was not noticed"),
-        }
+        let difference = run.from(stage(fault)).difference();
+        difference.unwrap_or_else(|| panic!("{fault:?} was not noticed"))
     }
 
     /// The port's line for the smallest description, or type, that shows a fault.

@@ -9,7 +9,7 @@ use crate::descriptions::port_side::{Archive as Descriptions, PortSide as Descri
 use crate::descriptions::{self, Description, COLUMN_LIMIT};
 use crate::inputs::{fill, Style};
 use crate::random::Random;
-use crate::run::{End, Flow, Until};
+use crate::run::{self, End, Flow, Until};
 use port::column::{Column, Name, NAMES};
 use std::ops::ControlFlow::{self, Break, Continue};
 
@@ -104,21 +104,14 @@ impl<L: Library> Run<L> {
         }
     }
 
-    /// The stages from `first` on.
     pub fn from(&mut self, first: Stage) -> End {
-        for stage in STAGES.into_iter().filter(|stage| *stage >= first) {
-            let flow = match stage {
-                Stage::Words => self.words(),
-                Stage::Shapes => self.shapes(),
-                Stage::Long => self.long(),
-                Stage::Short => self.short(),
-                Stage::Any => self.any(),
-            };
-            if let Break(end) = flow {
-                return end;
-            }
-        }
-        End::Enough
+        run::from(&STAGES, first, |stage| match stage {
+            Stage::Words => self.words(),
+            Stage::Shapes => self.shapes(),
+            Stage::Long => self.long(),
+            Stage::Short => self.short(),
+            Stage::Any => self.any(),
+        })
     }
 
     /// One row: both sides are asked, and the port with every length of the buffers that port_side has.

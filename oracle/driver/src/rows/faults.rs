@@ -267,13 +267,10 @@ mod tests {
     /// A fault, after how many rows it was noticed, and the smallest row that shows it, as the wrong library answers it.
     fn noticed(fault: Fault) -> String {
         let mut run = Run::new(Model(Some(fault)), 1, Until::Cases(2_000_000));
-        match run.from(stage(fault)) {
-            End::Different(difference) => {
-                let rows = run.counts.rows();
-                format!("{fault:?} {rows} {}", shown(&difference.port))
-            }
-            End::Enough => panic!("{fault:?} was not noticed"),
-        }
+        let difference = run.from(stage(fault)).difference();
+        let difference = difference.unwrap_or_else(|| panic!("{fault:?} was not noticed"));
+        let rows = run.counts.rows();
+        format!("{fault:?} {rows} {}", shown(&difference.port))
     }
 
     /// A line, of which the middle is left out where no one could read it.

@@ -39,25 +39,11 @@ groupType l n =
     (baseOf l)
 
 -- "CCSID is 1208 for Char, VarChar, LongVarChar, Clob, ClobLocator, DbClobLocator, LobChar, Date, Time, Timestamp and Xml, else 0"
+abbrev pub characterTypes : List Db2Type
+characterTypes = type.Char 0 ∷ type.VarChar 0 ∷ type.LongVarChar ∷ type.Clob ∷ type.ClobLocator ∷ type.DbClobLocator ∷ type.LobChar 0 ∷ type.Date ∷ type.Time ∷ type.Timestamp ∷ type.Xml ∷ []
+
 abbrev pub groupCcsid : Db2Type → ℕ
-groupCcsid t =
-    cond
-    (namedIn
-    (type.Char 0
-    ∷ type.VarChar 0
-    ∷ type.LongVarChar
-    ∷ type.Clob
-    ∷ type.ClobLocator
-    ∷ type.DbClobLocator
-    ∷ type.LobChar 0
-    ∷ type.Date
-    ∷ type.Time
-    ∷ type.Timestamp
-    ∷ type.Xml
-    ∷ [])
-    t)
-    1208
-    0
+groupCcsid t = cond (namedIn characterTypes t) 1208 0
 
 -- a LID l that is not declared, with its attribute bytes a and b: "base 0E is Decimal (precision, scale; length its byte count)"; "Nullable
 -- is bit 01 here and for undeclared LIDs"

@@ -63,35 +63,10 @@ packColumns (c ∷ cs) = firstWord c ∷ secondWord c ∷ packColumns cs
 -- the types in the order of their names, with n for the numbers that they hold
 abbrev pub typesWith : ℕ → List Db2Type
 typesWith n =
-    type.SmallInt
-    ∷ type.Integer
-    ∷ type.BigInt
-    ∷ type.Real
-    ∷ type.Double
-    ∷ type.Decimal (n % 2 ^ 8) (n / 2 ^ 8)
-    ∷ type.DecFloat (n % 2 ^ 8)
-    ∷ type.Char n
-    ∷ type.VarChar n
-    ∷ type.LongVarChar
-    ∷ type.Clob
-    ∷ type.Binary n
-    ∷ type.VarBinary n
-    ∷ type.Blob
-    ∷ type.BlobLocator
-    ∷ type.Date
-    ∷ type.Time
-    ∷ type.Timestamp
-    ∷ type.Graphic n
-    ∷ type.VarGraphic n
-    ∷ type.DbClob
-    ∷ type.ClobLocator
-    ∷ type.DbClobLocator
-    ∷ type.LobBytes n
-    ∷ type.LobChar n
-    ∷ type.RowId n
-    ∷ type.Boolean
-    ∷ type.Xml
-    ∷ []
+    type.SmallInt ∷ type.Integer ∷ type.BigInt ∷ type.Real ∷ type.Double ∷ type.Decimal (n % 2 ^ 8) (n / 2 ^ 8) ∷ type.DecFloat (n % 2 ^ 8)
+    ∷ type.Char n ∷ type.VarChar n ∷ type.LongVarChar ∷ type.Clob ∷ type.Binary n ∷ type.VarBinary n ∷ type.Blob ∷ type.BlobLocator
+    ∷ type.Date ∷ type.Time ∷ type.Timestamp ∷ type.Graphic n ∷ type.VarGraphic n ∷ type.DbClob ∷ type.ClobLocator ∷ type.DbClobLocator
+    ∷ type.LobBytes n ∷ type.LobChar n ∷ type.RowId n ∷ type.Boolean ∷ type.Xml ∷ []
 
 -- the type whose name has this place, with n for its numbers
 unfoldable pub typeNamed : ℕ → ℕ → Db2Type

@@ -1,4 +1,4 @@
--- A text written into a lent buffer, and what a call that writes one answers (document 01, "What the call hands back"). Assumes nothing.
+-- A text written into a lent buffer, and what a call that writes one answers (document 01, "What the call hands back": rules H1, H2). Assumes nothing.
 use Prim.Native.Nat.{ℕ}
 use mathlib.Core.Bool.{cond}
 use mathlib.Core.List.{List, [], _∷_, _++_}

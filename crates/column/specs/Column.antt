@@ -1,4 +1,4 @@
--- The column that an SDA describes (document 01, "Descriptors": "An SDA column ..."). Assumes nothing.
+-- The column that an SDA describes (document 01, "Descriptors": "An SDA column ...", rules Q9 to Q11). Assumes nothing.
 use Prim.Native.Nat.{ℕ, _+_, _*_}
 use mathlib.Core.Bool.{Bool, cond}
 use mathlib.Core.List.{List}
@@ -23,7 +23,7 @@ be16 high low = high * 256 + low
 unfoldable pub field16 : List ℕ → ℕ → ℕ
 field16 d at = cond (leb (at + 2) (length d)) (be16 (getD d at 0) (getD d (at + 1) 0)) 0
 
--- "A reference length exists exactly for type codes C8 to CF with length bit 8000: the low 15 bits"
+-- Q11: "A reference length exists exactly for type codes C8 to CF with length bit 8000: the low 15 bits"
 unfoldable pub referenceLength : ℕ → ℕ → ReferenceLength
 referenceLength c n =
     cond (leb 0xC8 c) (cond (leb c 0xCF) (cond (bit8000 n) (Width (low15 n)) Absent) Absent) Absent

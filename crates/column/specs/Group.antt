@@ -1,4 +1,4 @@
--- The column of a LID of a D0 group, and the environment entries that declare LIDs (document 01, "Descriptors": 70 and 76). Assumes nothing.
+-- The column of a LID of a D0 group, and the environment entries that declare LIDs (document 01, "Descriptors": 70 and 76, rules Q3, Q5 and Q6). Assumes nothing.
 use Prim.Native.Nat.{ℕ}
 use mathlib.Core.Bool.{Bool, true, false, cond}
 use mathlib.Core.List.{List, [], _∷_}
@@ -21,7 +21,7 @@ entryOf mdd d = record { declared = true; «drda_type» = mdd; ccsid = field16 d
 unfoldable pub noEntry : EnvEntry
 noEntry = record { declared = false; «drda_type» = 0; ccsid = 0 }
 
--- "The first entry for a LID counts": the known one where it is declared, else the later one
+-- Q3: "The first entry for a LID counts": the known one where it is declared, else the later one
 unfoldable pub firstEntry : EnvEntry → EnvEntry → EnvEntry
 firstEntry known later = cond (known .declared) known later
 

@@ -28,7 +28,7 @@ textIn Utf16 s = utf16Text s
 textIn Locator s = locatorMark ++ hexText s
 textIn RowId s = rowIdMark ++ hexText s
 
--- `decode_character_bytes`: 1208 is UTF-8; 819 is one code point a byte; 37 and 500 use code page 037; for any other CCSID, bytes all
+-- T3 to T6, `decode_character_bytes`: 1208 is UTF-8; 819 is one code point a byte; 37 and 500 use code page 037; for any other CCSID, bytes all
 -- below 80 are taken as ASCII, else as code page 037
 unfoldable pub characterConversion : ℕ → List ℕ → Conversion
 characterConversion ccsid s =
@@ -38,7 +38,7 @@ characterConversion ccsid s =
     (cond (eqb ccsid 500) Ebcdic037
     (cond (allAscii s) Plain Ebcdic037))))
 
--- `decode_graphic_bytes`: CCSID 1200 or 13488 with an even byte count is big-endian UTF-16; otherwise as characters
+-- T7, `decode_graphic_bytes`: CCSID 1200 or 13488 with an even byte count is big-endian UTF-16; otherwise as characters
 unfoldable pub isUtf16 : ℕ → ℕ → Bool
 isUtf16 ccsid count = cond (cond (eqb ccsid 1200) true (eqb ccsid 13488)) (eqb (count % 2) 0) false
 
@@ -51,7 +51,7 @@ characterText ccsid s = textIn (characterConversion ccsid s) s
 unfoldable pub graphicText : ℕ → List ℕ → List ℕ
 graphicText ccsid s = textIn (graphicConversion ccsid s) s
 
--- a locator text is `LOB locator 0x` and the hex; a row id is `0x` and the hex
+-- T8: a locator text is `LOB locator 0x` and the hex; a row id is `0x` and the hex
 abbrev pub locatorText : List ℕ → List ℕ
 locatorText s = textIn Locator s
 

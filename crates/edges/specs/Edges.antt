@@ -108,7 +108,7 @@ edges =
     ∷ edge "P" (row clobOfLength0 (0x02 ∷ replicate 8 0x00)) (values (within (value.Clob (place 0 0)) ∷ []) [] ([] ∷ []) 9)
     ∷ []
 
--- "All of A to P are proved, as rows of one table that a single fact covers": every outcome that the definitions give is the one in the table
+-- V1: "All of A to P are proved, as rows of one table that a single fact covers": every outcome that the definitions give is the one in the table
 abbrev pub EdgesHold : Type 0
 EdgesHold = map (λ e. outcomeOf (e .given)) edges ≡ map (λ e. e .outcome) edges
 

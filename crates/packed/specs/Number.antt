@@ -1,6 +1,6 @@
 -- Which number a packed decimal is, and which number a text denotes: for the law that ties the text to z/Architecture (proofs/Number.antt). Assumes nothing.
 --
--- z/Architecture Principles of Operation, "Decimal Instructions": in the packed format each byte holds two decimal digits, save the rightmost,
+-- z/Architecture Principles of Operation, "Decimal Instructions", from memory: in the packed format each byte holds two decimal digits, save the rightmost,
 -- which holds a digit and, right of it, the sign. Digits are 0 to 9. The sign is plus for A, C, E and F, and minus for B and D. Other digits and signs
 -- are invalid. The format has no point: the scale, which the column gives, says how many of the digits are fraction digits.
 use Prim.Native.Nat.{ℕ, _+_, _-_, _*_, _^_, _<_}
@@ -83,7 +83,7 @@ ValidDigits vs = (k : ℕ) → k < length vs → getD vs k 0 < 10
 abbrev pub zSign : ℕ → Sign
 zSign n = cond (ltb n 0xA) invalid (cond (eqb n 0xB) minus (cond (eqb n 0xD) minus plus))
 
--- what document 01 takes it for: "D is minus, every other is plus"
+-- what document 01 takes it for (P1): "D is minus, every other is plus"
 abbrev pub portedSign : ℕ → Sign
 portedSign n = cond (eqb n 0xD) minus plus
 

@@ -5,31 +5,31 @@ use mathlib.Core.List.{List, [], _∷_, _++_, map}
 use lib.Dec.{eqb}
 use lib.ListN.{length, take, drop, getD, replicate}
 
--- "Each byte is two nibbles, high first."
+-- P1: "Each byte is two nibbles, high first."
 unfoldable pub nibbles : List ℕ → List ℕ
 nibbles [] = []
 nibbles (b ∷ bs) = b / 16 ∷ b % 16 ∷ nibbles bs
 
--- "The last nibble is the sign": that nibble
+-- P1: "The last nibble is the sign": that nibble
 abbrev pub signNibble : List ℕ → ℕ
 signNibble s = getD (nibbles s) (length (nibbles s) - 1) 0
 
--- "D is minus, every other is plus": a minus is written, a plus is not
+-- P1: "D is minus, every other is plus": a minus is written, a plus is not
 unfoldable pub sign : List ℕ → List ℕ
 sign s = cond (eqb (signNibble s) 0xD) (0x2D ∷ []) []
 
--- "Each other nibble": all but the last
+-- P2: "Each other nibble": all but the last
 abbrev pub digitNibbles : List ℕ → List ℕ
 digitNibbles s = take (length (nibbles s) - 1) (nibbles s)
 
--- "v becomes the character 30 + v": A to F become `:` to `?`
+-- P2: "v becomes the character 30 + v": A to F become `:` to `?`
 abbrev pub character : ℕ → ℕ
 character v = 0x30 + v
 
 unfoldable pub digits : List ℕ → List ℕ
 digits s = map character (digitNibbles s)
 
--- "Leading zeros of the whole part go, one digit stays."
+-- P3: "Leading zeros of the whole part go, one digit stays."
 unfoldable pub trimmed : List ℕ → List ℕ
 trimmed [] = 0x30 ∷ []
 trimmed (d ∷ ds) = cond (eqb d 0x30) (trimmed ds) (d ∷ ds)
@@ -41,7 +41,7 @@ whole scale ds = take (length ds - scale) ds
 abbrev pub zeros : ℕ → List ℕ
 zeros n = replicate n 0x30
 
--- "With scale s above 0, a point and s fraction digits follow, zeros put in front where digits are lacking."
+-- P4: "With scale s above 0, a point and s fraction digits follow, zeros put in front where digits are lacking."
 unfoldable pub fraction : ℕ → List ℕ → List ℕ
 fraction scale ds = cond (eqb scale 0) [] (0x2E ∷ (zeros (scale - length ds) ++ drop (length ds - scale) ds))
 

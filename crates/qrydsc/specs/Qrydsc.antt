@@ -40,7 +40,7 @@ pub record DescriptionTold : Type 0 where
 abbrev pub toldDescription : Description → DescriptionTold
 toldDescription d = record { outcome = told (d .outcome); columns = d .columns }
 
--- "A refusal returns blanks": no column, and every place blank
+-- H4, H7: "A refusal returns blanks": no column, and every place blank
 abbrev pub refusal : ℕ → List ℕ → DescriptionTold
 refusal n vs = record { outcome = refused n vs; columns = columnList [] }
 

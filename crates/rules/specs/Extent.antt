@@ -1,4 +1,4 @@
--- How many bytes a column's value takes, of the bytes of the row that are left (document 01, "Rows"; the Rust: decode_column_value). Each type has one of six
+-- How many bytes a column's value takes, of the bytes of the row that are left (document 01, "Rows": W3; the Rust: decode_column_value). Each type has one of six
 -- kinds of extent, and `need` is the number that the bytes at hand make of it: the value is there where `need` is at most their number. Else it is too short,
 -- with `need` and their number as the Rust's `expected` and `actual`. Assumes nothing.
 use Prim.Native.Nat.{ℕ, _+_, _*_}
@@ -76,7 +76,7 @@ abbrev pub lobExtent : ReferenceLength → Extent → Extent
 lobExtent (Width w) e = Fixed w
 lobExtent Absent e = e
 
--- "the tests for length 0 of Blob, Clob and DbClob look at the column's length"
+-- W6: "the tests for length 0 of Blob, Clob and DbClob look at the column's length"
 abbrev pub lengthExtent : ℕ → Extent
 lengthExtent n = cond (eqb n 0) Locator Inline
 

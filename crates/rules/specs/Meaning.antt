@@ -1,4 +1,4 @@
--- What a value's bytes mean: a function of the column and of exactly those bytes, `need` of them (document 01, "Rows"; the Rust: decode_column_value,
+-- What a value's bytes mean: a function of the column and of exactly those bytes, `need` of them (document 01, "Rows": W3; the Rust: decode_column_value,
 -- column_has_extdta_reference). The conversions of single values are a parameter: nothing that is proved of rows rests on which they are.
 -- specs/Conversions.antt has those of the row call. Where the Rust makes a test on the rest of the row, it is made here on the value's own bytes; proofs/Extents.antt
 -- has the laws that the two agree. Assumes nothing.
@@ -191,6 +191,6 @@ typeRefers t c s =
     || ((namedIn (type.VarChar 0 ∷ type.VarGraphic 0 ∷ []) t && bit8000 (ownNumbers t))
     || (namedIn (type.LobBytes 0 ∷ type.LobChar 0 ∷ []) t && isShortReference (low15 (ownNumbers t)) s)))
 
--- "the external columns (those that decode_row_body names)", document 01's term: a value that is there refers to data outside the row
+-- W7: "the external columns (those that decode_row_body names)", document 01's term: a value that is there refers to data outside the row
 unfoldable pub refersIn : Conversions → ColumnDescriptor → List ℕ → Bool
 refersIn L c s = not (isEmptyLob (itemIn L c s)) && typeRefers (c .«db2_type») c s

@@ -1,4 +1,4 @@
--- Which columns carry their own end (document 01, "Rows"). A length that the type holds counts "also in the list below". Assumes nothing.
+-- Which columns carry their own end (document 01, "Rows": rule W9). A length that the type holds counts "also in the list below". Assumes nothing.
 use mathlib.Core.Bool.{Bool, true, false, not, _&&_, _||_}
 use mathlib.Core.List.{List, [], _∷_}
 use lib.Dec.{leb, eqb}

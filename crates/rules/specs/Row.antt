@@ -50,7 +50,7 @@ textValue time p = value.Time p
 textValue timestamp p = value.Timestamp p
 textValue xml p = value.Xml p
 
--- "an empty one names place 0": where a part of n bytes begins that is found at a place
+-- H5: "an empty one names place 0": where a part of n bytes begins that is found at a place
 unfoldable pub startOf : ℕ → ℕ → ℕ
 startOf n at = cond (eqb n 0) 0 at
 
@@ -85,7 +85,7 @@ module _ (L : Conversions) where
   rowValues [] next = []
   rowValues (p ∷ ps) next = pieceValue p next ∷ rowValues ps (next + length (textOf (pieceItem p)))
 
-  -- "texts lie in column order"
+  -- H5: "texts lie in column order"
   unfoldable pub rowTexts : List Piece → List ℕ
   rowTexts [] = []
   rowTexts (p ∷ ps) = textOf (pieceItem p) ++ rowTexts ps
@@ -125,7 +125,7 @@ module _ (L : Conversions) where
       (cond (anyDecFloat (covered columns)) (refusal 5 [])
       (bodyDecision (covered columns) (skipOf s) s d)))
 
--- "A refusal returns blanks"
+-- H7: "A refusal returns blanks"
 abbrev pub refusedRow : ℕ → List ℕ → RowTold
 refusedRow n vs = record { outcome = refused n vs; places = filled blankValue []; used = 0 }
 

@@ -38,7 +38,7 @@ sortOf (value.Timestamp p) = some timestamp
 sortOf (value.Boolean b) = some boolean
 sortOf (value.Xml p) = some xml
 
--- the table: the sorts that each type allows besides Null. A DecFloat column is refused (5), so none comes of it
+-- W10, the table: the sorts that each type allows besides Null. A DecFloat column is refused (5), so none comes of it
 abbrev pub sortsOf : Db2Type → List Sort
 sortsOf type.SmallInt = smallInt ∷ []
 sortsOf type.Integer = integer ∷ []

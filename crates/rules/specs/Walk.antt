@@ -9,11 +9,11 @@ use Rattle.types.specs.declared.ColumnDescriptor.{ColumnDescriptor}
 use Rattle.rules.specs.declared.Extent.{Extent}
 use Rattle.rules.specs.Extent.{need, extentOf}
 
--- "If there are at least two bytes and the first is FF, two are skipped; the second is not looked at."
+-- W1: "If there are at least two bytes and the first is FF, two are skipped; the second is not looked at."
 unfoldable pub skipOf : List ℕ → ℕ
 skipOf s = cond (leb 2 (length s) && eqb (getD s 0 0) 0xFF) 2 0
 
--- "A nullable column first takes one indicator byte: FF is Null, any other means a value": the bytes that a column takes of the rest s
+-- W2: "A nullable column first takes one indicator byte: FF is Null, any other means a value": the bytes that a column takes of the rest s
 unfoldable pub nullableNeed : Extent → List ℕ → ℕ
 nullableNeed e [] = 1
 nullableNeed e (b ∷ s) = cond (eqb b 0xFF) 1 (1 + need e s)
@@ -46,13 +46,13 @@ unfoldable pub consPiece : Piece → Walk → Walk
 consPiece p (done ps n) = done (p ∷ ps) n
 consPiece p (short e a) = short e a
 
--- The Rust's two numbers: a missing indicator is counted from the body's first byte (`offset` bytes of it are read), a value from its own first byte
+-- W4, the Rust's two numbers: a missing indicator is counted from the body's first byte (`offset` bytes of it are read), a value from its own first byte
 unfoldable pub cellShort : Bool → Extent → ℕ → List ℕ → Walk
 cellShort true e offset [] = short (offset + 1) offset
 cellShort true e offset (b ∷ s) = short (need e s) (length s)
 cellShort false e offset s = short (need e s) (length s)
 
--- "Each column is then given the rest of the row, from its first unread byte": s is that rest, `at` the place of its first byte, and `start` that of the body's
+-- W3: "Each column is then given the rest of the row, from its first unread byte": s is that rest, `at` the place of its first byte, and `start` that of the body's
 unfoldable pub walk : ℕ → List ColumnDescriptor → ℕ → List ℕ → Walk
 walk start [] at s = done [] at
 walk start (c ∷ cs) at s =

@@ -38,7 +38,7 @@ nameOf type.Boolean = 26
 nameOf type.Xml = 27
 nameOf type.Null = 28
 
--- "A column's type may hold numbers of its own, as Char, VarChar, LobBytes, Graphic and Decimal do. Those count wherever such a type is read": as
+-- W6: "A column's type may hold numbers of its own, as Char, VarChar, LobBytes, Graphic and Decimal do. Those count wherever such a type is read": as
 -- one number. Of Decimal the precision is in the low 8 bits and the scale in the high 8; 0 where a type holds none
 abbrev pub ownNumbers : Db2Type → ℕ
 ownNumbers type.SmallInt = 0

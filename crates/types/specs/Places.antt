@@ -11,7 +11,7 @@ use Rattle.types.specs.declared.ColumnDescriptor.{ColumnDescriptor}
 use Rattle.types.specs.declared.Columns.{Columns}
 use Rattle.types.specs.declared.ValuePlace.{ValuePlace}
 
--- "A column list has 128 places"
+-- H4: "A column list has 128 places"
 abbrev pub maxColumns : ℕ
 maxColumns = 128
 
@@ -19,7 +19,7 @@ maxColumns = 128
 unfoldable pub filled : {A : Type 0} → A → List A → List A
 filled blank xs = xs ++ replicate (maxColumns - length xs) blank
 
--- "Unused places hold type Null, every number 0, not nullable, big-endian, no reference length"
+-- H4: "Unused places hold type Null, every number 0, not nullable, big-endian, no reference length"
 unfoldable pub blankColumn : ColumnDescriptor
 blankColumn =
     record {
@@ -35,7 +35,7 @@ blankColumn =
       «extdta_reference_length» = Absent;
     }
 
--- "unused value places hold Null and are not external"
+-- H5: "unused value places hold Null and are not external"
 unfoldable pub blankValue : ValuePlace
 blankValue = record { value = value.Null; external = false }
 

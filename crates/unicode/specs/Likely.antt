@@ -1,4 +1,4 @@
--- "Likely text", a term of document 01 (section "Text leaves"): valid UTF-8 without control characters, save tab, line feed and carriage return.
+-- "Likely text", a term of document 01 (section "Text leaves", rule T9): valid UTF-8 without control characters, save tab, line feed and carriage return.
 -- Assumes nothing.
 use Prim.Native.Nat.{ℕ}
 use mathlib.Core.Bool.{Bool, true, false, cond}

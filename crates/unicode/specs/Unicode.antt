@@ -1,5 +1,5 @@
 -- Text as the Unicode Standard defines it, chapter 3, sections 3.9 "Unicode Encoding Forms" and 3.10 "Unicode Encoding Schemes".
--- Definitions (D76 ..) and tables (3-4 ..) are cited by the numbers of Version 15.0. Code points, code units and bytes are numbers.
+-- Definitions (D76 ..) and tables (3-4 ..) are cited by the numbers of Version 15.0, from memory. Code points, code units and bytes are numbers.
 -- Code units are read as a list of pieces: a scalar value, or a malformed part, which U+FFFD replaces. Laws.antt has what holds of it,
 -- Examples.antt the Standard's own examples. Assumes nothing.
 use Prim.Native.Nat.{ℕ, zero, suc, _+_, _*_, _-_, _/_, _%_}

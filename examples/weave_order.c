@@ -137,8 +137,10 @@ static void print_row(const uint64_t *columns, uint64_t count, const uint8_t *ro
     printf("%" PRIu64 " bytes used, %" PRIu64 " bytes of text\n", first, second);
     for (uint64_t k = 0; k < count; k++) {
         const uint64_t *value = values + VEJUPA_VALUE_WORDS * k;
+        struct vejupa_bytes bytes = {row, 0};
+        vejupa_value_bytes(value, VEJUPA_VALUE_WORDS, row, row_len, text, sizeof text, &bytes);
         printf("%" PRIu64 " ", k);
-        print_value(value, vejupa_value_bytes(value, row, row_len, text, sizeof text));
+        print_value(value, bytes);
     }
 }
 

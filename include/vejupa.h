@@ -14,7 +14,7 @@
  * - No two arguments overlap, neither slices nor the numbers behind pointers.
  * - Given that, any bytes, numbers and lengths whatever may be passed: each call tests its own input, reads and writes
  *   within its slices only, and ends. The answer is the one that its contract states.
- * - The answer returned is 0 (VEJUPA_ACCEPTED) or a refusal's number. On a refusal no slice is changed; numbers behind
+ * - The answer returned, where there is one, is 0 (VEJUPA_ACCEPTED) or a refusal's number. On a refusal no slice is changed; numbers behind
  *   pointers are written always, and are 0 where nothing else is said. On acceptance, what lies in a slice after what was written keeps
  *   what it had.
  * - Texts are UTF-8, without a byte 0 at the end.
@@ -145,6 +145,19 @@ uint32_t vejupa_parse_qrydsc(const uint8_t *data, size_t data_len, uint64_t *wor
 uint32_t vejupa_decode_row(const uint64_t *columns, size_t columns_len, const uint8_t *data, size_t data_len, uint64_t *values,
                            size_t values_len, uint8_t *text, size_t text_len, uint64_t *first, uint64_t *second);
 
+/* Bytes somewhere: a slice that a call hands out. */
+struct vejupa_bytes {
+    const uint8_t *start;
+    size_t length;
+};
+
+/* The bytes of a value, as a part of the row or of the text buffer. `value` points at its three words (values + 3 * k; words after
+ * them are not looked at), `data` and `text` are those of the call that wrote them. For a text, Binary or Blob *bytes is then its part. It is
+ * empty for any other value, for a sort that there is none of, for a place that does not fit, and where value_len is below 3. Nothing is refused
+ * and nothing copied. *bytes is a slice before the call too: {data, 0} will do. */
+void vejupa_value_bytes(const uint64_t *value, size_t value_len, const uint8_t *data, size_t data_len, const uint8_t *text,
+                        size_t text_len, struct vejupa_bytes *bytes);
+
 /* The byte count of a type's values, where the type alone tells it: *fixed is 1 and *length the count, else both are 0. It is not what the
  * row call goes by. `type_word` is what vejupa_column_type_word gives: the low 24 bits of a column's first word. Answers 0 or 102. */
 uint32_t vejupa_fixed_length(uint64_t type_word, uint64_t *fixed, uint64_t *length);
@@ -241,38 +254,6 @@ static inline int vejupa_value_is_text(const uint64_t *value) {
     uint32_t sort = vejupa_value_sort(value);
     return (VEJUPA_DECIMAL <= sort && sort <= VEJUPA_VAR_CHAR) || (VEJUPA_CLOB <= sort && sort <= VEJUPA_TIMESTAMP) ||
            sort == VEJUPA_XML;
-}
-
-/* Bytes somewhere. */
-struct vejupa_bytes {
-    const uint8_t *start;
-    size_t length;
-};
-
-/* So many bytes from a place on, or the empty beginning where they do not fit. */
-static inline struct vejupa_bytes vejupa_part(const uint8_t *bytes, size_t len, uint64_t place, uint64_t part_len) {
-    struct vejupa_bytes part;
-    part.start = bytes;
-    part.length = 0;
-    if (place <= len && part_len <= len - place) {
-        part.start = bytes + place;
-        part.length = (size_t)part_len;
-    }
-    return part;
-}
-
-/* The bytes of a text, Binary or Blob, as a part of the text buffer or of the row. For any other value, or a place that does not
- * fit, the part is empty. */
-static inline struct vejupa_bytes vejupa_value_bytes(const uint64_t *value, const uint8_t *data, size_t data_len,
-                                                     const uint8_t *text, size_t text_len) {
-    uint32_t sort = vejupa_value_sort(value);
-    if (vejupa_value_is_text(value)) {
-        return vejupa_part(text, text_len, value[1], value[2]);
-    }
-    if (sort == VEJUPA_BINARY || sort == VEJUPA_BLOB) {
-        return vejupa_part(data, data_len, value[1], value[2]);
-    }
-    return vejupa_part(data, data_len, 0, 0);
 }
 
 #ifdef __cplusplus

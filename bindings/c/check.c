@@ -55,14 +55,27 @@ static void fields_of_values(void) {
     CHECK(!vejupa_value_is_external(real));
 }
 
-/* Whether a value's bytes are `len` bytes from a place on, or none where they do not fit. */
+/* The bytes of the value of so many words. */
+static struct vejupa_bytes bytes_of(const uint64_t *value, size_t words, const uint8_t *row, size_t row_len, const uint8_t *texts,
+                                    size_t texts_len) {
+    struct vejupa_bytes bytes = {row, 1};
+    vejupa_value_bytes(value, words, row, row_len, texts, texts_len, &bytes);
+    return bytes;
+}
+
+/* Whether a value's bytes are `len` bytes from a place on, or none where they do not fit. Bits of the first word above the sort do not matter, nor do
+ * words after the third. */
 static void is_part(uint64_t sort, uint64_t place, uint64_t len, int fits) {
     static uint8_t row[4], texts[8];
-    const uint64_t value[] = {sort, place, len};
-    struct vejupa_bytes part = vejupa_value_bytes(value, row, sizeof row, texts, sizeof texts);
+    const uint64_t value[] = {sort, place, len}, more[] = {sort | ~UINT64_C(0xFF), place, len, 1, 2};
+    struct vejupa_bytes part = bytes_of(value, 3, row, sizeof row, texts, sizeof texts);
+    struct vejupa_bytes same = bytes_of(more, 5, row, sizeof row, texts, sizeof texts);
     const uint8_t *within = vejupa_value_is_text(value) ? texts : row;
     CHECK(part.length == (fits ? len : 0));
     CHECK(part.start == (fits ? within + place : within));
+    CHECK(same.start == part.start && same.length == part.length);
+    CHECK(bytes_of(value, 2, row, sizeof row, texts, sizeof texts).length == 0);
+    CHECK(bytes_of(value, 0, row, sizeof row, texts, sizeof texts).length == 0);
 }
 
 /* A part of the row or of the texts, and an empty one for whatever has none or does not fit. */
@@ -124,7 +137,7 @@ static void rows(void) {
     CHECK(vejupa_parse_qrydsc(small_int_and_decimal, sizeof small_int_and_decimal, columns, 4, &count) == VEJUPA_ACCEPTED);
     CHECK(decode(2, row, sizeof row, 5) == VEJUPA_TEXT_BUFFER_TOO_SHORT && first == 6 && second == 0);
     CHECK(decode(2, row, sizeof row, 6) == VEJUPA_ACCEPTED && first == 7 && second == 6);
-    decimal = vejupa_value_bytes(values + 3, row, sizeof row, text, 6);
+    decimal = bytes_of(values + 3, 3, row, sizeof row, text, 6);
     CHECK(vejupa_value_sort(values + 3) == VEJUPA_DECIMAL && decimal.length == 6 && memcmp(decimal.start, "123.45", 6) == 0);
 }
 

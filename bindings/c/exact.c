@@ -38,6 +38,20 @@ static struct slice bytes_of(const char *field) {
     return s;
 }
 
+/* The sum of what was read. */
+static unsigned long touched;
+
+/* Reads the bytes of every value. */
+static void touch(const uint64_t *values, size_t count, struct slice data, const uint8_t *text, size_t text_len) {
+    for (size_t k = 0; k < count; k++) {
+        struct vejupa_bytes bytes = {data.start, 0};
+        vejupa_value_bytes(values + VEJUPA_VALUE_WORDS * k, VEJUPA_VALUE_WORDS, data.start, data.length, text, text_len, &bytes);
+        for (size_t i = 0; i < bytes.length; i++) {
+            touched += bytes.start[i];
+        }
+    }
+}
+
 static void row(const uint64_t *columns, size_t count, struct slice data) {
     size_t lengths[2] = {0, 0}; /* first no text buffer, then one just long enough */
     for (int turn = 0; turn < 2; turn++) {
@@ -46,6 +60,9 @@ static void row(const uint64_t *columns, size_t count, struct slice data) {
         uint64_t first, second;
         uint32_t answer = vejupa_decode_row(columns, VEJUPA_COLUMN_WORDS * count, data.start, data.length, values,
                                             VEJUPA_VALUE_WORDS * count, text, lengths[turn], &first, &second);
+        if (answer == VEJUPA_ACCEPTED) {
+            touch(values, count, data, text, lengths[turn]);
+        }
         lengths[1] = answer == VEJUPA_TEXT_BUFFER_TOO_SHORT ? (size_t)first : 0;
         free(text);
         free(values);
@@ -115,6 +132,6 @@ int main(void) {
         }
         calls++;
     }
-    printf("%lu requests\n", calls);
+    printf("%lu requests, the bytes of their values add up to %lu\n", calls, touched);
     return 0;
 }

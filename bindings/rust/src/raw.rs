@@ -1,7 +1,16 @@
 //! The calls of the static library as they are, on lent slices and numbers: no allocation, no conversion of words. Each has its
 //! description in `include/vejupa.h`, with the layout of columns' and values' words. The functions at the crate's top are made of these.
 
+use std::slice;
+
 mod foreign {
+    /// A slice as the library hands it out.
+    #[repr(C)]
+    pub struct Bytes {
+        pub start: *const u8,
+        pub length: usize,
+    }
+
     unsafe extern "C" {
         pub fn vejupa_parse_qrydsc(
             data: *const u8,
@@ -22,6 +31,15 @@ mod foreign {
             first: *mut u64,
             second: *mut u64,
         ) -> u32;
+        pub fn vejupa_value_bytes(
+            value: *const u64,
+            value_len: usize,
+            data: *const u8,
+            data_len: usize,
+            text: *const u8,
+            text_len: usize,
+            bytes: *mut Bytes,
+        );
         pub fn vejupa_fixed_length(type_word: u64, fixed: *mut u64, length: *mut u64) -> u32;
         pub fn vejupa_decode_character_bytes(
             data: *const u8,
@@ -168,6 +186,28 @@ pub fn decode_row(columns: &[u64], data: &[u8], values: &mut [u64], text: &mut [
         number,
         first,
         second,
+    }
+}
+
+/// The bytes of the value of these three words, in the row or in the texts; empty where it has none, where its place does not fit, and where
+/// there are fewer words.
+pub fn value_bytes<'a>(value: &[u64], data: &'a [u8], text: &'a [u8]) -> &'a [u8] {
+    let mut bytes = foreign::Bytes {
+        start: data.as_ptr(),
+        length: 0,
+    };
+    // SAFETY, beside what stands above: what is handed out is a part of `data` or of `text`.
+    unsafe {
+        foreign::vejupa_value_bytes(
+            value.as_ptr(),
+            value.len(),
+            data.as_ptr(),
+            data.len(),
+            text.as_ptr(),
+            text.len(),
+            &mut bytes,
+        );
+        slice::from_raw_parts(bytes.start, bytes.length)
     }
 }
 

@@ -160,6 +160,15 @@ impl Row<'_> {
         (0..self.len()).map(|k| self.value(k))
     }
 
+    /// The bytes of the value of column k, a part of the row or of [`Row::text`]: empty for a number, a Boolean and Null. It is the library's own
+    /// accessor; the places that [`Row::value`] takes are tested here, in Rust.
+    ///
+    /// # Panics
+    /// Where there is no such column.
+    pub fn value_bytes(&self, k: usize) -> &[u8] {
+        raw::value_bytes(&self.words_of(k), self.data, self.text.as_bytes())
+    }
+
     /// Whether the value of column k refers to data outside of the row, which come apart (EXTDTA).
     ///
     /// # Panics

@@ -116,12 +116,38 @@ fn values_of_every_sort() {
     for (k, (value, expected)) in row.values().zip(VALUES).enumerate() {
         assert_eq!(value, expected, "column {k}");
         assert_eq!(row.get(k), Some(expected));
+        assert_eq!(row.value_bytes(k), expected.as_bytes().unwrap_or_default());
     }
     assert_eq!(row.get(VALUES.len()), None);
     assert_eq!(row.external_columns().collect::<Vec<_>>(), [11, 12, 13, 14]);
     let texts: String = VALUES.iter().filter_map(|value| value.as_str()).collect();
     assert_eq!(row.text(), texts);
     assert!(matches!(row.value(4), Value::Double(x) if x.is_sign_negative()));
+}
+
+/// Of each sort of the words, and of one that there is none of: the part of the row or of the texts, or an empty one.
+#[test]
+fn bytes_of_words() {
+    let (row, text) = ([1, 2, 3], [4, 5, 6, 7]);
+    for sort in 0..=20 {
+        let of = |place, len| raw::value_bytes(&[sort, place, len], &row, &text);
+        let whole: &[u8] = match sort {
+            11 | 12 => &row,
+            8..=17 | 19 => &text,
+            _ => &[],
+        };
+        for (place, len) in [(0, 3), (1, 2), (1, 3), (3, 0), (3, 1), (5, 0)] {
+            assert_eq!(
+                of(place as u64, len as u64),
+                whole.get(place..place + len).unwrap_or_default(),
+                "sort {sort}, place {place}, length {len}"
+            );
+        }
+        assert!(of(u64::MAX, 1).is_empty() && of(1, u64::MAX).is_empty());
+        assert!(raw::value_bytes(&[sort, 0], &row, &text).is_empty());
+        assert!(raw::value_bytes(&[sort | 0x100, 0, 3], &row, &text) == of(0, 3));
+    }
+    assert!(raw::value_bytes(&[], &row, &text).is_empty());
 }
 
 #[test]

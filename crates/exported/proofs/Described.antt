@@ -12,7 +12,7 @@ use Rattle.types.specs.declared.ColumnDescriptor.{ColumnDescriptor}
 use Rattle.types.specs.declared.Columns.{Columns}
 use Rattle.types.specs.Places.{maxColumns, columnList}
 use Rattle.triplets.specs.Descriptors.{columnsOf}
-use Rattle.qrydsc.specs.Qrydsc.{DescriptionTold, numbered, listed, description}
+use Rattle.qrydsc.specs.Qrydsc.{DescriptionTold, numbered, listed, maxQrydsc, description}
 use Rattle.qrydsc.proofs.Lists.{length-numbered}
 use Rattle.rules.specs.Row.{covered}
 use Rattle.words.specs.Words.{packColumns}
@@ -36,19 +36,19 @@ unfolding listing
 columns-listing cs = covered-list (numbered 0 cs)
 
 module _ (s w : List ℕ) where
-  pub too-long : 65536 < length s → Promised (description s) w 1 0 w
+  pub too-long : maxQrydsc < length s → Promised (description s) w 1 0 w
   unfolding description columnList
-  too-long h = rw (lt-ltb 65536 (length s) h) (refl, (refl, refl))
+  too-long h = rw (lt-ltb maxQrydsc (length s) h) (refl, (refl, refl))
 
-  module _ (h : length s ≤ 65536) where
+  module _ (h : length s ≤ maxQrydsc) where
     pub too-many : maxColumns < length (columnsOf s) → Promised (description s) w 2 0 w
     unfolding description listed columnList
-    too-many k = rw (le-ltb 65536 (length s) h, lt-ltb maxColumns (length (columnsOf s)) k) (refl, (refl, refl))
+    too-many k = rw (le-ltb maxQrydsc (length s) h, lt-ltb maxColumns (length (columnsOf s)) k) (refl, (refl, refl))
 
     module _ (n : ℕ) (k : n ≤ maxColumns) (e : n ≡ length (columnsOf s)) where
       told : description s ≡ (record { outcome = accepted; columns = listing (columnsOf s) })
       unfolding description listed listing
-      told = rw (le-ltb 65536 (length s) h, le-ltb maxColumns (length (columnsOf s)) (omega arith))
+      told = rw (le-ltb maxQrydsc (length s) h, le-ltb maxColumns (length (columnsOf s)) (omega arith))
 
       pub too-few : length w < 2 * n → Promised (description s) w 101 n w
       too-few f =

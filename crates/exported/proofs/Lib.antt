@@ -2,4 +2,5 @@ mod Reported
 mod Described
 mod TypeLength
 mod RowCall
+pub mod ValueBytes
 pub mod RowForms

@@ -1,14 +1,14 @@
 -- The row call on words and decode_row are one call: for the words of columns, vejupa_decode_row hands out what decode_row answers for those columns in
 -- their places. Assumes nothing.
-use Prim.Native.Nat.{ℕ, suc, _+_, _-_, _*_, _/_, _≤_}
+use Prim.Native.Nat.{ℕ, suc, _+_, _-_, _*_, _/_, _≤_, _<_}
 use mathlib.Core.Path.{_≡_, refl, sym, ap, _∙_}
 use mathlib.Core.Bool.{true, cond, false≢true}
 use mathlib.Core.List.{List, [], _∷_, _++_}
 use mathlib.Core.Option.{Option, some}
 use native.Mathlib.Omega.{arith}
 use borrow.Author.Tests.{le-ltb}
-use lib.ListN.{length, take, drop, replicate}
-use lib.Seq.{take-at}
+use lib.ListN.{length, take, drop, getD, replicate}
+use lib.Seq.{take-at, length-take-le, getD-take}
 use Rattle.refusal.specs.Refusal.{Told, accepted, refused, number}
 use Rattle.buffer.specs.Buffer.{written}
 use Rattle.types.specs.declared.ColumnDescriptor.{ColumnDescriptor}
@@ -17,21 +17,25 @@ use Rattle.types.specs.Places.{maxColumns, filled, blankValue, columnList}
 use Rattle.rules.specs.Walk.{columnNeed, Piece, cellPiece, Walk, done, short, consPiece, walk, walkBody, walkRow, skipOf}
 use Rattle.rules.specs.Row.{RowTold, Decision, refusal, acceptance, covered, rowValues, rowDecision, answerOf, textAfter}
 use Rattle.rules.specs.Conversions.{ported, rowAnswer, rowText}
+use Rattle.rules.specs.Value.{valueBytes}
 use Rattle.rules.proofs.Walks.{isDone, piecesOf, walk-step, walk-first}
 use Rattle.rules.proofs.Demand3.{facts}
 use Rattle.rules.proofs.Progress.{values-length}
+use Rattle.rules.proofs.Accepted.{all-places}
 use Rattle.words.specs.Words.{packColumns}
 use Rattle.words.specs.Reading.{readColumns}
 use Rattle.words.specs.Values.{packValues}
 use Rattle.words.proofs.Columns.{AllFit, reads-columns, packed-length}
+use Rattle.words.proofs.Packed.{three, packed-at}
 use Rattle.row_words.specs.Rows.{valuesAfter}
 use Rattle.exported.proofs.RowCall.{covered-list}
-use Rattle.exported.specs.Rows.{decisionFor, wordsDecision, rowNumber}
+use Rattle.exported.specs.Rows.{decisionFor, wordsDecision, rowNumber, wordsBytes}
+use Rattle.exported.proofs.ValueBytes.{three-bytes}
 
 -- the lent words v after an answer: of an accepted row the words of its values lie over the first
-abbrev pub wordsBy : Told → List ValuePlace → List ℕ → List ℕ
-wordsBy accepted values v = written (packValues values) v
-wordsBy (refused n vs) values v = v
+abbrev pub valuesBy : Told → List ValuePlace → List ℕ → List ℕ
+valuesBy accepted values v = written (packValues values) v
+valuesBy (refused n vs) values v = v
 
 -- ---- an accepted row has a value for each column
 
@@ -83,10 +87,21 @@ module _ (cs : List ColumnDescriptor) (fit : AllFit cs) (few : length cs ≤ max
   same-text = rw same-decision
 
   -- the words of values are those of the values that decode_row hands out, one for each column
-  pub same-values : valuesAfter (wordsDecision (packColumns cs) s v d) v ≡ wordsBy (rowAnswer (columnList cs) s d .outcome) (take (length cs) (rowAnswer (columnList cs) s d .places)) v
+  pub same-values : valuesAfter (wordsDecision (packColumns cs) s v d) v ≡ valuesBy (rowAnswer (columnList cs) s d .outcome) (take (length cs) (rowAnswer (columnList cs) s d .places)) v
   unfolding rowAnswer answerOf
   same-values = rw same-decision (go (rowDecision ported (columnList cs) s d) refl)
     where
-      go : (x : Decision) → rowDecision ported (columnList cs) s d ≡ x → valuesAfter x v ≡ wordsBy (answerOf ported x .outcome) (take (length cs) (answerOf ported x .places)) v
+      go : (x : Decision) → rowDecision ported (columnList cs) s d ≡ x → valuesAfter x v ≡ valuesBy (answerOf ported x .outcome) (take (length cs) (answerOf ported x .places)) v
       go (refusal n vs) e = refl
       go (acceptance ps n) e = rw (first-places cs s d ps n e)
+
+  -- of an accepted row's words, from those of value k on, vejupa_value_bytes shows what value_bytes shows of value k of decode_row, whatever the text buffer t
+  pub same-bytes : rowAnswer (columnList cs) s d .outcome ≡ accepted → (k : ℕ) → k < length cs → (t : List ℕ)
+      → wordsBytes (drop (3 * k) (valuesAfter (wordsDecision (packColumns cs) s v d) v)) s t ≡ valueBytes (getD (rowAnswer (columnList cs) s d .places) k blankValue .value) s t
+  same-bytes e k h t =
+      let places = rowAnswer (columnList cs) s d .places in
+      let vs = take (length cs) places in
+      let n : length cs ≤ length places = omega (arith, all-places (columnList cs) s d) in
+      let all : length vs ≡ length cs = length-take-le (length cs) places n in
+      let words : valuesAfter (wordsDecision (packColumns cs) s v d) v ≡ written (packValues vs) v = same-values ∙ ap (λ (o : Told). valuesBy o vs v) e in
+      rw (words, packed-at vs k blankValue (drop (length (packValues vs)) v) (omega arith), three-bytes, getD-take (length cs) places k blankValue h)

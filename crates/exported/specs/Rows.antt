@@ -1,5 +1,5 @@
--- What vejupa_decode_row answers and leaves, by what decode_row decides for the columns that the words say. 101 and 102 are of these functions
--- alone. Assumes nothing.
+-- What vejupa_decode_row answers and leaves, by what decode_row decides for the columns that the words say, and what vejupa_value_bytes shows. 101 and 102 are
+-- of these functions alone. Assumes nothing.
 use Prim.Native.Nat.{ℕ, _*_, _/_}
 use mathlib.Core.Bool.{cond}
 use mathlib.Core.List.{List, [], _∷_}
@@ -10,7 +10,9 @@ use Rattle.types.specs.declared.ColumnDescriptor.{ColumnDescriptor}
 use Rattle.types.specs.Places.{maxColumns, columnList}
 use Rattle.rules.specs.Row.{Decision, refusal, acceptance, rowTexts, rowDecision}
 use Rattle.rules.specs.Conversions.{ported}
+use Rattle.rules.specs.Value.{valueBytes}
 use Rattle.words.specs.Reading.{readColumns}
+use Rattle.words.specs.ValueReading.{valueNamed}
 
 -- for the columns that words say: 102 where they say none, else what decode_row decides for those columns
 abbrev pub decisionFor : Option (List ColumnDescriptor) → List ℕ → List ℕ → Decision
@@ -37,3 +39,7 @@ rowFirst (acceptance ps n) = n
 abbrev pub rowSecond : Decision → ℕ
 rowSecond (refusal n vs) = getD vs 1 0
 rowSecond (acceptance ps n) = length (rowTexts ported ps)
+
+-- the bytes of the value that the first three of the words w name, with the row s and the text buffer d; none where the words are fewer
+unfoldable pub wordsBytes : List ℕ → List ℕ → List ℕ → List ℕ
+wordsBytes w s d = cond (ltb (length w) 3) [] (valueBytes (valueNamed (getD w 0 0) (getD w 1 0) (getD w 2 0) .value) s d)

@@ -6,11 +6,13 @@ use buffer::TextAnswer;
 use qrydsc::MAX_QRYDSC;
 use refusal::INPUT_LIMIT;
 use refusal::Outcome;
+use row::value_bytes;
 use row_words::Checked;
 use row_words::RowOutcome;
 use types::FixedLength;
 use types::MAX_COLUMNS;
 use words::TypeRead;
+use words::value_named;
 ghost use mathlib.Core.Path.{_≡_};
 ghost use mathlib.Core.Bool.{cond};
 ghost use Rattle.buffer.specs.Buffer.{toldText};
@@ -24,7 +26,7 @@ ghost use Rattle.rules.specs.Conversions.{ported};
 ghost use Rattle.words.specs.Words.{readType};
 ghost use Rattle.row_words.specs.Rows.{valuesAfter};
 ghost use Rattle.exported.specs.Exported.{numberTold, lengthTold};
-ghost use Rattle.exported.specs.Rows.{wordsDecision, rowNumber, rowFirst, rowSecond};
+ghost use Rattle.exported.specs.Rows.{wordsDecision, rowNumber, rowFirst, rowSecond, wordsBytes};
 ghost use Rattle.exported.specs.Descriptions.{descriptionNumber, descriptionWords, typeNumber, lengthOf, flagOf, bytesOf};
 
 // What a function answers beside the refusals: the lent words are too few; a word is no type's; words are no column's.
@@ -234,4 +236,24 @@ pub extern "C" fn vejupa_decode_row(
             9
         }
     }
+}
+
+// The bytes of the value that three words say: a part of the row or of the text buffer. It is empty for a number, a Boolean, Null and a place that
+// does not fit, and where the words are fewer than three. Nothing is refused.
+#[no_mangle]
+pub extern "C" fn vejupa_value_bytes<'a>(
+    value: &[u64],
+    data: &'a [u8],
+    text: &'a [u8],
+    bytes: &mut &'a [u8],
+)
+    ensures { λ _. ⌜ now (now (bytes .exit)) ≡ wordsBytes (now (value .entry)) (now («data» .entry)) (now (text .entry)) ⌝ }
+{
+    if value.len() < 3 {
+        *bytes = &data[0..0];
+        return;
+    }
+    let named = value_named(value[0], value[1], value[2]);
+    let held = named.value;
+    *bytes = value_bytes(held, data, text);
 }

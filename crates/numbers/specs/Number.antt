@@ -3,7 +3,7 @@ use Prim.Native.Nat.{ℕ, _+_, _*_}
 use mathlib.Core.Bool.{cond}
 use mathlib.Core.List.{List, [], _∷_, reverse}
 use lib.IntN.{ℤ}
-use lib.Ieee.{Float, binary32, binary64, nanBits, ofBits, toBits}
+use lib.Ieee.{Float, binary32, binary64, nanBits, ofBits}
 use mir.Syntax.{w16, w32, w64}
 use mir.Val.{toZ}
 use Rattle.types.specs.declared.ByteOrder.{ByteOrder}
@@ -59,13 +59,3 @@ realIn order s = realOf (number order s)
 
 abbrev pub doubleIn : ByteOrder → List ℕ → Number
 doubleIn order s = doubleOf (number order s)
-
--- the bits of a float: of one that is no NaN those that IEEE 754 gives it, of a NaN those that it is held by; 0 for a whole number
-abbrev pub floatBits : Number → ℕ
-floatBits (smallInt z) = 0
-floatBits (integer z) = 0
-floatBits (bigInt z) = 0
-floatBits (real x) = toBits binary32 x
-floatBits (realNan n) = n
-floatBits (double x) = toBits binary64 x
-floatBits (doubleNan n) = n

@@ -67,7 +67,7 @@ pub fn u64_of(s: &[u8], order: ByteOrder) -> u64
 }
 
 // The number whose two's complement bits these are: below the half itself, else -1 less the complement.
-fn signed16(n: u16) -> i16
+pub fn signed16(n: u16) -> i16
     ensures { λ r. ⌜ r ≡ toZ w16 n ⌝ }
 {
     if n < 0x8000 {
@@ -77,7 +77,7 @@ fn signed16(n: u16) -> i16
     }
 }
 
-fn signed32(n: u32) -> i32
+pub fn signed32(n: u32) -> i32
     ensures { λ r. ⌜ r ≡ toZ w32 n ⌝ }
 {
     if n < 0x8000_0000 {
@@ -87,7 +87,7 @@ fn signed32(n: u32) -> i32
     }
 }
 
-fn signed64(n: u64) -> i64
+pub fn signed64(n: u64) -> i64
     ensures { λ r. ⌜ r ≡ toZ w64 n ⌝ }
 {
     if n < 0x8000_0000_0000_0000 {
@@ -98,7 +98,7 @@ fn signed64(n: u64) -> i64
 }
 
 // A float by its bits. A NaN is kept as its bits: from_bits is undefined there.
-fn real_of(n: u32) -> Db2Value
+pub fn real_of(n: u32) -> Db2Value
     ensures { λ r. ⌜ r ≡ numberValue (realOf n) ⌝ }
 {
     if n % 0x8000_0000 / 0x80_0000 == 255 {
@@ -110,7 +110,7 @@ fn real_of(n: u32) -> Db2Value
     Db2Value::Real(f32::from_bits(n))
 }
 
-fn double_of(n: u64) -> Db2Value
+pub fn double_of(n: u64) -> Db2Value
     ensures { λ r. ⌜ r ≡ numberValue (doubleOf n) ⌝ }
 {
     if n % 0x8000_0000_0000_0000 / 0x10_0000_0000_0000 == 2047 {

@@ -21,12 +21,12 @@ use Rattle.types.specs.declared.Columns.{Columns}
 use Rattle.types.specs.declared.ValuePlace.{ValuePlace}
 use Rattle.types.specs.Names.{namedIn}
 use Rattle.types.specs.Places.{maxColumns, filled, blankColumn, blankValue}
+use Rattle.types.specs.Held.{Held, bits, row, textBuffer, held}
 use Rattle.numbers.specs.Number.{Number, numberValue, realOf, doubleOf}
 use Rattle.rules.specs.declared.Extent.{Extent}
 use Rattle.rules.specs.Extent.{extentOf}
 use Rattle.rules.specs.Meaning.{ByteSort, TextSort, Item, nothing, number, boolean, part, text, Conversions, itemIn}
 use Rattle.rules.specs.Walk.{columnNeed, Piece, absent, present, cellPiece, Walk, done, short, consPiece, cellShort, walk, walkBody, walkRow, skipOf}
-use Rattle.rules.specs.Value.{Holder, nowhere, row, textBuffer, heldBy}
 use Rattle.rules.specs.Row.{Decision, refusal, acceptance, covered, partValue, textValue, valueOf, textOf, pieceItem, pieceValue, rowValues, rowTexts, anyDecFloat, rowDecision, answerOf, textAfter, answerWith, textWith}
 use Rattle.rules.specs.Conversions.{ported, rowAnswer, rowText}
 use Rattle.rules.specs.Sorts.{Sort, sortOf, sortsOf, Among, AllowsSort, Allows}
@@ -102,8 +102,8 @@ module _ (L : Conversions) (columns : Columns) (s d : List ℕ) where
 
 -- ---- every place fits
 
-within-fits : (v : Holder) (n m : ℕ) (s d : List ℕ) → Within n m v → n ≤ length s → m ≤ length d → Fits v s d
-within-fits nowhere n m s d h k l = tt
+within-fits : (v : Held) (n m : ℕ) (s d : List ℕ) → Within n m v → n ≤ length s → m ≤ length d → Fits v s d
+within-fits (bits b) n m s d h k l = tt
 within-fits (row p) n m s d h k l = omega arith
 within-fits (textBuffer p) n m s d h k l = omega arith
 
@@ -114,7 +114,7 @@ places-fit-with L columns s d e i =
     let w = walkRow (covered columns) s in
     let ts = rowTexts L (piecesOf w) in
     rw (f .decided)
-    (within-fits (heldBy (getD (filled blankValue (rowValues L (piecesOf w) 0)) i blankValue .value)) (usedOf w) (length ts) s (written ts d)
+    (within-fits (held (getD (filled blankValue (rowValues L (piecesOf w) 0)) i blankValue .value)) (usedOf w) (length ts) s (written ts d)
     (places-within L (usedOf w) (piecesOf w) (row-placed (covered columns) s (f .over)) i)
     (row-used (covered columns) s (f .over) .1)
     (omega (arith, length-append ts (drop (length ts) d))))

@@ -15,10 +15,11 @@ use Rattle.types.specs.declared.ColumnDescriptor.{ColumnDescriptor}
 use Rattle.types.specs.declared.Db2Value.{Db2Value}
 use Rattle.types.specs.declared.ValuePlace.{ValuePlace}
 use Rattle.types.specs.Places.{maxColumns, filled, blankValue}
+use Rattle.types.specs.Held.{Held, bits, row, textBuffer, held}
 use Rattle.numbers.specs.Number.{Number, numberValue}
 use Rattle.rules.specs.Meaning.{ByteSort, TextSort, Item, nothing, number, boolean, part, text, Conversions, itemIn}
 use Rattle.rules.specs.Walk.{columnNeed, Piece, absent, present, cellPiece, Walk, done, short, consPiece, walk, walkBody, walkRow, skipOf}
-use Rattle.rules.specs.Value.{Holder, nowhere, row, textBuffer, heldBy, bytesAt, heldBytes, valueBytes, heldText, textsTogether}
+use Rattle.rules.specs.Value.{bytesAt, heldBytes, valueBytes, heldText, textsTogether}
 use Rattle.rules.specs.Row.{partValue, textValue, startOf, valueOf, textOf, pieceItem, pieceValue, rowValues, rowTexts}
 use Rattle.rules.specs.Sorts.{sortsOf}
 use Rattle.rules.proofs.Walks.{isDone, usedOf, piecesOf, walk-step, walk-first, walk-rest, walk-rest-used, walk-used, drop-take}
@@ -68,21 +69,21 @@ pub row-placed : (cs : List ColumnDescriptor) (s : List ℕ) → isDone (walkRow
 unfolding walkBody
 row-placed cs s d = walk-placed (usedOf (walkRow cs s)) (skipOf s) cs (skipOf s) (drop (skipOf s) s) d refl
 
--- who holds each sort of value
-pub number-held : (x : Number) → heldBy (numberValue x) ≡ nowhere
-number-held (Number.smallInt z) = refl
-number-held (Number.integer z) = refl
-number-held (Number.bigInt z) = refl
-number-held (Number.real x) = refl
-number-held (Number.realNan n) = refl
-number-held (Number.double x) = refl
-number-held (Number.doubleNan n) = refl
+-- what each sort of value holds
+pub number-held : (x : Number) → (n : ℕ) × (held (numberValue x) ≡ bits n)
+number-held (Number.smallInt z) = (_, refl)
+number-held (Number.integer z) = (_, refl)
+number-held (Number.bigInt z) = (_, refl)
+number-held (Number.real x) = (_, refl)
+number-held (Number.realNan n) = (_, refl)
+number-held (Number.double x) = (_, refl)
+number-held (Number.doubleNan n) = (_, refl)
 
-pub part-held : (k : ByteSort) (p : Place) → heldBy (partValue k p) ≡ row p
+pub part-held : (k : ByteSort) (p : Place) → held (partValue k p) ≡ row p
 part-held ByteSort.binary p = refl
 part-held ByteSort.blob p = refl
 
-pub text-held : (k : TextSort) (p : Place) → heldBy (textValue k p) ≡ textBuffer p
+pub text-held : (k : TextSort) (p : Place) → held (textValue k p) ≡ textBuffer p
 text-held TextSort.decimal p = refl
 text-held TextSort.char p = refl
 text-held TextSort.varChar p = refl
@@ -97,14 +98,14 @@ text-held TextSort.xml p = refl
 abbrev pub Ends : ℕ → Place → Type 0
 Ends n p = p .start + p .len ≤ n
 
-abbrev pub Within : ℕ → ℕ → Holder → Type 0
-Within n m nowhere = Unit {0}
+abbrev pub Within : ℕ → ℕ → Held → Type 0
+Within n m (bits b) = Unit {0}
 Within n m (row p) = Ends n p
 Within n m (textBuffer p) = Ends m p
 
 abbrev pub AllWithin : ℕ → ℕ → List ValuePlace → Type 0
 AllWithin n m [] = Unit {0}
-AllWithin n m (v ∷ vs) = Within n m (heldBy (v .value)) × AllWithin n m vs
+AllWithin n m (v ∷ vs) = Within n m (held (v .value)) × AllWithin n m vs
 
 -- an item's part lies in the value's n bytes
 abbrev Inside : ℕ → Item → Type 0
@@ -131,18 +132,18 @@ part-ends : (l from at size n : ℕ) → l ≤ size - from → at + size ≤ n �
 part-ends zero from at size n i h = start-empty (at + from) n
 part-ends (suc l) from at size n i h = start-ends (suc l) (at + from) n (omega arith)
 
-value-within : (n m : ℕ) (x : Item) (at size next : ℕ) → Inside size x → at + size ≤ n → next + length (textOf x) ≤ m → Within n m (heldBy (valueOf x at next))
+value-within : (n m : ℕ) (x : Item) (at size next : ℕ) → Inside size x → at + size ≤ n → next + length (textOf x) ≤ m → Within n m (held (valueOf x at next))
 unfolding valueOf textOf
 value-within n m nothing at size next i h k = tt
-value-within n m (number x) at size next i h k = rw number-held tt
+value-within n m (number x) at size next i h k = rw (number-held x .1) tt
 value-within n m (boolean b) at size next i h k = tt
 value-within n m (part k from l) at size next i h j = rw part-held (part-ends l from at size n i h)
 value-within n m (text k t) at size next i h j = rw text-held (omega arith)
 
-value-length : (x : Item) (at next : ℕ) → heldText (heldBy (valueOf x at next)) ≡ length (textOf x)
+value-length : (x : Item) (at next : ℕ) → heldText (held (valueOf x at next)) ≡ length (textOf x)
 unfolding valueOf textOf
 value-length nothing at next = refl
-value-length (number x) at next = rw number-held
+value-length (number x) at next = rw (number-held x .1)
 value-length (boolean b) at next = refl
 value-length (part k from l) at next = rw part-held
 value-length (text k t) at next = rw text-held
@@ -163,12 +164,12 @@ module _ (L : Conversions) where
       go (part k from l) h = h .1
       go (text k t) h = tt
 
-  piece-within : (p : Piece) (n : ℕ) → Placed n p → (m next : ℕ) → next + length (textOf (pieceItem L p)) ≤ m → Within n m (heldBy (pieceValue L p next .value))
+  piece-within : (p : Piece) (n : ℕ) → Placed n p → (m next : ℕ) → next + length (textOf (pieceItem L p)) ≤ m → Within n m (held (pieceValue L p next .value))
   unfolding pieceItem pieceValue blankValue
   piece-within absent n h m next k = tt
   piece-within (present c at s) n h m next k = value-within n m (itemIn L c s) at (length s) next (item-inside c s) h k
 
-  piece-length : (p : Piece) (next : ℕ) → heldText (heldBy (pieceValue L p next .value)) ≡ length (textOf (pieceItem L p))
+  piece-length : (p : Piece) (next : ℕ) → heldText (held (pieceValue L p next .value)) ≡ length (textOf (pieceItem L p))
   unfolding pieceItem pieceValue blankValue textOf
   piece-length absent next = refl
   piece-length (present c at s) next = value-length (itemIn L c s) at next
@@ -196,7 +197,7 @@ append-within : (n m : ℕ) (vs ws : List ValuePlace) → AllWithin n m vs → A
 append-within n m [] ws h k = k
 append-within n m (v ∷ vs) ws h k = (h .0, append-within n m vs ws (h .1) k)
 
-at-within : (n m : ℕ) (vs : List ValuePlace) (i : ℕ) → AllWithin n m vs → Within n m (heldBy (getD vs i blankValue .value))
+at-within : (n m : ℕ) (vs : List ValuePlace) (i : ℕ) → AllWithin n m vs → Within n m (held (getD vs i blankValue .value))
 unfolding blankValue
 at-within n m [] i h = tt
 at-within n m (v ∷ vs) zero h = h .0
@@ -204,7 +205,7 @@ at-within n m (v ∷ vs) (suc i) h = at-within n m vs i (h .1)
 
 -- every place of the answer to pieces that lie in the first n bytes
 pub places-within : (L : Conversions) (n : ℕ) (ps : List Piece) → AllPlaced n ps
-    → (i : ℕ) → Within n (length (rowTexts L ps)) (heldBy (getD (filled blankValue (rowValues L ps 0)) i blankValue .value))
+    → (i : ℕ) → Within n (length (rowTexts L ps)) (held (getD (filled blankValue (rowValues L ps 0)) i blankValue .value))
 unfolding filled
 places-within L n ps h i =
     let m = length (rowTexts L ps) in
@@ -245,13 +246,13 @@ part-same : (p : Place) (n : ℕ) (s t : List ℕ) → Ends n p → take n t ≡
 part-same p n s t h e k =
     cut p n t h (reach n s t e k) ∙ ap (λ (l : List ℕ). take (p .len) (drop (p .start) l)) e ∙ sym (cut p n s h k)
 
-held-same : (v : Holder) (n m : ℕ) (s t x y : List ℕ) → Within n m v → take n t ≡ take n s → n ≤ length s → take m y ≡ take m x → m ≤ length x
+held-same : (v : Held) (n m : ℕ) (s t x y : List ℕ) → Within n m v → take n t ≡ take n s → n ≤ length s → take m y ≡ take m x → m ≤ length x
     → heldBytes v t y ≡ heldBytes v s x
-held-same nowhere n m s t x y h e k f l = refl
+held-same (bits b) n m s t x y h e k f l = refl
 held-same (row p) n m s t x y h e k f l = part-same p n s t h e k
 held-same (textBuffer p) n m s t x y h e k f l = part-same p m x y h f l
 
-pub value-same : (v : Db2Value) (n m : ℕ) (s t x y : List ℕ) → Within n m (heldBy v) → take n t ≡ take n s → n ≤ length s → take m y ≡ take m x → m ≤ length x
+pub value-same : (v : Db2Value) (n m : ℕ) (s t x y : List ℕ) → Within n m (held v) → take n t ≡ take n s → n ≤ length s → take m y ≡ take m x → m ≤ length x
     → valueBytes v t y ≡ valueBytes v s x
 unfolding valueBytes
-value-same v = held-same (heldBy v)
+value-same v = held-same (held v)

@@ -22,12 +22,13 @@ use Rattle.types.specs.declared.ReferenceLength.the-variants.{Absent, Width}
 use Rattle.types.specs.declared.ColumnDescriptor.{ColumnDescriptor}
 use Rattle.types.specs.declared.ValuePlace.{ValuePlace}
 use Rattle.types.specs.Places.{maxColumns, filled, blankValue}
+use Rattle.types.specs.Held.{held}
 use Rattle.buffer.specs.Buffer.{written}
 use Rattle.types.specs.Names.{bit8000, low15}
 use Rattle.rules.specs.Extent.{isReference, isShortReference, saysHeader}
 use Rattle.rules.specs.Meaning.{Item, nothing, number, boolean, part, text, Lob, blobs, clobs, xmls, clob, varChar, blob, allZero, isEmptyReference, headerBytes, isEmptyHeader, lobEmpty, headerItem, lobReference, lobInline, lobItem, varyingItem, lobBytesItem, lobCharItem, typeItem, itemIn}
 use Rattle.rules.specs.Walk.{columnNeed, Piece, absent, present, cellPiece, Walk, done, short, consPiece, walk, walkBody, walkRow, skipOf}
-use Rattle.rules.specs.Value.{heldBy, bytesAt}
+use Rattle.rules.specs.Value.{bytesAt}
 use Rattle.rules.specs.Row.{place, valueOf, textOf, pieceItem, pieceValue, rowValues, rowTexts, covered, answerOf, textAfter}
 use Rattle.rules.specs.Conversions.{ported, rowAnswer, rowText}
 use Rattle.rules.specs.Accepted.{HoldsUtf8, TextsUtf8}
@@ -257,22 +258,22 @@ text-there a t b =
     rw (le-leb (length a + length t) (length (a ++ (t ++ b))) (omega (arith, length-append a (t ++ b), length-append t b)), drop-at a (t ++ b) (length a) refl)
     (take-at t b (length t) refl)
 
-item-utf8 : (x : Item) (at : ℕ) (a b : List ℕ) → Fine x → HoldsUtf8 (heldBy (valueOf x at (length a))) (a ++ (textOf x ++ b))
+item-utf8 : (x : Item) (at : ℕ) (a b : List ℕ) → Fine x → HoldsUtf8 (held (valueOf x at (length a))) (a ++ (textOf x ++ b))
 unfolding valueOf textOf
 item-utf8 nothing at a b f = tt
-item-utf8 (number x) at a b f = rw number-held tt
+item-utf8 (number x) at a b f = rw (number-held x .1) tt
 item-utf8 (boolean x) at a b f = tt
 item-utf8 (part k from l) at a b f = rw part-held tt
 item-utf8 (text k t) at a b f = rw (text-held, text-there a t b) f
 
-piece-utf8 : (p : Piece) → PieceBytes p → (a b : List ℕ) → HoldsUtf8 (heldBy (pieceValue ported p (length a) .value)) (a ++ (textOf (pieceItem ported p) ++ b))
+piece-utf8 : (p : Piece) → PieceBytes p → (a b : List ℕ) → HoldsUtf8 (held (pieceValue ported p (length a) .value)) (a ++ (textOf (pieceItem ported p) ++ b))
 unfolding pieceItem pieceValue blankValue
 piece-utf8 absent h a b = tt
 piece-utf8 (present c at s) h a b = item-utf8 (itemIn ported c s) at a b (item-well-formed s h c)
 
 abbrev AllUtf8 : List ValuePlace → List ℕ → Type 0
 AllUtf8 [] d = Unit {0}
-AllUtf8 (v ∷ vs) d = HoldsUtf8 (heldBy (v .value)) d × AllUtf8 vs d
+AllUtf8 (v ∷ vs) d = HoldsUtf8 (held (v .value)) d × AllUtf8 vs d
 
 values-utf8 : (ps : List Piece) → AllBytes ps → (a b : List ℕ) → AllUtf8 (rowValues ported ps (length a)) (a ++ (rowTexts ported ps ++ b))
 unfolding rowValues rowTexts
@@ -294,7 +295,7 @@ append-utf8 : (vs ws : List ValuePlace) (d : List ℕ) → AllUtf8 vs d → AllU
 append-utf8 [] ws d h k = k
 append-utf8 (v ∷ vs) ws d h k = (h .0, append-utf8 vs ws d (h .1) k)
 
-at-utf8 : (vs : List ValuePlace) (d : List ℕ) (i : ℕ) → AllUtf8 vs d → HoldsUtf8 (heldBy (getD vs i blankValue .value)) d
+at-utf8 : (vs : List ValuePlace) (d : List ℕ) (i : ℕ) → AllUtf8 vs d → HoldsUtf8 (held (getD vs i blankValue .value)) d
 unfolding blankValue
 at-utf8 [] d i h = tt
 at-utf8 (v ∷ vs) d zero h = h .0

@@ -9,19 +9,20 @@ use Rattle.unicode.specs.Unicode.{utf8}
 use Rattle.unicode.specs.Laws.{WellFormed, Bytes}
 use Rattle.types.specs.declared.Columns.{Columns}
 use Rattle.types.specs.Places.{maxColumns, blankColumn, blankValue}
-use Rattle.rules.specs.Value.{Holder, nowhere, row, textBuffer, heldBy, bytesAt}
+use Rattle.types.specs.Held.{Held, bits, row, textBuffer, held}
+use Rattle.rules.specs.Value.{bytesAt}
 use Rattle.rules.specs.Row.{RowTold, covered}
 use Rattle.rules.specs.Sorts.{Allows}
 
 -- a value's place lies in the row s, or in the text buffer d
-abbrev pub Fits : Holder → List ℕ → List ℕ → Type 0
-Fits nowhere s d = Unit {0}
+abbrev pub Fits : Held → List ℕ → List ℕ → Type 0
+Fits (bits b) s d = Unit {0}
 Fits (row p) s d = p .start + p .len ≤ length s
 Fits (textBuffer p) s d = p .start + p .len ≤ length d
 
 -- a value's text, where it has one, is well-formed UTF-8 in the text buffer d
-abbrev pub HoldsUtf8 : Holder → List ℕ → Type 0
-HoldsUtf8 nowhere d = Unit {0}
+abbrev pub HoldsUtf8 : Held → List ℕ → Type 0
+HoldsUtf8 (bits b) d = Unit {0}
 HoldsUtf8 (row p) d = Unit {0}
 HoldsUtf8 (textBuffer p) d = WellFormed utf8 (bytesAt p d)
 
@@ -38,7 +39,7 @@ module _ (answer : Columns → List ℕ → List ℕ → RowTold) (after : Colum
   abbrev pub PlacesFit : Type 0
   PlacesFit =
       (columns : Columns) (s d : List ℕ) → answer columns s d .outcome ≡ accepted
-      → (i : ℕ) → Fits (heldBy (getD (answer columns s d .places) i blankValue .value)) s (after columns s d)
+      → (i : ℕ) → Fits (held (getD (answer columns s d .places) i blankValue .value)) s (after columns s d)
 
   -- "Every accepted value is Null or of a sort that its column's type allows", and Null only where the column is nullable or of type Null
   abbrev pub SortsAllowed : Type 0
@@ -50,4 +51,4 @@ module _ (answer : Columns → List ℕ → List ℕ → RowTold) (after : Colum
   abbrev pub TextsUtf8 : Type 0
   TextsUtf8 =
       (columns : Columns) (s d : List ℕ) → Bytes s → answer columns s d .outcome ≡ accepted
-      → (i : ℕ) → HoldsUtf8 (heldBy (getD (answer columns s d .places) i blankValue .value)) (after columns s d)
+      → (i : ℕ) → HoldsUtf8 (held (getD (answer columns s d .places) i blankValue .value)) (after columns s d)

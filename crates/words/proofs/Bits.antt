@@ -11,7 +11,7 @@ use lib.Ieee.{Float, Format, nan, inf, fin, up, down, eq, isNan, toBits}
 use mir.Syntax.{Width, w16, w32, w64}
 use mir.Val.{Fits, SFits, bits, hbits, toZ, ofZ}
 use mir.ValLaws.{pow-bits, toZ-pos, toZ-ofZ, half-full}
-use Rattle.words.specs.Values.{bitsOf}
+use Rattle.types.specs.Held.{floatBits}
 
 -- ---- -1 - z, of a negative z, is its distance from -1
 minus : (k : ℕ) → negsuc 0 -ℤ negsuc k ≡ pos k
@@ -96,12 +96,12 @@ module _ (f : Format) (x : Float) where
   pub no-nan : eq x x ≡ true → T (not (isNan x))
   no-nan h = subst (λ (t : Bool). T (not t)) (sym (same-no-nan x h)) tt
 
-  pub bits-of : eq x x ≡ true → toBits f x ≡ bitsOf f x
-  unfolding bitsOf
+  pub bits-of : eq x x ≡ true → toBits f x ≡ floatBits f x
+  unfolding floatBits
   bits-of h = sym (ap (λ (t : Bool). cond t 0 (toBits f x)) (same-no-nan x h))
 
-  pub bits-none : eq x x ≡ false → 0 ≡ bitsOf f x
-  unfolding bitsOf
+  pub bits-none : eq x x ≡ false → 0 ≡ floatBits f x
+  unfolding floatBits
   bits-none h = sym (ap (λ (t : Bool). cond t 0 (toBits f x)) (other-nan x h))
 
 -- ---- a number of 16 or of 32 bits has a place in 64

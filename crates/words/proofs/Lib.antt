@@ -5,3 +5,4 @@ mod Holding
 pub mod Bitwise
 pub mod Columns
 pub mod Packed
+pub mod Values

@@ -1,9 +1,9 @@
--- The words of values, one value more. Assumes nothing.
+-- The words of values: one value more, and those of one value. Assumes nothing.
 use mathlib.Core.Path.{_≡_, refl, sym, ap, _∙_}
 use mathlib.Core.List.{List, [], _∷_, _++_}
-use Prim.Native.Nat.{ℕ, suc, _+_, _*_, _≤_, _<_}
+use Prim.Native.Nat.{ℕ, zero, suc, _+_, _*_, _≤_, _<_}
 use native.Mathlib.Omega.{arith}
-use lib.ListN.{length, take, drop, set}
+use lib.ListN.{length, take, drop, set, getD}
 use lib.Seq.{drop-drop, sets, sets-eq, take-at, drop-at}
 use Rattle.types.specs.declared.ValuePlace.{ValuePlace}
 use Rattle.words.specs.Values.{kindWord, numberWord, lengthWord, packValues}
@@ -14,7 +14,7 @@ values-packed [] = refl
 values-packed (v ∷ vs) = let e = values-packed vs in omega (arith, e)
 
 -- the three words of a value
-abbrev three : ValuePlace → List ℕ
+abbrev pub three : ValuePlace → List ℕ
 three v = kindWord v ∷ numberWord (v .value) ∷ lengthWord (v .value) ∷ []
 
 more : (vs : List ValuePlace) (v : ValuePlace) → packValues (vs ++ (v ∷ [])) ≡ packValues vs ++ three v
@@ -35,3 +35,13 @@ stored-value vs v old words q e room w =
     let stored : sets words q (three v) ≡ take q words ++ three v ++ drop (q + 3) words = sets-eq (three v) words q room in
     rw (e1, e2) stored ∙ ap (λ (l : List ℕ). l ++ three v ++ drop (q + 3) words) front ∙ ap (λ (l : List ℕ). packValues vs ++ three v ++ l) back
     ∙ ap (λ (l : List ℕ). l ++ drop (q + 3) old) (sym (more vs v))
+
+-- the words from those of value k on
+pub packed-at : (vs : List ValuePlace) (k : ℕ) (blank : ValuePlace) (rest : List ℕ) → k < length vs
+    → drop (3 * k) (packValues vs ++ rest) ≡ three (getD vs k blank) ++ (packValues (drop (suc k) vs) ++ rest)
+unfolding packValues
+packed-at [] k blank rest h = absurd (omega arith)
+packed-at (v ∷ vs) zero blank rest h = refl
+packed-at (v ∷ vs) (suc k) blank rest h =
+    let e : 3 * suc k ≡ suc (suc (suc (3 * k))) = omega arith in
+    rw e (packed-at vs k blank rest (omega arith))

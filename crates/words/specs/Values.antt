@@ -1,13 +1,11 @@
 -- A value as three words of 64 bits: the layout of the row call for C and Rust. Assumes nothing.
 use Prim.Native.Nat.{ℕ, _+_, _*_, _^_}
-use mathlib.Core.Bool.{Bool, cond}
-use mathlib.Core.List.{List, [], _∷_, _++_}
-use lib.Ieee.{Float, Format, binary32, binary64, isNan, toBits}
-use mir.Syntax.{w64}
-use mir.Val.{ofZ}
+use mathlib.Core.Bool.{cond}
+use mathlib.Core.List.{List, [], _∷_}
 use Rattle.types.specs.declared.Db2Value.{Db2Value}
 use Rattle.types.specs.declared.Db2Value.the-variants as value
 use Rattle.types.specs.declared.ValuePlace.{ValuePlace}
+use Rattle.types.specs.Held.{Held, bits, row, textBuffer, held}
 
 -- the place of a value's variant in the enum
 abbrev pub sortWord : Db2Value → ℕ
@@ -32,59 +30,28 @@ sortWord (value.Timestamp p) = 17
 sortWord (value.Boolean b) = 18
 sortWord (value.Xml p) = 19
 
--- the bits of a float that is no NaN. A NaN has a variant of its own, which holds its bits: the 0 stands for no value of a row
-unfoldable pub bitsOf : Format → Float → ℕ
-bitsOf f x = cond (isNan x) 0 (toBits f x)
-
--- the number, a signed one by two's complement of 64 bits (mir.Val.ofZ), a float by its bits, a Boolean as 1 and 0; or where the place begins
-abbrev pub numberWord : Db2Value → ℕ
-numberWord value.Null = 0
-numberWord (value.SmallInt z) = ofZ w64 z
-numberWord (value.Integer z) = ofZ w64 z
-numberWord (value.BigInt z) = ofZ w64 z
-numberWord (value.Real x) = bitsOf binary32 x
-numberWord (value.RealNan n) = n
-numberWord (value.Double x) = bitsOf binary64 x
-numberWord (value.DoubleNan n) = n
-numberWord (value.Decimal p) = p .start
-numberWord (value.Char p) = p .start
-numberWord (value.VarChar p) = p .start
-numberWord (value.Binary p) = p .start
-numberWord (value.Blob p) = p .start
-numberWord (value.Clob p) = p .start
-numberWord (value.RowId p) = p .start
-numberWord (value.Date p) = p .start
-numberWord (value.Time p) = p .start
-numberWord (value.Timestamp p) = p .start
-numberWord (value.Boolean b) = cond b 1 0
-numberWord (value.Xml p) = p .start
+-- the number by its bits, or where the place begins
+abbrev pub heldNumber : Held → ℕ
+heldNumber (bits n) = n
+heldNumber (row p) = p .start
+heldNumber (textBuffer p) = p .start
 
 -- the length of the place, and 0 where there is none
-abbrev pub lengthWord : Db2Value → ℕ
-lengthWord value.Null = 0
-lengthWord (value.SmallInt z) = 0
-lengthWord (value.Integer z) = 0
-lengthWord (value.BigInt z) = 0
-lengthWord (value.Real x) = 0
-lengthWord (value.RealNan n) = 0
-lengthWord (value.Double x) = 0
-lengthWord (value.DoubleNan n) = 0
-lengthWord (value.Decimal p) = p .len
-lengthWord (value.Char p) = p .len
-lengthWord (value.VarChar p) = p .len
-lengthWord (value.Binary p) = p .len
-lengthWord (value.Blob p) = p .len
-lengthWord (value.Clob p) = p .len
-lengthWord (value.RowId p) = p .len
-lengthWord (value.Date p) = p .len
-lengthWord (value.Time p) = p .len
-lengthWord (value.Timestamp p) = p .len
-lengthWord (value.Boolean b) = 0
-lengthWord (value.Xml p) = p .len
+abbrev pub heldLength : Held → ℕ
+heldLength (bits n) = 0
+heldLength (row p) = p .len
+heldLength (textBuffer p) = p .len
 
 -- the first of the three words: bits 0 to 7 the place of the variant, bit 8 external, the others 0
 abbrev pub kindWord : ValuePlace → ℕ
 kindWord v = sortWord (v .value) + cond (v .external) 1 0 * 2 ^ 8
+
+-- the second and the third
+abbrev pub numberWord : Db2Value → ℕ
+numberWord v = heldNumber (held v)
+
+abbrev pub lengthWord : Db2Value → ℕ
+lengthWord v = heldLength (held v)
 
 -- the words of values, three for each, in order
 unfoldable pub packValues : List ValuePlace → List ℕ

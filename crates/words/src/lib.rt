@@ -1,9 +1,15 @@
 // Inner. Types, columns and values as plain words of 64 bits, for the calls of C and Rust: specs/Words.antt and specs/Values.antt have the
 // layout. It reads no description and no row.
+use numbers::double_of;
+use numbers::real_of;
+use numbers::signed16;
+use numbers::signed32;
+use numbers::signed64;
 use types::ByteOrder;
 use types::ColumnDescriptor;
 use types::Db2Type;
 use types::Db2Value;
+use types::Place;
 use types::ReferenceLength;
 use types::ValuePlace;
 ghost use mathlib.Core.Path.{_≡_};
@@ -14,9 +20,11 @@ ghost use lib.Ieee.{binary32, binary64};
 ghost use mir.Syntax.{w64};
 ghost use mir.Val.{ofZ};
 ghost use Rattle.types.specs.Names.{nameOf, ownNumbers};
+ghost use Rattle.types.specs.Held.{floatBits};
 ghost use Rattle.words.specs.Words.{packType, littleEndianBit, referenceBit, referenceWidth, firstWord, secondWord, typeNamed, toldType, readType};
 ghost use Rattle.words.specs.Reading.{orderNamed, referenceNamed, columnNamed, isColumn};
-ghost use Rattle.words.specs.Values.{sortWord, bitsOf, numberWord, lengthWord, kindWord};
+ghost use Rattle.words.specs.Values.{sortWord, numberWord, lengthWord, kindWord};
+ghost use Rattle.words.specs.ValueReading.{variantNamed, valueNamed};
 
 // The two words of a column.
 pub struct ColumnWords {
@@ -334,7 +342,7 @@ fn signed_bits(z: i64) -> u64
 }
 
 fn real_bits(x: f32) -> u32
-    ensures { λ r. ⌜ r ≡ bitsOf binary32 x ⌝ }
+    ensures { λ r. ⌜ r ≡ floatBits binary32 x ⌝ }
 {
     if x == x {
         return f32::to_bits(x);
@@ -343,7 +351,7 @@ fn real_bits(x: f32) -> u32
 }
 
 fn double_bits(x: f64) -> u64
-    ensures { λ r. ⌜ r ≡ bitsOf binary64 x ⌝ }
+    ensures { λ r. ⌜ r ≡ floatBits binary64 x ⌝ }
 {
     if x == x {
         return f64::to_bits(x);
@@ -441,4 +449,48 @@ pub fn value_words(place: ValuePlace) -> ValueWords
     let number = number_word(value);
     let len = length_word(value);
     ValueWords { kind, number, len }
+}
+
+// The value of the variant that has this place in the enum, by the second and the third of its words; Null where there is none.
+fn variant_named(sort: u8, number: u64, len: u64) -> Db2Value
+    ensures { λ r. ⌜ r ≡ variantNamed sort number len ⌝ }
+{
+    let p = Place {
+        start: number as usize,
+        len: len as usize,
+    };
+    match sort {
+        0 => Db2Value::Null,
+        1 => Db2Value::SmallInt(signed16((number % 0x1_0000) as u16)),
+        2 => Db2Value::Integer(signed32((number % 0x1_0000_0000) as u32)),
+        3 => Db2Value::BigInt(signed64(number)),
+        4 => real_of((number % 0x1_0000_0000) as u32),
+        5 => Db2Value::RealNan((number % 0x1_0000_0000) as u32),
+        6 => double_of(number),
+        7 => Db2Value::DoubleNan(number),
+        8 => Db2Value::Decimal(p),
+        9 => Db2Value::Char(p),
+        10 => Db2Value::VarChar(p),
+        11 => Db2Value::Binary(p),
+        12 => Db2Value::Blob(p),
+        13 => Db2Value::Clob(p),
+        14 => Db2Value::RowId(p),
+        15 => Db2Value::Date(p),
+        16 => Db2Value::Time(p),
+        17 => Db2Value::Timestamp(p),
+        18 => Db2Value::Boolean(number == 1),
+        19 => Db2Value::Xml(p),
+        _ => Db2Value::Null,
+    }
+}
+
+// The value that three words name, and whether it is external.
+pub fn value_named(kind: u64, number: u64, len: u64) -> ValuePlace
+    ensures { λ r. ⌜ r ≡ valueNamed kind number len ⌝ }
+{
+    let value = variant_named((kind % 0x100) as u8, number, len);
+    ValuePlace {
+        value,
+        external: kind / 0x100 % 2 == 1,
+    }
 }

@@ -115,7 +115,7 @@ returns-17 : tie.Need-returns-17
 returns-17 c = search needs
 
 returns-18 : tie.Need-returns-18
-returns-18 c = search needs
+returns-18 c = rw (c .before .value10 .given .1)
 
 returns-19 : tie.Need-returns-19
 returns-19 c = search needs

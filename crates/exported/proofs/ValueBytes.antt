@@ -1,0 +1,51 @@
+-- vejupa_value_bytes and value_bytes are one call: of the words of any value they show the same bytes. Assumes nothing.
+use Prim.Native.Nat.{ℕ, _%_, _≤_, _^_}
+use mathlib.Core.Path.{_≡_, refl}
+use mathlib.Core.List.{List, _++_}
+use native.Mathlib.Omega.{arith}
+use borrow.Author.Tests.{le-ltb}
+use lib.Ieee.{binary32, binary64}
+use lib.ListN.{length}
+use Rattle.types.specs.declared.Db2Value.{Db2Value}
+use Rattle.types.specs.declared.Db2Value.the-variants as value
+use Rattle.types.specs.declared.ValuePlace.{ValuePlace}
+use Rattle.types.specs.Held.{floatBits}
+use Rattle.numbers.specs.Number.{realOf, doubleOf}
+use Rattle.rules.specs.Value.{valueBytes}
+use Rattle.rules.proofs.Answers.{number-held}
+use Rattle.words.specs.Values.{sortWord, numberWord, lengthWord}
+use Rattle.words.specs.ValueReading.{variantNamed, valueNamed}
+use Rattle.words.proofs.Packed.{three}
+use Rattle.words.proofs.Values.{sort-named}
+use Rattle.exported.specs.Rows.{wordsBytes}
+
+-- what the words of a value name has the value's bytes, also where its number is out of range: a number has none
+variant-bytes : (v : Db2Value) (s d : List ℕ) → valueBytes (variantNamed (sortWord v) (numberWord v) (lengthWord v)) s d ≡ valueBytes v s d
+unfolding valueBytes variantNamed
+variant-bytes value.Null s d = refl
+variant-bytes (value.SmallInt z) s d = refl
+variant-bytes (value.Integer z) s d = refl
+variant-bytes (value.BigInt z) s d = refl
+variant-bytes (value.Real x) s d = rw (number-held (realOf (floatBits binary32 x % 2 ^ 32)) .1)
+variant-bytes (value.RealNan n) s d = refl
+variant-bytes (value.Double x) s d = rw (number-held (doubleOf (floatBits binary64 x)) .1)
+variant-bytes (value.DoubleNan n) s d = refl
+variant-bytes (value.Decimal p) s d = refl
+variant-bytes (value.Char p) s d = refl
+variant-bytes (value.VarChar p) s d = refl
+variant-bytes (value.Binary p) s d = refl
+variant-bytes (value.Blob p) s d = refl
+variant-bytes (value.Clob p) s d = refl
+variant-bytes (value.RowId p) s d = refl
+variant-bytes (value.Date p) s d = refl
+variant-bytes (value.Time p) s d = refl
+variant-bytes (value.Timestamp p) s d = refl
+variant-bytes (value.Boolean b) s d = refl
+variant-bytes (value.Xml p) s d = refl
+
+-- the words of a value, and any words behind them
+pub three-bytes : (v : ValuePlace) (rest s d : List ℕ) → wordsBytes (three v ++ rest) s d ≡ valueBytes (v .value) s d
+unfolding wordsBytes valueNamed
+three-bytes v rest s d =
+    let enough : 3 ≤ length (three v ++ rest) = omega arith in
+    rw (le-ltb (length (three v ++ rest)) 3 enough, sort-named v) (variant-bytes (v .value) s d)

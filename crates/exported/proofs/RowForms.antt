@@ -2,11 +2,12 @@
 -- their places. Assumes nothing.
 use Prim.Native.Nat.{ℕ, suc, _+_, _-_, _*_, _/_, _≤_, _<_}
 use mathlib.Core.Path.{_≡_, refl, sym, ap, _∙_}
-use mathlib.Core.Bool.{true, cond, false≢true}
+use mathlib.Core.Bool.{Bool, true, false, cond, false≢true}
 use mathlib.Core.List.{List, [], _∷_, _++_}
 use mathlib.Core.Option.{Option, some}
 use native.Mathlib.Omega.{arith}
-use borrow.Author.Tests.{le-ltb}
+use borrow.Author.Tests.{le-ltb, ltb-false}
+use lib.Dec.{ltb}
 use lib.ListN.{length, take, drop, getD, replicate}
 use lib.Seq.{take-at, length-take-le, getD-take}
 use Rattle.refusal.specs.Refusal.{Told, accepted, refused, number}
@@ -17,11 +18,14 @@ use Rattle.types.specs.Places.{maxColumns, filled, blankValue, columnList}
 use Rattle.rules.specs.Walk.{columnNeed, Piece, cellPiece, Walk, done, short, consPiece, walk, walkBody, walkRow, skipOf}
 use Rattle.rules.specs.Row.{RowTold, Decision, refusal, acceptance, covered, rowValues, rowDecision, answerOf, textAfter}
 use Rattle.rules.specs.Conversions.{ported, rowAnswer, rowText}
-use Rattle.rules.specs.Value.{valueBytes}
 use Rattle.rules.proofs.Walks.{isDone, piecesOf, walk-step, walk-first}
 use Rattle.rules.proofs.Demand3.{facts}
 use Rattle.rules.proofs.Progress.{values-length}
 use Rattle.rules.proofs.Accepted.{all-places}
+use Rattle.triplets.specs.Descriptors.{columnsOf}
+use Rattle.qrydsc.specs.Qrydsc.{numbered, DescriptionTold, refusal as refusedDescription, listed, maxQrydsc, description}
+use Rattle.qrydsc.proofs.Lists.{length-numbered}
+use Rattle.description_words.proofs.Fitting.{Bytes, description-fits}
 use Rattle.words.specs.Words.{packColumns}
 use Rattle.words.specs.Reading.{readColumns}
 use Rattle.words.specs.Values.{packValues}
@@ -29,13 +33,20 @@ use Rattle.words.proofs.Columns.{AllFit, reads-columns, packed-length}
 use Rattle.words.proofs.Packed.{three, packed-at}
 use Rattle.row_words.specs.Rows.{valuesAfter}
 use Rattle.exported.proofs.RowCall.{covered-list}
-use Rattle.exported.specs.Rows.{decisionFor, wordsDecision, rowNumber, wordsBytes}
+use Rattle.rules.specs.Value.{valueBytes, textsTogether}
+use Rattle.rules.proofs.Answers.{filled-together}
+use Rattle.exported.specs.Rows.{decisionFor, wordsDecision, rowNumber, rowFirst, rowSecond, wordsBytes}
 use Rattle.exported.proofs.ValueBytes.{three-bytes}
 
 -- the lent words v after an answer: of an accepted row the words of its values lie over the first
 abbrev pub valuesBy : Told → List ValuePlace → List ℕ → List ℕ
 valuesBy accepted values v = written (packValues values) v
 valuesBy (refused n vs) values v = v
+
+-- a number beside an answer: of an accepted row n, of a refusal its value at a place, and 0 where it has none
+abbrev pub besideAnswer : ℕ → Told → ℕ → ℕ
+besideAnswer place accepted n = n
+besideAnswer place (refused k vs) n = getD vs place 0
 
 -- ---- an accepted row has a value for each column
 
@@ -81,6 +92,25 @@ module _ (cs : List ColumnDescriptor) (fit : AllFit cs) (few : length cs ≤ max
   unfolding rowAnswer
   same-number = rw same-decision (told-number (rowDecision ported (columnList cs) s d))
 
+  told-first : (e : Decision) → rowFirst e ≡ besideAnswer 0 (answerOf ported e .outcome) (answerOf ported e .used)
+  unfolding answerOf
+  told-first (refusal n vs) = refl
+  told-first (acceptance ps n) = refl
+
+  told-second : (e : Decision) → rowSecond e ≡ besideAnswer 1 (answerOf ported e .outcome) (textsTogether (answerOf ported e .places))
+  unfolding answerOf
+  told-second (refusal n vs) = refl
+  told-second (acceptance ps n) = sym (filled-together ported ps)
+
+  -- the first number beside it is decode_row's bytes used, the second the length of the texts that it hands out; of a refusal they are its values
+  pub same-first : rowFirst (wordsDecision (packColumns cs) s v d) ≡ besideAnswer 0 (rowAnswer (columnList cs) s d .outcome) (rowAnswer (columnList cs) s d .used)
+  unfolding rowAnswer
+  same-first = rw same-decision (told-first (rowDecision ported (columnList cs) s d))
+
+  pub same-second : rowSecond (wordsDecision (packColumns cs) s v d) ≡ besideAnswer 1 (rowAnswer (columnList cs) s d .outcome) (textsTogether (rowAnswer (columnList cs) s d .places))
+  unfolding rowAnswer
+  same-second = rw same-decision (told-second (rowDecision ported (columnList cs) s d))
+
   -- the text buffer is left as decode_row leaves it
   pub same-text : textAfter ported (wordsDecision (packColumns cs) s v d) d ≡ rowText (columnList cs) s d
   unfolding rowText
@@ -105,3 +135,30 @@ module _ (cs : List ColumnDescriptor) (fit : AllFit cs) (few : length cs ≤ max
       let all : length vs ≡ length cs = length-take-le (length cs) places n in
       let words : valuesAfter (wordsDecision (packColumns cs) s v d) v ≡ written (packValues vs) v = same-values ∙ ap (λ (o : Told). valuesBy o vs v) e in
       rw (words, packed-at vs k blankValue (drop (length (packValues vs)) v) (omega arith), three-bytes, getD-take (length cs) places k blankValue h)
+
+-- ---- from a description to a row: the words that vejupa_parse_qrydsc writes are taken by vejupa_decode_row as the columns that parse_qrydsc hands out, never as none
+
+module _ (s v d : List ℕ) where
+  abbrev Taken : DescriptionTold → Type 0
+  Taken r = r .outcome ≡ accepted → 3 * r .columns .count ≤ length v → wordsDecision (packColumns (covered (r .columns))) s v d ≡ rowDecision ported (r .columns) s d
+
+  listed-taken : (q : List ℕ) → Bytes q → Taken (listed (columnsOf q))
+  unfolding listed columnList
+  listed-taken q h = go (ltb maxColumns (length (columnsOf q))) refl
+    where
+      go : (b : Bool) → ltb maxColumns (length (columnsOf q)) ≡ b
+          → Taken (cond b (refusedDescription 2 []) (record { outcome = accepted; columns = columnList (numbered 0 (columnsOf q)) }))
+      go true e a room = absurd (let o : _≡_ {A = ℕ} 0 1 = cc in omega arith)
+      go false e a room =
+          let cs = numbered 0 (columnsOf q) in
+          let few = ltb-false maxColumns (length (columnsOf q)) e in
+          let n = length-numbered 0 (columnsOf q) in
+          rw (covered-list cs) (same-decision cs (description-fits q h (omega arith)) (omega (arith, n, few)) s v d room)
+
+  pub described-row : (q : List ℕ) → Bytes q → Taken (description q)
+  unfolding description
+  described-row q h = go (ltb maxQrydsc (length q)) (listed-taken q h)
+    where
+      go : (b : Bool) → Taken (listed (columnsOf q)) → Taken (cond b (refusedDescription 1 []) (listed (columnsOf q)))
+      go true t a room = absurd (let o : _≡_ {A = ℕ} 0 1 = cc in omega arith)
+      go false t a room = t a room

@@ -30,7 +30,7 @@ use Rattle.rules.specs.Walk.{columnNeed, Piece, absent, present, cellPie
 use Rattle.rules.specs.Row.{Decision, refusal, acceptance, covered, partValue, textValue, valueOf, textOf, pieceItem, pieceValue, rowValues, rowTexts, anyDecFloat, rowDecision, answerOf, textAfter, answerWith, textWith}
 use Rattle.rules.specs.Conversions.{ported, rowAnswer, rowText}
 use Rattle.rules.specs.Sorts.{Sort, sortOf, sortsOf, Among, AllowsSort, Allows}
-use Rattle.rules.specs.Accepted.{Fits, AllPlaces, SameLength, PlacesFit, SortsAllowed}
+use Rattle.rules.specs.Accepted.{Fits, AllPlaces, SameLength, UsedFits, PlacesFit, SortsAllowed}
 use Rattle.rules.proofs.Tests.{or-left, or-right}
 use Rattle.rules.proofs.Walks.{isDone, usedOf, piecesOf, walk-step, walk-first, walk-rest}
 use Rattle.rules.proofs.Rows.{row-used}
@@ -243,7 +243,22 @@ module _ (L : Conversions) (ns : Numbers L NumberSort) where
       (walk-allowed (skipOf s) cs (f .plain) (skipOf s) (drop (skipOf s) s) (f .over) 0)
       l)
 
+-- ---- the bytes used
+
+used-fit : (L : Conversions) (columns : Columns) (s d : List ℕ) (x : Decision) → rowDecision L columns s d ≡ x → answerOf L x .used ≤ length s
+unfolding answerOf
+used-fit L columns s d (refusal n vs) e = omega arith
+used-fit L columns s d (acceptance ps n) e =
+    let f = facts L columns s d (ap (λ (x : Decision). answerOf L x .outcome) e) in
+    let same : n ≡ usedOf (walkRow (covered columns) s) = let decided = f .decided in cc in
+    let b = row-used (covered columns) s (f .over) in
+    omega (arith, same, b .1)
+
 -- of the row call
+pub used-fits : UsedFits rowAnswer rowText
+unfolding rowAnswer
+used-fits columns s d = used-fit ported columns s d (rowDecision ported columns s d) refl
+
 pub all-places : AllPlaces rowAnswer rowText
 unfolding rowAnswer
 all-places columns s d = places-count ported columns s d (rowDecision ported columns s d) refl

@@ -108,7 +108,7 @@ AllWithin n m [] = Unit {0}
 AllWithin n m (v ∷ vs) = Within n m (held (v .value)) × AllWithin n m vs
 
 -- an item's part lies in the value's n bytes
-abbrev Inside : ℕ → Item → Type 0
+abbrev pub Inside : ℕ → Item → Type 0
 Inside n nothing = Unit {0}
 Inside n (number x) = Unit {0}
 Inside n (boolean b) = Unit {0}
@@ -153,7 +153,7 @@ any-number : (L : Conversions) → Numbers L (λ t x. Unit {0})
 any-number L = record { ofSmallInt = λ c s. tt; ofInteger = λ c s. tt; ofBigInt = λ c s. tt; ofReal = λ c s. tt; ofDouble = λ c s. tt }
 
 module _ (L : Conversions) where
-  item-inside : (c : ColumnDescriptor) (s : List ℕ) → Inside (length s) (itemIn L c s)
+  pub item-inside : (c : ColumnDescriptor) (s : List ℕ) → Inside (length s) (itemIn L c s)
   unfolding itemIn
   item-inside c s = go (itemIn L c s) (item-of L (λ t x. Unit {0}) (any-number L) (c .«db2_type») c s)
     where

@@ -11,3 +11,4 @@ pub mod Exceptions
 pub mod Example
 pub mod Utf8Texts
 pub mod FixedLengths
+pub mod Shown

@@ -252,7 +252,7 @@ walk-bytes start (c ∷ cs) at s h d =
     (cons-bytes (cellPiece (c .nullable) c at (take k s)) (walk start cs (at + k) (drop k s)) (piece-bytes (c .nullable) c at (take k s) (bytes-take k s h)) ih)
 
 -- a text stands where its value says, behind the texts a
-text-there : (a t b : List ℕ) → bytesAt (place (length a) (length t)) (a ++ (t ++ b)) ≡ t
+pub text-there : (a t b : List ℕ) → bytesAt (place (length a) (length t)) (a ++ (t ++ b)) ≡ t
 unfolding bytesAt
 text-there a t b =
     rw (le-leb (length a + length t) (length (a ++ (t ++ b))) (omega (arith, length-append a (t ++ b), length-append t b)), drop-at a (t ++ b) (length a) refl)

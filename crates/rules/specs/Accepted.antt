@@ -35,6 +35,10 @@ module _ (answer : Columns → List ℕ → List ℕ → RowTold) (after : Colum
   abbrev pub SameLength : Type 0
   SameLength = (columns : Columns) (s d : List ℕ) → length (after columns s d) ≡ length d
 
+  -- the bytes used are bytes of the input; a refusal uses none
+  abbrev pub UsedFits : Type 0
+  UsedFits = (columns : Columns) (s d : List ℕ) → answer columns s d .used ≤ length s
+
   -- in an accepted answer every place fits
   abbrev pub PlacesFit : Type 0
   PlacesFit =

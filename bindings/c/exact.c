@@ -28,12 +28,15 @@ static int digit(char c) {
     return at == NULL ? -1 : (int)(at - digits);
 }
 
-/* The bytes of a field in hexadecimal; `-` is none. */
+/* The bytes of a field in hexadecimal, `-` for none, or of one byte many times, as 00*1048577. */
 static struct slice bytes_of(const char *field) {
-    struct slice s = {NULL, strcmp(field, "-") == 0 ? 0 : strlen(field) / 2};
+    const char *star = strchr(field, '*');
+    size_t written = strcmp(field, "-") == 0 ? 0 : strlen(field) / 2;
+    struct slice s = {NULL, star == NULL ? written : (size_t)strtoul(star + 1, NULL, 10)};
     s.start = exactly(s.length);
     for (size_t i = 0; i < s.length; i++) {
-        s.start[i] = (uint8_t)(16 * digit(field[2 * i]) + digit(field[2 * i + 1]));
+        const char *pair = star == NULL ? field + 2 * i : field;
+        s.start[i] = (uint8_t)(16 * digit(pair[0]) + digit(pair[1]));
     }
     return s;
 }

@@ -6,6 +6,7 @@ use lines::bytes;
 use lines::find;
 use lines::number;
 use lines::part;
+use lines::part_start;
 use lines::place::NOWHERE;
 use lines::place::decimal_at;
 use lines::place::hex_at;
@@ -22,6 +23,9 @@ ghost use Prim.Native.Nat.{_<_, _≤_};
 
 // How many types there are: their tags are below.
 const TYPES: u64 = 29;
+
+// The largest number of columns that a line may say.
+const MOST_COLUMNS: usize = 65535;
 
 // A name and a number, parted by a point.
 fn numbered_at(line: &[u8], at: usize, name: &[u8], n: u16) -> usize {
@@ -154,15 +158,25 @@ pub fn column_at(line: &[u8], at: usize, c: ColumnDescriptor) -> usize {
     order_at(line, p, order)
 }
 
-// The number of columns, and each behind a space; a column's number is its place.
-pub fn columns_at(line: &[u8], at: usize, columns: Columns) -> usize {
-    let count = columns.count;
-    if MAX_COLUMNS < count {
+// So many more columns, each behind a space. A list has no places for them, so they are passed over.
+fn more_columns_at(line: &[u8], at: usize, count: usize) -> usize {
+    if line.len() < at {
         return NOWHERE;
     }
+    let last = part_start(&line[at..], count, b' ');
+    at + find(&line[at..], last, b' ')
+}
+
+// The number of columns, and each behind a space; a column's number is its place. A count above 128, for which the row call has a refusal, says more
+// columns than a list has places for.
+pub fn columns_at(line: &[u8], at: usize, columns: Columns) -> usize {
+    let count = columns.count;
     let mut p = decimal_at(line, at, count as u64);
     let mut i: usize = 0;
     while i < count {
+        if MAX_COLUMNS <= i {
+            return more_columns_at(line, p, count - i);
+        }
         let column = columns.columns[i];
         if column.column_index as usize != i {
             return NOWHERE;
@@ -229,14 +243,17 @@ fn named_type_of(s: &[u8]) -> Db2Type {
     }
 }
 
-// The columns that stand in a line from its field 2 on, as many as field 1 says: columns_at tells whether they do.
+// The columns that stand in a line from its field 2 on, as many as field 1 says and a list has places for: columns_at tells whether they do.
 pub fn columns_of(line: &[u8]) -> Columns {
-    let r = number(lines::field(line, 1), MAX_COLUMNS);
+    let r = number(lines::field(line, 1), MOST_COLUMNS);
     let count = r.value;
     let blank = column_of(b"", 0);
     let mut columns = [blank; MAX_COLUMNS];
     let mut i: usize = 0;
     while i < count {
+        if MAX_COLUMNS <= i {
+            return Columns { columns, count };
+        }
         columns[i] = column_of(lines::field(line, i + 2), i as u8);
         i += 1;
     }

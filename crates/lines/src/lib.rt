@@ -1,13 +1,16 @@
-// Inner. The parts of a line of the list of stored answers: fields parted by one space, decimal numbers, bytes in upper-case hexadecimal; and, in
-// `place`, what stands at a place of a line. It knows no kind of line.
+// Inner. The parts of a line of the list of stored answers: fields parted by one space, decimal numbers, bytes in upper-case hexadecimal, one byte many
+// times; and, in `place`, what stands at a place of a line. It knows no kind of line.
 pub mod place;
 
 ghost use mathlib.Core.Path.{_≡_};
 ghost use mathlib.Core.Bool.{true, false};
 ghost use Prim.Native.Nat.{ℕ, _+_, _/_, _%_, _<_, _≤_};
-ghost use lib.ListN.{length, getD, take};
+ghost use lib.ListN.{length, getD, take, replicate};
 ghost use Rattle.conversion.specs.Hex.{hexDigit, hexText};
 ghost use Rattle.lines.specs.Lines.{bytesField};
+
+// More bytes than this are not written as one byte many times.
+const MOST_TIMES: usize = 4294967295;
 
 // What was read: whether the text has the form asked for, and the number or the count of bytes, 0 where it has not.
 pub struct Read {
@@ -230,5 +233,46 @@ fn hex_bytes(s: &[u8], out: &mut [u8]) -> Read
     Read {
         valid: true,
         value: n,
+    }
+}
+
+// The bytes of a field that may also write one byte many times, as `00*1048577`.
+pub fn bytes_or_repeated(s: &[u8], out: &mut [u8]) -> Read
+    ensures { λ r. ⌜ r .value ≤ length (now (out .exit)) ⌝ }
+{
+    let star = find(s, 0, b'*');
+    if star == s.len() {
+        return bytes(s, out);
+    }
+    repeated(&s[0..star], &s[star + 1..], out)
+}
+
+// The byte that two digits write, so many times.
+fn repeated(digits: &[u8], times: &[u8], out: &mut [u8]) -> Read
+    ensures fits { λ r. ⌜ r .value ≤ length (now (out .exit)) ⌝ }
+{
+    if digits.len() != 2 {
+        return unread();
+    }
+    let b = hex_pair(digits[0], digits[1]);
+    if b > 255 {
+        return unread();
+    }
+    let r = number(times, MOST_TIMES);
+    let n = r.value;
+    if out.len() < n {
+        return unread();
+    }
+    fill(&mut out[0..n], b as u8);
+    r
+}
+
+pub fn fill(out: &mut [u8], b: u8)
+    ensures { λ _. ⌜ now (out .exit) ≡ replicate (length (now (out .entry))) b ⌝ }
+{
+    let mut i = 0;
+    while i < out.len() {
+        out[i] = b;
+        i += 1;
     }
 }

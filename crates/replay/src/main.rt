@@ -10,8 +10,10 @@ use buffer::TextAnswer;
 use check::same;
 use lines::answer_start;
 use lines::bytes;
+use lines::bytes_or_repeated;
 use lines::field;
 use lines::field_count;
+use lines::fill;
 use lines::find;
 use lines::number;
 use lines::part_start;
@@ -25,12 +27,16 @@ use words::TypeRead;
 ghost use Prim.Native.Nat.{_≤_};
 ghost use lib.ListN.{length};
 
-// The most bytes of a line, its end included. The bytes of a field are half as many, and a text three times those and 14, or a decimal's 258.
+// The most bytes of a line, its end included. The bytes of a field that writes them out are half as many, and a text three times those and 14, or a
+// decimal's 258.
 const LINE: usize = 32768;
 
 const BYTES: usize = 16384;
 
 const TEXT: usize = 49424;
+
+// The most bytes of a request, as a field that writes one byte many times may ask for: one more than a row may have.
+const DATA: usize = 1048577;
 
 // What no text holds: UTF-8 has no such byte.
 const FILL: u8 = 0xFF;
@@ -93,14 +99,6 @@ fn make(call: Call, data: &[u8], text: &mut [u8]) -> TextAnswer {
     }
 }
 
-fn fill(text: &mut [u8]) {
-    let mut i = 0;
-    while i < text.len() {
-        text[i] = FILL;
-        i += 1;
-    }
-}
-
 fn is_filled(text: &[u8]) -> bool {
     let mut i = 0;
     while i < text.len() {
@@ -114,7 +112,7 @@ fn is_filled(text: &[u8]) -> bool {
 
 // Whether the call writes `want` at the beginning of the buffer and no byte after it.
 fn writes(call: Call, data: &[u8], want: &[u8], text: &mut [u8]) -> bool {
-    fill(text);
+    fill(text, FILL);
     let a = make(call, data, text);
     let outcome = a.outcome;
     let n = a.written;
@@ -132,7 +130,7 @@ fn writes(call: Call, data: &[u8], want: &[u8], text: &mut [u8]) -> bool {
 
 // Whether the call refuses with this number and this value and writes nothing.
 fn refuses(call: Call, data: &[u8], refusal: u32, value: usize, text: &mut [u8]) -> bool {
-    fill(text);
+    fill(text, FILL);
     let a = make(call, data, text);
     let outcome = a.outcome;
     if a.written != 0 {
@@ -208,7 +206,7 @@ fn text_line(
     let Asked::For(call) = asks_for(kind, request) else {
         return Verdict::NoRequest;
     };
-    let d = bytes(field(request, 2), data);
+    let d = bytes_or_repeated(field(request, 2), data);
     let n = d.value;
     if !d.valid {
         return Verdict::NoRequest;
@@ -220,7 +218,7 @@ fn likely_line(request: &[u8], answer: &[u8], data: &mut [u8]) -> Verdict {
     if field_count(request) != 2 {
         return Verdict::NoRequest;
     }
-    let d = bytes(field(request, 1), data);
+    let d = bytes_or_repeated(field(request, 1), data);
     let n = d.value;
     if !d.valid {
         return Verdict::NoRequest;
@@ -246,7 +244,7 @@ fn length_line(request: &[u8], answer: &[u8]) -> Verdict {
 
 // Whether the row call answers so, with a text buffer of this length: then every byte of it is a text's, or none is changed.
 fn decodes(columns: Columns, row: &[u8], answer: &[u8], want: &mut [u8], text: &mut [u8]) -> bool {
-    fill(text);
+    fill(text, FILL);
     let count = columns.count;
     let a = decode_row(row, columns, text);
     let outcome = a.outcome;
@@ -261,7 +259,7 @@ fn decodes(columns: Columns, row: &[u8], answer: &[u8], want: &mut [u8], text: &
 
 // Whether the row call refuses for want of text space, with this length, and writes nothing.
 fn lacks_space(columns: Columns, row: &[u8], needed: usize, text: &mut [u8]) -> bool {
-    fill(text);
+    fill(text, FILL);
     let a = decode_row(row, columns, text);
     let outcome = a.outcome;
     if outcome.number() != 9 {
@@ -278,7 +276,7 @@ fn leaves_rest(columns: Columns, row: &[u8], written: usize, text: &mut [u8]) ->
     if text.len() < written {
         return false;
     }
-    fill(text);
+    fill(text, FILL);
     let a = decode_row(row, columns, text);
     let outcome = a.outcome;
     if outcome.number() == 0 {
@@ -326,7 +324,7 @@ fn row_line(
     if request.len() < at {
         return Verdict::NoRequest;
     }
-    let d = bytes(field(&request[at..], 0), data);
+    let d = bytes_or_repeated(field(&request[at..], 0), data);
     let n = d.value;
     if !d.valid {
         return Verdict::NoRequest;
@@ -351,7 +349,7 @@ fn description_line(
     if !same(field(request, 2), b"R") {
         return Verdict::NoRequest;
     }
-    let d = bytes(field(request, 1), data);
+    let d = bytes_or_repeated(field(request, 1), data);
     let n = d.value;
     if !d.valid {
         return Verdict::NoRequest;
@@ -570,7 +568,7 @@ fn replay(list: &mut [u8], data: &mut [u8], want: &mut [u8], text: &mut [u8]) {
 
 fn main() {
     let mut list = [0u8; LINE];
-    let mut data = [0u8; BYTES];
+    let mut data = [0u8; DATA];
     let mut want = [0u8; BYTES];
     let mut text = [0u8; TEXT];
     replay(&mut list, &mut data, &mut want, &mut text);

@@ -1,5 +1,5 @@
 //! Requests and answers, line by line. A line is a request, or a request with an answer behind ` A `, which is dropped, and with
-//! it the columns of a `Q` line.
+//! it the columns of a `Q` line. A request may write one byte many times, as `00*1048577`; answers never do.
 use crate::leaf::{Answer, Leaf, PRECISION};
 use port::column::{Column, Name, Numbers, Order, Type, NAMES};
 use std::fmt;
@@ -43,8 +43,8 @@ pub fn parse(line: &str) -> Result<Request, String> {
         ["L", data] => call(Leaf::Likely, data),
         ["P", scale, data] => call(Leaf::decimal(number(scale)?), data),
         ["Q", data, "R", row] => Ok(Request::Description {
-            data: bytes(data)?,
-            row: bytes(row)?,
+            data: bytes_or_repeated(data)?,
+            row: bytes_or_repeated(row)?,
         }),
         ["H", count, ref columns @ .., "R", data] if number::<usize>(count)? == columns.len() => {
             let columns: Result<Vec<Column>, String> = columns
@@ -54,7 +54,7 @@ pub fn parse(line: &str) -> Result<Request, String> {
                 .collect();
             Ok(Request::Row {
                 columns: columns?,
-                data: bytes(data)?,
+                data: bytes_or_repeated(data)?,
             })
         }
         ["F", asked] => Ok(Request::FixedLength(type_of(asked)?)),
@@ -66,7 +66,7 @@ pub fn parse(line: &str) -> Result<Request, String> {
 }
 
 /// The part of a line that is the request.
-fn asked(line: &str) -> &str {
+pub fn asked(line: &str) -> &str {
     let before = |text: &'static str, line| str::split(line, text).next().unwrap_or(line);
     let asked = before(" A ", line);
     if asked.starts_with("Q ") {
@@ -77,7 +77,7 @@ fn asked(line: &str) -> &str {
 }
 
 fn call(leaf: Leaf, data: &str) -> Result<Request, String> {
-    let data = bytes(data)?;
+    let data = bytes_or_repeated(data)?;
     Ok(Request::Leaf(Call { leaf, data }))
 }
 
@@ -140,6 +140,20 @@ fn number<N: std::str::FromStr + fmt::Display>(field: &str) -> Result<N, String>
     match field.parse::<N>() {
         Ok(value) if value.to_string() == field => Ok(value),
         _ => Err(format!("no number, or too large: {}", cut(field))),
+    }
+}
+
+/// The most bytes that a field writes as one byte many times.
+const MOST_TIMES: usize = 2 << 20;
+
+/// The bytes of a field, written out, or one byte and how often it stands there.
+fn bytes_or_repeated(field: &str) -> Result<Vec<u8>, String> {
+    let Some((byte, times)) = field.split_once('*') else {
+        return bytes(field);
+    };
+    match (&bytes(byte)?[..], number(times)?) {
+        (&[byte], times @ 0..=MOST_TIMES) => Ok(vec![byte; times]),
+        _ => Err(format!("no byte many times: {}", cut(field))),
     }
 }
 
@@ -291,6 +305,19 @@ mod tests {
     }
 
     #[test]
+    fn one_byte_many_times_is_written_short() {
+        for (short, long) in [
+            ("T 37 C1*3 A 414141", "T 37 C1C1C1"),
+            ("L 0A*0", "L -"),
+            ("P 2 00*1", "P 2 00"),
+            ("Q FF*2 R 00*4", "Q FFFF R 00000000"),
+            ("H 0 R 1C*2", "H 0 R 1C1C"),
+        ] {
+            assert_eq!(parse(short).unwrap().to_string(), long);
+        }
+    }
+
+    #[test]
     fn other_lines_are_no_requests() {
         for line in [
             "",
@@ -301,6 +328,15 @@ mod tests {
             "T 1208 c1",
             "T 1208 C",
             "T 1208 C14",
+            "T 1208 C1*",
+            "T 1208 *3",
+            "T 1208 -*3",
+            "T 1208 C1C1*3",
+            "T 1208 C1*03",
+            "T 1208 C1*3*3",
+            "T 1208 C1*2097153",
+            "T 1208*2 C1",
+            "H 1 Xml:DC*1:0:0:0:0:0:-:L R -",
             "T 65536 C1",
             "T -1 C1",
             "T +37 C1",

@@ -94,7 +94,8 @@ fn answer_lines(mut answer: impl FnMut(&Request) -> String) -> Result<(), String
         let at = |message: String| format!("line {number} is no request: {message}");
         let line = line.map_err(|error| at(error.to_string()))?;
         let request = request::parse(&line).map_err(at)?;
-        writeln!(out, "{request} {}", answer(&request)).map_err(|error| error.to_string())
+        let asked = request::asked(&line);
+        writeln!(out, "{asked} {}", answer(&request)).map_err(|error| error.to_string())
     });
     let flushed = out.flush().map_err(|error| error.to_string());
     answered.and(flushed)

@@ -93,7 +93,7 @@ part-shown s b at from (suc n) h i =
 item-shown : (x : Item) (at : ℕ) (s b a z : List ℕ) → StandsAt s at b → Inside (length b) x → valueBytes (valueOf x at (length a)) s (a ++ (textOf x ++ z)) ≡ shownOf x b
 unfolding valueBytes valueOf textOf
 item-shown nothing at s b a z h i = refl
-item-shown (number x) at s b a z h i = rw number-held
+item-shown (number x) at s b a z h i = rw (number-held x .1)
 item-shown (boolean t) at s b a z h i = refl
 item-shown (part k from n) at s b a z h i = rw part-held (part-shown s b at from n h i)
 item-shown (text k t) at s b a z h i = rw text-held (text-there a t z)

@@ -3,4 +3,5 @@ mod Described
 mod TypeLength
 mod RowCall
 pub mod ValueBytes
+pub mod ValueRanges
 pub mod RowForms

@@ -1,7 +1,7 @@
 -- The row call on words and decode_row are one call: for the words of columns, vejupa_decode_row hands out what decode_row answers for those columns in
 -- their places. Assumes nothing.
 use Prim.Native.Nat.{ℕ, suc, _+_, _-_, _*_, _/_, _≤_, _<_}
-use mathlib.Core.Path.{_≡_, refl, sym, ap, _∙_}
+use mathlib.Core.Path.{_≡_, refl, sym, ap, _∙_, subst}
 use mathlib.Core.Bool.{Bool, true, false, cond, false≢true}
 use mathlib.Core.List.{List, [], _∷_, _++_}
 use mathlib.Core.Option.{Option, some}
@@ -25,18 +25,23 @@ use Rattle.rules.proofs.Accepted.{all-places}
 use Rattle.triplets.specs.Descriptors.{columnsOf}
 use Rattle.qrydsc.specs.Qrydsc.{numbered, DescriptionTold, refusal as refusedDescription, listed, maxQrydsc, description}
 use Rattle.qrydsc.proofs.Lists.{length-numbered}
-use Rattle.description_words.proofs.Fitting.{Bytes, description-fits}
+use Rattle.description_words.proofs.Fitting.{description-fits}
 use Rattle.words.specs.Words.{packColumns}
 use Rattle.words.specs.Reading.{readColumns}
 use Rattle.words.specs.Values.{packValues}
+use Rattle.words.specs.ValueReading.{valueNamed}
 use Rattle.words.proofs.Columns.{AllFit, reads-columns, packed-length}
 use Rattle.words.proofs.Packed.{three, packed-at}
+use Rattle.words.proofs.Values.{InRange, reads-value}
+use Rattle.unicode.specs.Laws.{Bytes}
+use Rattle.piece.proofs.Bound.{bytes-drop}
 use Rattle.row_words.specs.Rows.{valuesAfter}
 use Rattle.exported.proofs.RowCall.{covered-list}
 use Rattle.rules.specs.Value.{valueBytes, textsTogether}
 use Rattle.rules.proofs.Answers.{filled-together}
 use Rattle.exported.specs.Rows.{decisionFor, wordsDecision, rowNumber, rowFirst, rowSecond, wordsBytes}
 use Rattle.exported.proofs.ValueBytes.{three-bytes}
+use Rattle.exported.proofs.ValueRanges.{cons-all, walk-range, AllInRange, values-range, at-range}
 
 -- the lent words v after an answer: of an accepted row the words of its values lie over the first
 abbrev pub valuesBy : Told → List ValuePlace → List ℕ → List ℕ
@@ -49,11 +54,6 @@ besideAnswer place accepted n = n
 besideAnswer place (refused k vs) n = getD vs place 0
 
 -- ---- an accepted row has a value for each column
-
-cons-all : (p : Piece) (w : Walk) → isDone (consPiece p w) ≡ true → (isDone w ≡ true) × (piecesOf (consPiece p w) ≡ p ∷ piecesOf w)
-unfolding consPiece
-cons-all p (done ps n) h = (refl, refl)
-cons-all p (short x y) h = absurd (false≢true h)
 
 walk-all : (start : ℕ) (cs : List ColumnDescriptor) (at : ℕ) (s : List ℕ) → isDone (walk start cs at s) ≡ true → length (piecesOf (walk start cs at s)) ≡ length cs
 unfolding walk
@@ -125,16 +125,52 @@ module _ (cs : List ColumnDescriptor) (fit : AllFit cs) (few : length cs ≤ max
       go (refusal n vs) e = refl
       go (acceptance ps n) e = rw (first-places cs s d ps n e)
 
-  -- of an accepted row's words, from those of value k on, vejupa_value_bytes shows what value_bytes shows of value k of decode_row, whatever the text buffer t
-  pub same-bytes : rowAnswer (columnList cs) s d .outcome ≡ accepted → (k : ℕ) → k < length cs → (t : List ℕ)
-      → wordsBytes (drop (3 * k) (valuesAfter (wordsDecision (packColumns cs) s v d) v)) s t ≡ valueBytes (getD (rowAnswer (columnList cs) s d .places) k blankValue .value) s t
-  same-bytes e k h t =
-      let places = rowAnswer (columnList cs) s d .places in
-      let vs = take (length cs) places in
-      let n : length cs ≤ length places = omega (arith, all-places (columnList cs) s d) in
-      let all : length vs ≡ length cs = length-take-le (length cs) places n in
-      let words : valuesAfter (wordsDecision (packColumns cs) s v d) v ≡ written (packValues vs) v = same-values ∙ ap (λ (o : Told). valuesBy o vs v) e in
-      rw (words, packed-at vs k blankValue (drop (length (packValues vs)) v) (omega arith), three-bytes, getD-take (length cs) places k blankValue h)
+  -- an accepted row's words, from those of value k on
+  module _ (e : rowAnswer (columnList cs) s d .outcome ≡ accepted) (k : ℕ) (h : k < length cs) where
+    places : List ValuePlace
+    places = rowAnswer (columnList cs) s d .places
+
+    many : length (take (length cs) places) ≡ length cs
+    unfolding places
+    many = length-take-le (length cs) places (omega (arith, all-places (columnList cs) s d))
+
+    from : List ℕ
+    from = drop (3 * k) (valuesAfter (wordsDecision (packColumns cs) s v d) v)
+
+    behind : List ℕ
+    behind = packValues (drop (suc k) (take (length cs) places)) ++ drop (length (packValues (take (length cs) places))) v
+
+    words-are : from ≡ three (getD places k blankValue) ++ behind
+    unfolding from behind places
+    words-are =
+        ap (drop (3 * k)) (same-values ∙ ap (λ (o : Told). valuesBy o (take (length cs) places) v) e)
+        ∙ packed-at (take (length cs) places) k blankValue (drop (length (packValues (take (length cs) places))) v) (omega (arith, many))
+        ∙ ap (λ (p : ValuePlace). three p ++ behind) (getD-take (length cs) places k blankValue h)
+
+    -- of them vejupa_value_bytes shows what value_bytes shows of value k of decode_row, whatever the text buffer t
+    pub same-bytes : (t : List ℕ)
+        → wordsBytes (drop (3 * k) (valuesAfter (wordsDecision (packColumns cs) s v d) v)) s t ≡ valueBytes (getD (rowAnswer (columnList cs) s d .places) k blankValue .value) s t
+    unfolding from places
+    same-bytes t = ap (λ (w : List ℕ). wordsBytes w s t) words-are ∙ three-bytes (getD places k blankValue) behind s t
+
+    in-range : Bytes s → InRange (getD places k blankValue .value)
+    unfolding places rowAnswer answerOf walkBody
+    in-range bytes =
+        let f = facts ported (columnList cs) s d e in
+        let ps = piecesOf (walkRow (covered (columnList cs)) s) in
+        let first = first-places cs s d ps _ (f .decided) in
+        let all : AllInRange (rowValues ported ps 0) = values-range ps 0 (walk-range (skipOf s) (covered (columnList cs)) (skipOf s) (drop (skipOf s) s) (rw (covered-list cs) fit) (bytes-drop (skipOf s) s bytes) (f .over)) in
+        let here : getD places k blankValue ≡ getD (rowValues ported ps 0) k blankValue =
+        ap (λ (x : Decision). getD (answerOf ported x .places) k blankValue) (f .decided) ∙ sym (getD-take (length cs) (filled blankValue (rowValues ported ps 0)) k blankValue h) ∙ ap (λ (l : List ValuePlace). getD l k blankValue) first in
+        subst (λ (p : ValuePlace). InRange (p .value)) (sym here) (at-range (rowValues ported ps 0) k all)
+
+    -- of a row of bytes they name value k of decode_row, and whether it is external
+    pub same-value : Bytes s
+        → valueNamed (getD (drop (3 * k) (valuesAfter (wordsDecision (packColumns cs) s v d) v)) 0 0) (getD (drop (3 * k) (valuesAfter (wordsDecision (packColumns cs) s v d) v)) 1 0)
+        (getD (drop (3 * k) (valuesAfter (wordsDecision (packColumns cs) s v d) v)) 2 0)
+        ≡ getD (rowAnswer (columnList cs) s d .places) k blankValue
+    unfolding from places
+    same-value bytes = ap (λ (w : List ℕ). valueNamed (getD w 0 0) (getD w 1 0) (getD w 2 0)) words-are ∙ reads-value (getD places k blankValue) (in-range bytes)
 
 -- ---- from a description to a row: the words that vejupa_parse_qrydsc writes are taken by vejupa_decode_row as the columns that parse_qrydsc hands out, never as none
 

@@ -1,5 +1,6 @@
-// Inner. The numbers of a row from their bytes, in either byte order: SmallInt, Integer, BigInt, Real and Double. Each function reads the first bytes
-// of what it is given and asks that they are there: which bytes a value has is the row's matter.
+// Inner. The numbers of a row from their bytes, in either byte order: SmallInt, Integer, BigInt, Real and Double; and from their bits, which is how a
+// number stands in words. A function that reads bytes reads the first of what it is given and asks that they are there: which bytes a value has is the
+// row's matter.
 use types::ByteOrder;
 use types::Db2Value;
 ghost use mathlib.Core.Path.{_≡_};

@@ -19,8 +19,8 @@ use Rattle.words.specs.Values.{sortWord, kindWord, numberWord, lengthWor
 use Rattle.words.specs.ValueReading.{variantNamed, valueNamed}
 
 -- a float of the format that is no NaN
-abbrev pub Held-by : Format → Float → Type 0
-Held-by f x = T (fits f x) × (isNan x ≡ false)
+abbrev pub InFormat : Format → Float → Type 0
+InFormat f x = T (fits f x) × (isNan x ≡ false)
 
 -- every number of a value has its bits, as those of the code have; a Real and a Double are no NaN
 abbrev pub InRange : Db2Value → Type 0
@@ -28,9 +28,9 @@ InRange value.Null = Unit {0}
 InRange (value.SmallInt z) = SFits w16 z
 InRange (value.Integer z) = SFits w32 z
 InRange (value.BigInt z) = SFits w64 z
-InRange (value.Real x) = Held-by binary32 x
+InRange (value.Real x) = InFormat binary32 x
 InRange (value.RealNan n) = n < 2 ^ 32
-InRange (value.Double x) = Held-by binary64 x
+InRange (value.Double x) = InFormat binary64 x
 InRange (value.DoubleNan n) = Unit {0}
 InRange (value.Decimal p) = Unit {0}
 InRange (value.Char p) = Unit {0}
@@ -55,7 +55,7 @@ low32 (pos n) f = let h = f .sfits in omega arith
 low32 (negsuc n) f = let h = f .sfits in omega arith
 
 -- ---- a float is read from its bits
-module _ (f : Format) (x : Float) (h : Held-by f x) where
+module _ (f : Format) (x : Float) (h : InFormat f x) where
   bits-are : floatBits f x ≡ toBits f x
   unfolding floatBits
   bits-are = rw (h .1)
@@ -69,14 +69,14 @@ module _ (f : Format) (x : Float) (h : Held-by f x) where
   no-nan : nanBits f (floatBits f x) ≡ false
   no-nan = nanBits-is f (floatBits f x) ∙ ap isNan back ∙ h .1
 
-real-back : (x : Float) → Held-by binary32 x → numberValue (realOf (floatBits binary32 x % 2 ^ 32)) ≡ value.Real x
+real-back : (x : Float) → InFormat binary32 x → numberValue (realOf (floatBits binary32 x % 2 ^ 32)) ≡ value.Real x
 unfolding realOf
 real-back x h =
     let small : floatBits binary32 x < 2 ^ 32 = bits-small binary32 x h in
     let e : floatBits binary32 x % 2 ^ 32 ≡ floatBits binary32 x = omega arith in
     rw (e, no-nan binary32 x h, back binary32 x h)
 
-double-back : (x : Float) → Held-by binary64 x → numberValue (doubleOf (floatBits binary64 x)) ≡ value.Double x
+double-back : (x : Float) → InFormat binary64 x → numberValue (doubleOf (floatBits binary64 x)) ≡ value.Double x
 unfolding doubleOf
 double-back x h = rw (no-nan binary64 x h, back binary64 x h)
 

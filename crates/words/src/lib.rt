@@ -1,5 +1,5 @@
 // Inner. Types, columns and values as plain words of 64 bits, for the calls of C and Rust: specs/Words.antt and specs/Values.antt have the
-// layout. It reads no description and no row.
+// layout, specs/Reading.antt and specs/ValueReading.antt what words say. It reads no description and no row.
 use numbers::double_of;
 use numbers::real_of;
 use numbers::signed16;

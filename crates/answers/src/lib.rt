@@ -11,6 +11,10 @@ use lines::place::NOWHERE;
 use lines::place::decimal_at;
 use lines::place::hex_at;
 use lines::place::text_at;
+use type_names::TYPES;
+use type_names::first;
+use type_names::name_of;
+use type_names::number_count;
 use types::ByteOrder;
 use types::ColumnDescriptor;
 use types::Columns;
@@ -19,59 +23,40 @@ use types::MAX_COLUMNS;
 use types::ReferenceLength;
 use words::TypeRead;
 use words::read_type_word;
+use words::type_word;
 ghost use Prim.Native.Nat.{_<_, _≤_};
 
-// How many types there are: their tags are below.
-const TYPES: u64 = 29;
+// The tags of the types are below.
+const TAGS: u64 = TYPES as u64;
 
 // The largest number of columns that a line may say.
 const MOST_COLUMNS: usize = 65535;
 
-// A name and a number, parted by a point.
-fn numbered_at(line: &[u8], at: usize, name: &[u8], n: u16) -> usize {
-    let point = text_at(line, at, name);
-    let digits = text_at(line, point, b".");
-    decimal_at(line, digits, n as u64)
+// A number and the point before it.
+fn next_number_at(line: &[u8], at: usize, n: u64) -> usize {
+    let digits = text_at(line, at, b".");
+    decimal_at(line, digits, n)
 }
 
-fn decimal_type_at(line: &[u8], at: usize, precision: u8, scale: u8) -> usize {
-    let point = numbered_at(line, at, b"Decimal", precision as u16);
-    let digits = text_at(line, point, b".");
-    decimal_at(line, digits, scale as u64)
+// The numbers that a type holds, as its word has them: with two, the second is in the high byte.
+fn numbers_at(line: &[u8], at: usize, count: usize, numbers: u64) -> usize {
+    match count {
+        0 => at,
+        1 => next_number_at(line, at, numbers),
+        _ => {
+            let second = next_number_at(line, at, numbers % 256);
+            next_number_at(line, second, numbers / 256)
+        }
+    }
 }
 
 pub fn type_at(line: &[u8], at: usize, t: Db2Type) -> usize {
-    match t {
-        Db2Type::SmallInt => text_at(line, at, b"SmallInt"),
-        Db2Type::Integer => text_at(line, at, b"Integer"),
-        Db2Type::BigInt => text_at(line, at, b"BigInt"),
-        Db2Type::Real => text_at(line, at, b"Real"),
-        Db2Type::Double => text_at(line, at, b"Double"),
-        Db2Type::Decimal { precision, scale } => decimal_type_at(line, at, precision, scale),
-        Db2Type::DecFloat(n) => numbered_at(line, at, b"DecFloat", n as u16),
-        Db2Type::Char(n) => numbered_at(line, at, b"Char", n),
-        Db2Type::VarChar(n) => numbered_at(line, at, b"VarChar", n),
-        Db2Type::LongVarChar => text_at(line, at, b"LongVarChar"),
-        Db2Type::Clob => text_at(line, at, b"Clob"),
-        Db2Type::Binary(n) => numbered_at(line, at, b"Binary", n),
-        Db2Type::VarBinary(n) => numbered_at(line, at, b"VarBinary", n),
-        Db2Type::Blob => text_at(line, at, b"Blob"),
-        Db2Type::BlobLocator => text_at(line, at, b"BlobLocator"),
-        Db2Type::Date => text_at(line, at, b"Date"),
-        Db2Type::Time => text_at(line, at, b"Time"),
-        Db2Type::Timestamp => text_at(line, at, b"Timestamp"),
-        Db2Type::Graphic(n) => numbered_at(line, at, b"Graphic", n),
-        Db2Type::VarGraphic(n) => numbered_at(line, at, b"VarGraphic", n),
-        Db2Type::DbClob => text_at(line, at, b"DbClob"),
-        Db2Type::ClobLocator => text_at(line, at, b"ClobLocator"),
-        Db2Type::DbClobLocator => text_at(line, at, b"DbClobLocator"),
-        Db2Type::LobBytes(n) => numbered_at(line, at, b"LobBytes", n),
-        Db2Type::LobChar(n) => numbered_at(line, at, b"LobChar", n),
-        Db2Type::RowId(n) => numbered_at(line, at, b"RowId", n),
-        Db2Type::Boolean => text_at(line, at, b"Boolean"),
-        Db2Type::Xml => text_at(line, at, b"Xml"),
-        Db2Type::Null => text_at(line, at, b"Null"),
-    }
+    let word = type_word(t);
+    let tag = (word % 256) as usize;
+    let name = name_of(tag);
+    let bytes = name.bytes;
+    let numbers = text_at(line, at, first(&bytes, name.len));
+    numbers_at(line, numbers, number_count(tag), word / 256)
 }
 
 // The numbers behind a type's name, as one: with two, the second is in the high byte. 0 where there are none, or no numbers stand there.
@@ -93,11 +78,11 @@ fn numbers_of(s: &[u8]) -> usize
     low.value + high.value * 256
 }
 
-// The type that a field writes. Each tag is tried: the names stand nowhere but in type_at.
+// The type that a field writes. Each tag is tried: the names stand nowhere but in `type_names`.
 pub fn type_of(s: &[u8]) -> TypeRead {
     let numbers = numbers_of(s) as u64;
     let mut tag: u64 = 0;
-    while tag < TYPES {
+    while tag < TAGS {
         match read_type_word(tag + numbers * 256) {
             TypeRead::Known(t) => {
                 if type_at(s, 0, t) == s.len() {

@@ -1,12 +1,12 @@
 -- Bytes read from upper-case hexadecimal: a byte from two digits, and one byte more. Assumes nothing.
-use Prim.Native.Nat.{ℕ, suc, _+_, _*_, _/_, _%_, _<_}
+use Prim.Native.Nat.{ℕ, suc, _+_, _-_, _*_, _/_, _%_, _<_, _≤_}
 use mathlib.Core.Bool.{Bool, true, false}
 use mathlib.Core.List.{List, [], _∷_, _++_, append-assoc}
 use mathlib.Core.Path.{_≡_, refl, sym, ap, _∙_}
 use native.Mathlib.Omega.{arith}
 use native.Mathlib.Numerals.{add-one}
-use lib.ListN.{length, take, getD, set}
-use lib.Seq.{take-suc, take-suc-set}
+use lib.ListN.{length, take, drop, getD, set, replicate, length-replicate, length-drop}
+use lib.Seq.{take-suc, take-suc-set, take-at, take-all, split-at, length-take-le}
 use Rattle.conversion.specs.Hex.{hexDigit, hexText}
 use Rattle.lines.specs.Lines.{bytesField}
 
@@ -46,6 +46,31 @@ read-next s out i b room there so-far (high, low) =
     ∙ ap (λ (x : ℕ). take (2 * i) s ++ (x ∷ hexDigit (b % 16) ∷ [])) high
     ∙ ap (λ (x : ℕ). take (2 * i) s ++ (getD s (2 * i) 0 ∷ x ∷ [])) low
     ∙ sym (ap (λ (k : ℕ). take k s) p ∙ two s (2 * i) there)
+
+-- the byte of two digits alone
+pub read-pair : (s : List ℕ) (b : ℕ) → length s ≡ 2 → (hexDigit (b / 16) ≡ getD s 0 0) × (hexDigit (b % 16) ≡ getD s 1 0) → hexText (b ∷ []) ≡ s
+unfolding hexText
+read-pair [] b l e = let n : _≡_ {A = ℕ} 0 2 = l in absurd (omega arith)
+read-pair (x ∷ []) b l e = let n : _≡_ {A = ℕ} 1 2 = l in absurd (omega arith)
+read-pair (x ∷ y ∷ []) b l (high, low) = ap (λ (h : ℕ). h ∷ hexDigit (b % 16) ∷ []) high ∙ ap (λ (h : ℕ). x ∷ h ∷ []) low
+read-pair (x ∷ y ∷ z ∷ s) b l e = let n : suc (suc (suc (length s))) ≡ 2 = l in absurd (omega arith)
+
+-- a part of n bytes, all made the same, is what then stands first
+pub first-bytes : (n b : ℕ) (out f rest : List ℕ) → n ≤ length out → f ≡ replicate (length (take (n - 0) out)) b → take n (f ++ rest) ≡ replicate n b
+first-bytes n b out f rest room same =
+    let whole : n - 0 ≡ n = omega arith in
+    let count : length (take (n - 0) out) ≡ n = ap (λ (k : ℕ). length (take k out)) whole ∙ length-take-le n out room in
+    ap (λ (t : List ℕ). take n (t ++ rest)) (same ∙ ap (λ (k : ℕ). replicate k b) count) ∙ take-at (replicate n b) rest n (length-replicate n b)
+
+-- what stands before a place, at it and behind it
+pub parted : (s : List ℕ) (k b : ℕ) → k < length s → getD s k 0 ≡ b → take (k - 0) s ++ (b ∷ take (length s - (k + 1)) (drop (k + 1) s)) ≡ s
+parted s k b there here =
+    let whole : k - 0 ≡ k = omega arith in
+    let rest : take (length s - (k + 1)) (drop (k + 1) s) ≡ drop (k + 1) s = take-all (length s - (k + 1)) (drop (k + 1) s) (omega (arith, length-drop (k + 1) s)) in
+    ap (λ (j : ℕ). take j s ++ (b ∷ take (length s - (k + 1)) (drop (k + 1) s))) whole
+    ∙ ap (λ (t : List ℕ). take k s ++ (b ∷ t)) (rest ∙ ap (λ (j : ℕ). drop j s) (add-one k))
+    ∙ ap (λ (x : ℕ). take k s ++ (x ∷ drop (suc k) s)) (sym here)
+    ∙ sym (split-at s k 0 there)
 
 -- digits are a field of bytes where there is one
 pub as-field : (t : List ℕ) {s : List ℕ} → (length s ≡ 0 → ⊥) → hexText t ≡ s → bytesField t ≡ s

@@ -1,9 +1,21 @@
 -- The fields of a line of the list of stored answers: for inner functions; no public promise rests on it. Assumes nothing.
 use Prim.Native.Nat.{ℕ}
-use mathlib.Core.List.{List, [], _∷_}
+use mathlib.Core.Path.{_≡_}
+use mathlib.Core.Logic.{_⊎_}
+use mathlib.Core.List.{List, [], _∷_, _++_}
+use lib.ListN.{replicate}
 use Rattle.conversion.specs.Hex.{hexText}
+use Rattle.io.specs.Digits.{digits}
 
 -- bytes as a field: upper-case hexadecimal, and `-` for no bytes
 unfoldable pub bytesField : List ℕ → List ℕ
 bytesField [] = 0x2D ∷ []
 bytesField (b ∷ bs) = hexText (b ∷ bs)
+
+-- bs is one byte many times: the byte that two hexadecimal digits write, as often as a decimal number says
+abbrev pub Repeats : List ℕ → List ℕ → List ℕ → Type 0
+Repeats pair times bs = (b k n : ℕ) × (hexText (b ∷ []) ≡ pair) × (digits 10 k n ≡ times) × (bs ≡ replicate n b)
+
+-- a field says bs: it writes them out, or, with a `*` between them, byte and number
+abbrev pub Says : List ℕ → List ℕ → Type 0
+Says s bs = (bytesField bs ≡ s) ⊎ ((pair times : List ℕ) × (pair ++ (0x2A ∷ times) ≡ s) × Repeats pair times bs)

@@ -7,7 +7,8 @@ ghost use mathlib.Core.Bool.{true, false};
 ghost use Prim.Native.Nat.{ℕ, _+_, _/_, _%_, _<_, _≤_};
 ghost use lib.ListN.{length, getD, take, replicate};
 ghost use Rattle.conversion.specs.Hex.{hexDigit, hexText};
-ghost use Rattle.lines.specs.Lines.{bytesField};
+ghost use Rattle.io.specs.Digits.{digits};
+ghost use Rattle.lines.specs.Lines.{bytesField, Repeats, Says};
 
 // More bytes than this are not written as one byte many times.
 const MOST_TIMES: usize = 4294967295;
@@ -115,7 +116,8 @@ pub fn field(s: &[u8], k: usize) -> &[u8] {
 // A decimal number up to `most`, as the list writes it: digits only, no leading zero.
 pub fn number(s: &[u8], most: usize) -> Read
     requires { ⌜ most < 4294967296 ⌝ }
-    ensures { λ r. ⌜ r .value ≤ most ⌝ }
+    ensures bound { λ r. ⌜ r .value ≤ most ⌝ }
+    ensures number { λ r. ⌜ (r .valid ≡ true → digits 10 (length (now (s .entry))) (r .value) ≡ now (s .entry)) ⌝ }
 {
     if s.len() == 0 {
         return unread();
@@ -148,7 +150,7 @@ pub fn number(s: &[u8], most: usize) -> Read
 
 // The value of a decimal digit, and 10 for any other byte.
 fn decimal_value(b: u8) -> usize
-    ensures { λ r. ⌜ r ≤ 10 ⌝ }
+    ensures { λ r. ⌜ (r ≤ 10) × (r < 10 → 48 + r ≡ b) ⌝ }
 {
     if b < b'0' {
         return 10;
@@ -238,7 +240,8 @@ fn hex_bytes(s: &[u8], out: &mut [u8]) -> Read
 
 // The bytes of a field that may also write one byte many times, as `00*1048577`.
 pub fn bytes_or_repeated(s: &[u8], out: &mut [u8]) -> Read
-    ensures { λ r. ⌜ r .value ≤ length (now (out .exit)) ⌝ }
+    ensures fits { λ r. ⌜ r .value ≤ length (now (out .exit)) ⌝ }
+    ensures bytes { λ r. ⌜ (r .valid ≡ true → Says (now (s .entry)) (take (r .value) (now (out .exit)))) ⌝ }
 {
     let star = find(s, 0, b'*');
     if star == s.len() {
@@ -248,13 +251,14 @@ pub fn bytes_or_repeated(s: &[u8], out: &mut [u8]) -> Read
 }
 
 // The byte that two digits write, so many times.
-fn repeated(digits: &[u8], times: &[u8], out: &mut [u8]) -> Read
+fn repeated(pair: &[u8], times: &[u8], out: &mut [u8]) -> Read
     ensures fits { λ r. ⌜ r .value ≤ length (now (out .exit)) ⌝ }
+    ensures bytes { λ r. ⌜ (r .valid ≡ true → Repeats (now (pair .entry)) (now (times .entry)) (take (r .value) (now (out .exit)))) ⌝ }
 {
-    if digits.len() != 2 {
+    if pair.len() != 2 {
         return unread();
     }
-    let b = hex_pair(digits[0], digits[1]);
+    let b = hex_pair(pair[0], pair[1]);
     if b > 255 {
         return unread();
     }

@@ -2,8 +2,8 @@
 // no place of the line. So one call follows the other, and the last answer tells of all.
 use crate::bytes;
 use crate::find;
+use crate::hex_value;
 use check::same;
-ghost use Prim.Native.Nat.{_<_};
 
 // Behind the end of every line.
 pub const NOWHERE: usize = 0xFFFF_FFFF_FFFF_FFFF;
@@ -37,15 +37,6 @@ pub fn signed_at(line: &[u8], at: usize, bits: u64) -> usize {
     decimal_at(line, digits, 0xFFFF_FFFF_FFFF_FFFF - bits + 1)
 }
 
-fn upper_digit(n: u64) -> u8
-    requires { ⌜ n < 16 ⌝ }
-{
-    if n < 10 {
-        return b'0' + (n as u8);
-    }
-    b'A' + ((n - 10) as u8)
-}
-
 // So many upper-case hexadecimal digits. The last is compared first.
 pub fn hex_at(line: &[u8], at: usize, n: u64, count: usize) -> usize {
     if line.len() < at {
@@ -58,7 +49,7 @@ pub fn hex_at(line: &[u8], at: usize, n: u64, count: usize) -> usize {
     let mut left = count;
     while left > 0 {
         left -= 1;
-        if line[at + left] != upper_digit(rest % 16) {
+        if hex_value(line[at + left]) as u64 != rest % 16 {
             return NOWHERE;
         }
         rest /= 16;

@@ -338,6 +338,31 @@ fn are_told(columns: Columns, told: &[u8]) -> bool {
     columns_at(told, count, columns) == told.len()
 }
 
+// Whether a refused description is told so: no columns, and the number.
+fn is_told_refused(refusal: u32, told: &[u8], answer: &[u8]) -> bool {
+    if !same(told, b"C -") {
+        return false;
+    }
+    refusal_number(answer) == refusal as usize
+}
+
+// The rest of a line of kind Q whose description has these columns.
+fn described_line(
+    columns: Columns,
+    request: &[u8],
+    answer: &[u8],
+    data: &mut [u8],
+    want: &mut [u8],
+    text: &mut [u8],
+) -> Verdict {
+    let told = part_start(request, 4, b' ');
+    if !are_told(columns, &request[told..]) {
+        return Verdict::Differs;
+    }
+    let row = part_start(request, 3, b' ');
+    row_line(columns, request, row, answer, data, want, text)
+}
+
 // A line of kind Q: `Q <description> R <row> C <columns>`.
 fn description_line(
     request: &[u8],
@@ -358,18 +383,11 @@ fn description_line(
     let outcome = described.outcome;
     let columns = described.columns;
     let refusal = outcome.number();
-    let row = part_start(request, 3, b' ');
-    let told = &request[part_start(request, 4, b' ')..];
-    if refusal != 0 {
-        if !same(told, b"C -") {
-            return Verdict::Differs;
-        }
-        return judged(refusal_number(answer) == refusal as usize);
+    if refusal == 0 {
+        return described_line(columns, request, answer, data, want, text);
     }
-    if !are_told(columns, told) {
-        return Verdict::Differs;
-    }
-    row_line(columns, request, row, answer, data, want, text)
+    let told = part_start(request, 4, b' ');
+    judged(is_told_refused(refusal, &request[told..], answer))
 }
 
 // A line of kind H: `H <columns> R <row>`.

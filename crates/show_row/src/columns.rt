@@ -1,5 +1,8 @@
 // A column in the table: its number, type, nullable, CCSID and byte order; and, where there is no row, its type code, length and reference length.
 use printing::Line;
+use type_names::first;
+use type_names::name_of;
+use type_names::number_count;
 use types::ByteOrder;
 use types::ColumnDescriptor;
 use types::Columns;
@@ -24,47 +27,27 @@ const LENGTH: usize = 57;
 
 const REFERENCE: usize = 59;
 
-fn with_number(line: Line, name: &[u8], n: u16) -> Line {
-    line.text(name).byte(b'(').decimal(n as u64).byte(b')')
+// The numbers that a type holds, as its word has them: with two, the second is in the high byte.
+fn with_numbers(line: Line, count: usize, numbers: u64) -> Line {
+    match count {
+        0 => line,
+        1 => line.byte(b'(').decimal(numbers).byte(b')'),
+        _ => line.byte(b'(')
+            .decimal(numbers % 256)
+            .byte(b',')
+            .decimal(numbers / 256)
+            .byte(b')'),
+    }
 }
 
 // A type by the name that the library has for it, with the numbers that it holds.
 pub fn type_name(line: Line, t: Db2Type) -> Line {
-    match t {
-        Db2Type::SmallInt => line.text(b"SmallInt"),
-        Db2Type::Integer => line.text(b"Integer"),
-        Db2Type::BigInt => line.text(b"BigInt"),
-        Db2Type::Real => line.text(b"Real"),
-        Db2Type::Double => line.text(b"Double"),
-        Db2Type::Decimal { precision, scale } => line.text(b"Decimal(")
-            .decimal(precision as u64)
-            .byte(b',')
-            .decimal(scale as u64)
-            .byte(b')'),
-        Db2Type::DecFloat(n) => with_number(line, b"DecFloat", n as u16),
-        Db2Type::Char(n) => with_number(line, b"Char", n),
-        Db2Type::VarChar(n) => with_number(line, b"VarChar", n),
-        Db2Type::LongVarChar => line.text(b"LongVarChar"),
-        Db2Type::Clob => line.text(b"Clob"),
-        Db2Type::Binary(n) => with_number(line, b"Binary", n),
-        Db2Type::VarBinary(n) => with_number(line, b"VarBinary", n),
-        Db2Type::Blob => line.text(b"Blob"),
-        Db2Type::BlobLocator => line.text(b"BlobLocator"),
-        Db2Type::Date => line.text(b"Date"),
-        Db2Type::Time => line.text(b"Time"),
-        Db2Type::Timestamp => line.text(b"Timestamp"),
-        Db2Type::Graphic(n) => with_number(line, b"Graphic", n),
-        Db2Type::VarGraphic(n) => with_number(line, b"VarGraphic", n),
-        Db2Type::DbClob => line.text(b"DbClob"),
-        Db2Type::ClobLocator => line.text(b"ClobLocator"),
-        Db2Type::DbClobLocator => line.text(b"DbClobLocator"),
-        Db2Type::LobBytes(n) => with_number(line, b"LobBytes", n),
-        Db2Type::LobChar(n) => with_number(line, b"LobChar", n),
-        Db2Type::RowId(n) => with_number(line, b"RowId", n),
-        Db2Type::Boolean => line.text(b"Boolean"),
-        Db2Type::Xml => line.text(b"Xml"),
-        Db2Type::Null => line.text(b"Null"),
-    }
+    let word = words::type_word(t);
+    let tag = (word % 256) as usize;
+    let name = name_of(tag);
+    let bytes = name.bytes;
+    let named = line.text(first(&bytes, name.len));
+    with_numbers(named, number_count(tag), word / 256)
 }
 
 pub fn yes_or_no(line: Line, is_so: bool) -> Line {

@@ -1,6 +1,7 @@
 -- `lines::place::hex_at` is safe and ends. Assumes nothing.
 use Prim.Native.Nat.{_≤_}
 use native.Mathlib.Omega.{arith}
+use borrow.Author.Needs.{needs}
 use Rattle.lines.proofs.place.hex_at.Statement.{statement}
 use Rattle.lines.proofs.place.hex_at.Tie as tie
 
@@ -25,14 +26,17 @@ loop-holds c = omega arith
 sub-left : tie.Need-sub-left Inv-loop μ-loop
 sub-left c = omega arith
 
-add-if3 : tie.Need-add-if3 Inv-loop μ-loop
-add-if3 c = omega arith
+add-hex-value : tie.Need-add-hex-value Inv-loop μ-loop
+add-hex-value c = omega arith
 
-shared-slice-read-if3 : tie.Need-shared-slice-read-if3 Inv-loop μ-loop
-shared-slice-read-if3 c = omega arith
+shared-slice-read-hex-value : tie.Need-shared-slice-read-hex-value Inv-loop μ-loop
+shared-slice-read-hex-value c = omega arith
 
-upper-digit-requires : tie.Need-upper-digit-requires Inv-loop μ-loop
-upper-digit-requires c κs = omega arith
+hex-value-requires : tie.Need-hex-value-requires Inv-loop μ-loop
+hex-value-requires c κs = tt
+
+cast-if3 : tie.Need-cast-if3 Inv-loop μ-loop
+cast-if3 c = search needs
 
 returns-3 : tie.Need-returns-3 Inv-loop μ-loop
 returns-3 c = tt
@@ -54,4 +58,4 @@ returns-5 c = tt
 
 pub hex-at-spec : {M : Type 1} → statement M
 hex-at-spec =
-    tie.close (tie.spec Inv-loop μ-loop returns sub-if2 returns-2 loop-holds sub-left add-if3 shared-slice-read-if3 upper-digit-requires returns-3 loop-less loop-again returns-4 add-result returns-5)
+    tie.close (tie.spec Inv-loop μ-loop returns sub-if2 returns-2 loop-holds sub-left add-hex-value shared-slice-read-hex-value hex-value-requires cast-if3 returns-3 loop-less loop-again returns-4 add-result returns-5)

@@ -63,7 +63,7 @@ pub fn skip_of(data: &[u8]) -> usize
 }
 
 // Whether a nullable column's indicator says Null. A row that ends before it has no value either.
-fn is_null(rest: &[u8], nullable: bool) -> bool
+pub fn is_null(rest: &[u8], nullable: bool) -> bool
     ensures { λ r. ⌜ r ≡ isNull nullable (now (rest .entry)) ⌝ }
 {
     if !nullable {
@@ -76,7 +76,7 @@ fn is_null(rest: &[u8], nullable: bool) -> bool
 }
 
 // How many bytes stand before a value: its indicator, where the column has one.
-fn lead(nullable: bool) -> usize
+pub fn lead(nullable: bool) -> usize
     ensures { λ r. ⌜ (r ≡ cond nullable 1 0) × (r ≤ 1) ⌝ }
 {
     if nullable { 1 } else { 0 }
@@ -248,7 +248,7 @@ fn other_write(
 }
 
 // A column's value where it is there, which begins with the first byte, at place `at` of the input.
-fn value_write(
+pub fn value_write(
     rest: &[u8],
     at: usize,
     column: ColumnDescriptor,

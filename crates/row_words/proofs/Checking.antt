@@ -34,8 +34,8 @@ confirmed : (x : Bool) → not x ≡ false → x ≡ true
 confirmed true h = refl
 confirmed false h = sym h
 
-dec-float-read : (a b : ℕ) → isColumn a b ≡ true → namedIn (type.DecFloat 0 ∷ []) (columnNamed a b .«db2_type») ≡ eqb 6 (a % 2 ^ 8)
-dec-float-read a b h = rw (name-read a b h) (or-false (eqb 6 (a % 2 ^ 8)))
+dec-float-read : (a b : ℕ) → isColumn a b ≡ true → namedIn (type.DecFloat 0 ∷ []) (columnNamed a b .«db2_type») ≡ eqb (nameOf (type.DecFloat 0)) (a % 2 ^ 8)
+dec-float-read a b h = rw (name-read a b h) (or-false (eqb (nameOf (type.DecFloat 0)) (a % 2 ^ 8)))
 
 added-none : (x : Option (List ColumnDescriptor)) → checkedOf x ≡ added 0 (checkedOf x)
 added-none (some cs) = let z : 0 + decFloats cs ≡ decFloats cs = omega arith in rw z
@@ -69,7 +69,7 @@ module _ (ws : List ℕ) where
       unfolding readColumn
       checking-bad r q n = sym (here ∙ rw (← q, refuted r n))
 
-      pub checking-step : (r : Bool) → r ≡ isColumn (getD ws at 0) (getD ws (at + 1) 0) → not r ≡ false → (k : ℕ) → k ≡ cond (eqb 6 (getD ws at 0 % 2 ^ 8)) 1 0 → k ≤ 1 → Checking (n + k) (at + 2)
+      pub checking-step : (r : Bool) → r ≡ isColumn (getD ws at 0) (getD ws (at + 1) 0) → not r ≡ false → (k : ℕ) → k ≡ cond (eqb (nameOf (type.DecFloat 0)) (getD ws at 0 % 2 ^ 8)) 1 0 → k ≤ 1 → Checking (n + k) (at + 2)
       unfolding readColumn
       checking-step r q y k e l =
           let b : isColumn (getD ws at 0) (getD ws (at + 1) 0) ≡ true = sym q ∙ confirmed r y in

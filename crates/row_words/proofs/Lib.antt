@@ -4,4 +4,6 @@ mod Outlines
 mod Putting
 mod Bounds
 mod Telling
+mod Indicators
 mod Numbers
+mod Characters

@@ -1,11 +1,11 @@
 -- For inner functions; no public promise rests on it. What each pass over the columns tells. Assumes nothing.
 use Prim.Native.Nat.{ℕ, _+_, _/_, _%_, _^_}
 use mathlib.Core.Path.{_≡_}
-use mathlib.Core.Bool.{cond}
+use mathlib.Core.Bool.{Bool, cond}
 use mathlib.Core.List.{List, [], _∷_}
 use mathlib.Core.Option.{Option, some, none}
 use lib.Dec.{ltb, eqb}
-use lib.ListN.{length, getD, set}
+use lib.ListN.{length, getD, set, take, drop}
 use Rattle.types.specs.declared.Db2Type.the-variants as type
 use Rattle.types.specs.declared.ColumnDescriptor.{ColumnDescriptor}
 use Rattle.types.specs.declared.ValuePlace.{ValuePlace}
@@ -13,6 +13,7 @@ use Rattle.types.specs.Names.{namedIn}
 use Rattle.rules.specs.Walk.{Piece, Walk, done, short}
 use Rattle.rules.specs.Row.{Decision, refusal, acceptance, rowTexts}
 use Rattle.rules.specs.Conversions.{ported}
+use Rattle.conversion.specs.Conversion.{characterText}
 use Rattle.words.specs.Reading.{columnNamed}
 use Rattle.words.specs.Values.{kindWord, numberWord, lengthWord}
 use Rattle.row_words.specs.declared.Checked.{Checked}
@@ -37,13 +38,39 @@ columnsNamed [] = []
 columnsNamed (first ∷ []) = []
 columnsNamed (first ∷ second ∷ words) = columnNamed first second ∷ columnsNamed words
 
--- how many bytes a column takes by its first word alone, where it is a number and has no indicator: the first five types; else 0
-abbrev pub numberWidth : ℕ → ℕ
-numberWidth first = cond (eqb (first / 2 ^ 48 % 2) 1) 0 (getD (2 ∷ 4 ∷ 8 ∷ 4 ∷ 8 ∷ []) (first % 2 ^ 8) 0)
+-- ---- what a column's words say, without the column
 
--- the words v with those of a value from word q on
+abbrev pub isNullable : ℕ → Bool
+isNullable first = eqb (first / 2 ^ 48 % 2) 1
+
+-- the numbers that the type holds, as one
+abbrev pub typeNumbers : ℕ → ℕ
+typeNumbers first = first / 2 ^ 8 % 2 ^ 16
+
+-- how many bytes a number takes: the first five types; else 0
+abbrev pub numberBytes : ℕ → ℕ
+numberBytes first = getD (2 ∷ 4 ∷ 8 ∷ 4 ∷ 8 ∷ []) (first % 2 ^ 8) 0
+
+-- the same where it has no indicator; else 0
+abbrev pub numberWidth : ℕ → ℕ
+numberWidth first = cond (isNullable first) 0 (numberBytes first)
+
+abbrev pub timestampBytes : ℕ → ℕ
+timestampBytes second = cond (eqb (second % 2 ^ 16) 0) 26 (second % 2 ^ 16)
+
+-- the text of a value of n bytes of s, from its byte `from` on, by the CCSID
+abbrev pub charactersIn : ℕ → ℕ → ℕ → List ℕ → List ℕ
+charactersIn second from n s = characterText (second / 2 ^ 32 % 2 ^ 16) (drop from (take n s))
+
+-- ---- words written
+
+-- the words v with three others from word q on
+abbrev pub wordsSet : List ℕ → ℕ → ℕ → ℕ → ℕ → List ℕ
+wordsSet v q kind number len = set (set (set v q kind) (q + 1) number) (q + 2) len
+
+-- with those of a value
 abbrev pub threeSet : List ℕ → ℕ → ValuePlace → List ℕ
-threeSet v q x = set (set (set v q (kindWord x)) (q + 1) (numberWord (x .value))) (q + 2) (lengthWord (x .value))
+threeSet v q x = wordsSet v q (kindWord x) (numberWord (x .value)) (lengthWord (x .value))
 
 -- how a walk ends
 abbrev pub outline : Walk → Walked

@@ -1,38 +1,33 @@
 // Inner. The row call on plain words, for C and Rust: columns are read from lent words, values are written into lent words, texts into a lent
 // buffer. What it costs grows with the columns used: no list of 128 places is made. crates/exported has the refusals before the body.
-use numbers::big_int;
-use numbers::double;
-use numbers::integer;
-use numbers::real;
-use numbers::small_int;
+mod needs;
+mod puts;
+
+use needs::need_named;
 use piece::piece_length;
-use piece::piece_need;
-use piece::piece_write;
 use piece::shortage;
 use piece::skip_of;
-use types::Db2Value;
-use types::ValuePlace;
+use puts::put_column;
+use types::Db2Type;
 use words::column_named;
 use words::is_column;
-use words::value_words;
+use words::type_word;
 ghost use mathlib.Core.Path.{_≡_};
 ghost use mathlib.Core.List.{[], _∷_};
 ghost use Prim.Native.Nat.{ℕ, _+_, _*_, _/_, _%_, _<_, _≤_, _^_};
 ghost use mathlib.Core.Bool.{cond, false};
 ghost use lib.Dec.{eqb};
 ghost use lib.ListN.{length};
-ghost use Rattle.buffer.specs.Buffer.{written};
-ghost use Rattle.rules.specs.Walk.{columnNeed};
-ghost use Rattle.rules.specs.Row.{pieceValue};
-ghost use Rattle.piece.specs.Piece.{pieceIn, pieceText};
 ghost use Rattle.refusal.specs.Refusal.{inputLimit};
+ghost use Rattle.types.specs.declared.Db2Type.the-variants.{DecFloat};
+ghost use Rattle.types.specs.Names.{nameOf};
 ghost use Rattle.types.specs.Places.{maxColumns};
 ghost use Rattle.rules.specs.Walk.{skipOf, walkBody};
 ghost use Rattle.rules.specs.Row.{bodyDecision, textAfter};
 ghost use Rattle.rules.specs.Conversions.{ported};
-ghost use Rattle.words.specs.Reading.{columnNamed, readColumns};
+ghost use Rattle.words.specs.Reading.{readColumns};
 ghost use Rattle.row_words.specs.Rows.{valuesAfter};
-ghost use Rattle.row_words.specs.Passes.{checkedOf, columnsNamed, numberWidth, threeSet, outline, Says};
+ghost use Rattle.row_words.specs.Passes.{checkedOf, columnsNamed, outline, Says};
 ghost use Rattle.piece.specs.Texts.{textsOf, neededBeyond};
 
 // What the columns' words say before the row is looked at: how many columns are of type DecFloat, or that some words are no column's.
@@ -48,7 +43,7 @@ pub enum Walked {
 }
 
 // How many bytes of the row a column took, and how many bytes of text were written.
-struct Taken {
+pub struct Taken {
     pub used: usize,
     pub written: usize,
 }
@@ -60,13 +55,12 @@ pub enum RowOutcome {
     TextTooShort { needed: usize },
 }
 
-// The place of DecFloat's name, which stands in the low 8 bits of a column's first word.
-const DEC_FLOAT: u64 = 6;
-
+// The place of a type's name stands in the low 8 bits of a column's first word.
 fn count_dec_float(first: u64) -> usize
-    ensures { λ r. ⌜ (r ≡ cond (eqb 6 (first % 2 ^ 8)) 1 0) × (r ≤ 1) ⌝ }
+    ensures { λ r. ⌜ (r ≡ cond (eqb (nameOf (DecFloat 0)) (first % 2 ^ 8)) 1 0) × (r ≤ 1) ⌝ }
 {
-    if DEC_FLOAT == first % 0x100 {
+    let name = type_word(Db2Type::DecFloat(0));
+    if name == first % 0x100 {
         return 1;
     }
     0
@@ -90,53 +84,6 @@ pub fn check_columns(columns: &[u64]) -> Checked
         return Checked::Columns { dec_floats };
     }
     Checked::NoColumn
-}
-
-// How many bytes a column takes that is a number and has no indicator; else 0. Such columns are common, and their first word says all that is
-// needed: no column is made of the two words, which would go through memory.
-fn number_width(first: u64) -> usize
-    ensures { λ r. ⌜ r ≡ numberWidth first ⌝ }
-{
-    if first / 0x1_0000_0000_0000 % 2 == 1 {
-        return 0;
-    }
-    match first % 0x100 {
-        0 => 2,
-        1 => 4,
-        2 => 8,
-        3 => 4,
-        4 => 8,
-        _ => 0,
-    }
-}
-
-// The value of a column that number_width knows.
-fn number_value(rest: &[u8], first: u64, second: u64) -> Db2Value
-    requires width { ⌜ 0 < numberWidth first ⌝ }
-    requires there { ⌜ numberWidth first ≤ length (now rest) ⌝ }
-    ensures { λ r. ⌜ ((at next : ℕ) → pieceValue ported (pieceIn (columnNamed first second) at (now (rest .entry))) next ≡ record { value = r; external = false }) ⌝ }
-{
-    let column = column_named(first, second);
-    let order = column.byte_order;
-    match first % 0x100 {
-        0 => small_int(rest, order),
-        1 => integer(rest, order),
-        2 => big_int(rest, order),
-        3 => real(rest, order),
-        _ => double(rest, order),
-    }
-}
-
-// How many bytes the column takes. A number needs no look at the row.
-fn need_named(rest: &[u8], first: u64, second: u64) -> usize
-    ensures { λ r. ⌜ r ≡ columnNeed (columnNamed first second) (now (rest .entry)) ⌝ }
-{
-    let width = number_width(first);
-    if 0 < width {
-        return width;
-    }
-    let column = column_named(first, second);
-    piece_need(rest, column)
 }
 
 // Whether every column has its bytes. Nothing is written before that is known.
@@ -197,62 +144,6 @@ fn text_needed(columns: &[u64], data: &[u8], start: usize, end: usize, room: usi
         return 0;
     }
     total
-}
-
-// Writes a value into its three words.
-fn put_value(values: &mut [u64], at: usize, place: ValuePlace)
-    requires { ⌜ at + 2 < length (now values) ⌝ }
-    ensures { λ _. ⌜ now (values .exit) ≡ threeSet (now (values .entry)) at place ⌝ }
-{
-    let w = value_words(place);
-    values[at] = w.kind;
-    values[at + 1] = w.number;
-    values[at + 2] = w.len;
-}
-
-// Writes a column's value into its three words and its text into out, as piece_write does. A number goes no further.
-fn put_column(
-    rest: &[u8],
-    at: usize,
-    first: u64,
-    second: u64,
-    next: usize,
-    out: &mut [u8],
-    values: &mut [u64],
-    place: usize,
-) -> Taken
-    requires there { ⌜ columnNeed (columnNamed first second) (now rest) ≤ length (now rest) ⌝ }
-    requires limit { ⌜ at + length (now rest) ≤ inputLimit ⌝ }
-    requires room { ⌜ length (pieceText (columnNamed first second) (now rest)) ≤ length (now out) ⌝ }
-    requires words { ⌜ place + 2 < length (now values) ⌝ }
-    ensures used { λ r. ⌜ r .used ≡ columnNeed (columnNamed first second) (now (rest .entry)) ⌝ }
-    ensures count { λ r. ⌜ r .written ≡ length (pieceText (columnNamed first second) (now (rest .entry))) ⌝ }
-    ensures bytes { λ _. ⌜ now (out .exit) ≡ written (pieceText (columnNamed first second) (now (rest .entry))) (now (out .entry)) ⌝ }
-    ensures values { λ _. ⌜ now (values .exit) ≡ threeSet (now (values .entry)) place (pieceValue ported (pieceIn (columnNamed first second) at (now (rest .entry))) next) ⌝ }
-{
-    let width = number_width(first);
-    if 0 < width {
-        let value = number_value(rest, first, second);
-        put_value(
-            values,
-            place,
-            ValuePlace {
-                value,
-                external: false,
-            },
-        );
-        return Taken {
-            used: width,
-            written: 0,
-        };
-    }
-    let column = column_named(first, second);
-    let p = piece_write(rest, at, column, next, out);
-    put_value(values, place, p.place);
-    Taken {
-        used: p.used,
-        written: p.written,
-    }
 }
 
 // Writes the values, and their texts one after the other: how many bytes of text they are.

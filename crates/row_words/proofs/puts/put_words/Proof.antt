@@ -1,12 +1,11 @@
--- `row_words::put_value` meets its contract: three stores. Assumes nothing.
-use borrow.Author.Needs.{needs}
+-- `row_words::puts::put_words` meets its contract: three stores. Assumes nothing.
 use native.Mathlib.Omega.{arith}
 use lib.ListN.{length-set}
-use Rattle.row_words.proofs.put_value.Statement.{statement}
-use Rattle.row_words.proofs.put_value.Tie as tie
-
-value-words-requires : tie.Need-value-words-requires
-value-words-requires c κs = search needs
+use borrow.Author.Needs.{needs}
+use Rattle.row_words.proofs.puts.put_words.Statement.{statement}
+use Rattle.row_words.proofs.puts.put_words.Tie as tie
+use Rattle.row_words.proofs.puts.put_words.Reads as reads
+use Rattle.row_words.proofs.puts.put_words.Lts as lts
 
 mul-values : tie.Need-mul-values
 mul-values c = search needs
@@ -36,13 +35,12 @@ same-length : tie.Need-same-length
 same-length c = search needs
 
 returns : tie.Need-returns
-returns c = simp (c .value-words .ensures .0, c .value-words .ensures .1 .0, c .value-words .ensures .1 .1)
+returns c = search needs
 
-pub put-value-spec : {M : Type 1} → statement M
-put-value-spec =
+pub put-words-spec : {M : Type 1} → statement M
+put-words-spec =
     tie.close
     (tie.spec
-    value-words-requires
     mul-values
     slice-write-values
     add-values

@@ -1,0 +1,49 @@
+-- A column's indicator, by the column's first word: whether it has one, and what stands before its value. Assumes nothing.
+use Prim.Native.Nat.{ℕ}
+use mathlib.Core.Path.{_≡_, refl, sym, ap, _∙_}
+use mathlib.Core.Bool.{Bool, false, cond}
+use mathlib.Core.List.{List}
+use Rattle.types.specs.Places.{blankValue}
+use Rattle.rules.specs.Extent.{need, extentOf}
+use Rattle.rules.specs.Walk.{Piece, absent, columnNeed, cellPiece}
+use Rattle.rules.specs.Row.{textOf, pieceItem, pieceValue}
+use Rattle.rules.specs.Conversions.{ported}
+use Rattle.piece.specs.Piece.{isNull, pieceIn, valueIn, pieceText, valueText}
+use Rattle.piece.proofs.PieceLaws.{leadOf}
+use Rattle.words.specs.Reading.{columnNamed}
+use Rattle.row_words.specs.Passes.{isNullable, wordsSet, threeSet}
+
+-- Null is three zeros
+pub absent-words : (v : List ℕ) (q next : ℕ) → wordsSet v q 0 0 0 ≡ threeSet v q (pieceValue ported absent next)
+unfolding pieceValue blankValue
+absent-words v q next = refl
+
+module _ (a b : ℕ) where
+  named-nullable : columnNamed a b .nullable ≡ isNullable a
+  unfolding columnNamed
+  named-nullable = refl
+
+  -- x is what the word says of the indicator
+  module _ (x : Bool) (e : x ≡ isNullable a) where
+    -- y is the test of the rest s, and says z
+    pub null-named : (s : List ℕ) (y z : Bool) → y ≡ isNull x s → y ≡ z → isNull (columnNamed a b .nullable) s ≡ z
+    null-named s y z f g = ap (λ (n : Bool). isNull n s) (named-nullable ∙ sym e) ∙ sym f ∙ g
+
+    pub lead-named : (n : ℕ) → n ≡ cond x 1 0 → n ≡ leadOf (columnNamed a b)
+    lead-named n f = f ∙ ap (λ (y : Bool). cond y 1 0) (e ∙ sym named-nullable)
+
+  -- no indicator
+  module _ (e : isNullable a ≡ false) (s : List ℕ) where
+    plain : columnNamed a b .nullable ≡ false
+    plain = named-nullable ∙ e
+
+    pub plain-takes : need (extentOf (columnNamed a b)) s ≡ columnNeed (columnNamed a b) s
+    unfolding columnNeed
+    plain-takes = rw plain
+
+    pub plain-stands : (at : ℕ) → valueIn (columnNamed a b) at s ≡ pieceIn (columnNamed a b) at s
+    unfolding columnNeed cellPiece
+    plain-stands at = rw plain
+
+    pub plain-reads : valueText (columnNamed a b) s ≡ pieceText (columnNamed a b) s
+    plain-reads = ap (λ (p : Piece). textOf (pieceItem ported p)) (plain-stands 0)

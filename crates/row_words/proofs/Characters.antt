@@ -1,8 +1,8 @@
 -- A column whose value is a text, by its words: the bytes that it takes, and its value. Assumes nothing.
 use Prim.Native.Nat.{ℕ, _+_, _-_, _*_, _/_, _%_, _≤_, _<_, _^_}
 use mathlib.Core.Path.{_≡_, refl, sym, ap, _∙_}
-use mathlib.Core.Bool.{Bool, true, false, cond}
-use mathlib.Core.List.{List, [], _∷_}
+use mathlib.Core.Bool.{false, cond}
+use mathlib.Core.List.{List}
 use native.Mathlib.Omega.{arith}
 use lib.Dec.{leb}
 use lib.ListN.{length, take, drop}
@@ -12,15 +12,14 @@ use Rattle.packed.specs.Packed.{decimalText}
 use Rattle.conversion.specs.declared.Conversion.{Conversion}
 use Rattle.conversion.specs.Conversion.{textIn, characterConversion, characterText}
 use Rattle.rules.specs.Extent.{be16, need, extentOf}
-use Rattle.rules.specs.Meaning.{Item, TextSort, text, itemIn, varyingItem, isEmptyLob, refersIn}
-use Rattle.rules.specs.Row.{place, textValue, valueOf, textOf, pieceItem, pieceValue}
+use Rattle.rules.specs.Meaning.{itemIn, varyingItem, isEmptyLob, refersIn}
+use Rattle.rules.specs.Row.{valueOf, textOf, pieceItem, pieceValue}
 use Rattle.rules.specs.Conversions.{ported}
 use Rattle.rules.proofs.Walks.{drop-take}
 use Rattle.piece.specs.Piece.{valueIn, valueText}
 use Rattle.words.specs.Words.{typeNamed}
 use Rattle.words.specs.Reading.{columnNamed}
-use Rattle.words.specs.Values.{sortWord}
-use Rattle.row_words.specs.Passes.{isNullable, typeNumbers, timestampBytes, charactersIn, wordsSet, threeSet}
+use Rattle.row_words.specs.Passes.{typeNumbers, timestampBytes, charactersIn, wordsSet, threeSet}
 
 -- the text of a part of s is that of its bytes, by the conversion k that they ask for
 pub part-reads : (b from n : ℕ) (s : List ℕ) (k : Conversion) → k ≡ characterConversion (b / 2 ^ 32 % 2 ^ 16) (take (n - from) (drop from s))

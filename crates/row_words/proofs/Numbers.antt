@@ -4,9 +4,7 @@ use mathlib.Core.Path.{_≡_, refl, sym, ap, _∙_}
 use mathlib.Core.Bool.{Bool, true, false, cond}
 use mathlib.Core.List.{List, [], _∷_}
 use native.Mathlib.Omega.{arith}
-use lib.Dec.{eqb}
 use lib.ListN.{getD, take}
-use Rattle.types.specs.declared.ValuePlace.{ValuePlace}
 use Rattle.numbers.specs.Number.{numberValue, smallIntIn, integerIn, bigIntIn, realIn, doubleIn}
 use Rattle.rules.specs.Extent.{need, extentOf}
 use Rattle.rules.specs.Meaning.{itemIn, isEmptyLob, refersIn}

@@ -1,7 +1,7 @@
 -- The column that an SDA describes (document 01, "Descriptors": "An SDA column ...", rules Q9 to Q11). Assumes nothing.
-use Prim.Native.Nat.{ℕ, _+_, _*_}
+use Prim.Native.Nat.{ℕ, _+_}
 use mathlib.Core.Bool.{Bool, cond}
-use mathlib.Core.List.{List}
+use mathlib.Core.List.{List, [], _∷_}
 use lib.Dec.{leb, eqb}
 use lib.ListN.{length, getD}
 use Rattle.types.specs.Types.{baseOf, nullableBit, fromDrdaType}
@@ -9,19 +9,16 @@ use Rattle.types.specs.Names.{bit8000, low15}
 use Rattle.types.specs.declared.Db2Type.{Db2Type}
 use Rattle.types.specs.declared.Db2Type.the-variants as type
 use Rattle.types.specs.declared.ByteOrder.{ByteOrder}
-use Rattle.types.specs.declared.ByteOrder.the-variants.{LittleEndian}
+use Rattle.types.specs.declared.ByteOrder.the-variants.{BigEndian, LittleEndian}
 use Rattle.types.specs.declared.ReferenceLength.{ReferenceLength}
 use Rattle.types.specs.declared.ReferenceLength.the-variants.{Absent, Width}
 use Rattle.types.specs.declared.ColumnDescriptor.{ColumnDescriptor}
+use Rattle.numbers.specs.Number.{number}
 use Rattle.column.specs.declared.Numbers.{Numbers}
 
--- two bytes as a number, big-endian
-abbrev pub be16 : ℕ → ℕ → ℕ
-be16 high low = high * 256 + low
-
--- the number in the two bytes at a place: "A field whose bytes aren't all there is 0"
+-- the number in the two bytes at a place, big-endian: "A field whose bytes aren't all there is 0"
 unfoldable pub field16 : List ℕ → ℕ → ℕ
-field16 d at = cond (leb (at + 2) (length d)) (be16 (getD d at 0) (getD d (at + 1) 0)) 0
+field16 d at = cond (leb (at + 2) (length d)) (number BigEndian (getD d at 0 ∷ getD d (at + 1) 0 ∷ [])) 0
 
 -- Q11: "A reference length exists exactly for type codes C8 to CF with length bit 8000: the low 15 bits"
 unfoldable pub referenceLength : ℕ → ℕ → ReferenceLength

@@ -10,8 +10,9 @@ use Rattle.types.specs.declared.Db2Type.{Db2Type}
 use Rattle.types.specs.declared.Db2Type.the-variants as type
 use Rattle.types.specs.declared.ByteOrder.the-variants.{BigEndian}
 use Rattle.types.specs.declared.ColumnDescriptor.{ColumnDescriptor}
+use Rattle.numbers.specs.Number.{number}
 use Rattle.column.specs.declared.EnvEntry.{EnvEntry}
-use Rattle.column.specs.Column.{be16, field16, numbers, column}
+use Rattle.column.specs.Column.{field16, numbers, column}
 
 -- an environment entry: the type that the MDD left, and "CCSID at data 4 and 5 if there are 6 bytes, else 0"
 unfoldable pub entryOf : ℕ → List ℕ → EnvEntry
@@ -49,7 +50,7 @@ groupCcsid t = cond (namedIn characterTypes t) 1208 0
 -- is bit 01 here and for undeclared LIDs"
 unfoldable pub undeclaredColumn : ℕ → ℕ → ℕ → ColumnDescriptor
 undeclaredColumn l a b =
-    let n = be16 a b in
+    let n = number BigEndian (a ∷ b ∷ []) in
     let t = groupType l n in
     cond (eqb (baseOf l) 0x0E) (column l (packedLength a) (numbers a b 0) (nullableBit l) (type.Decimal a b) BigEndian)
     (column l n (numbers 0 0 (groupCcsid t)) (nullableBit l) t BigEndian)
@@ -58,7 +59,7 @@ undeclaredColumn l a b =
 -- `from_drda_type`"
 unfoldable pub declaredColumn : EnvEntry → ℕ → ℕ → ColumnDescriptor
 declaredColumn e a b =
-    let n = be16 a b in
+    let n = number BigEndian (a ∷ b ∷ []) in
     let r = fromDrdaType (e .«drda_type») n 0 0 in
     column (e .«drda_type») n (numbers 0 0 (e .ccsid)) (r .nullable) (r .«db2_type») BigEndian
 

@@ -18,12 +18,13 @@ use Rattle.types.specs.declared.ReferenceLength.the-variants.{Absent, Width}
 use Rattle.types.specs.declared.ColumnDescriptor.{ColumnDescriptor}
 use Rattle.column.specs.declared.Numbers.{Numbers}
 use Rattle.column.specs.declared.EnvEntry.{EnvEntry}
-use Rattle.column.specs.Column.{be16, field16, referenceLength, numbers, column, sdaNumbers, sdaType, sdaColumn}
+use Rattle.column.specs.Column.{field16, referenceLength, numbers, column, sdaNumbers, sdaType, sdaColumn}
 use Rattle.column.specs.Group.{entryOf, noEntry, firstEntry, groupType, groupCcsid, undeclaredColumn, declaredColumn, lidColumn}
 use Rattle.triplets.specs.declared.Pending.{Pending}
 use Rattle.triplets.specs.declared.Pending.the-variants as pending
 use Rattle.triplets.specs.Triplets.{Triplet, firstTriplet, begins, Reading, stopped, after, readingOf, reading}
 use Rattle.triplets.specs.Descriptors.{lastOf, pendingAfter, noEntries, declare, environmentAfter, sdaColumns, outerSda, lidColumns, innerColumns, groupColumns, tripletColumns, columnsFrom, columnsOf}
+use Rattle.numbers.specs.Number.{number as numberOf}
 use Rattle.qrydsc.specs.Qrydsc.{number, numbered}
 use Rattle.words.proofs.TypeWords.{Fitting}
 use Rattle.words.proofs.Fields.{WidthFits, Fits}
@@ -45,12 +46,16 @@ bytes-take (suc n) [] h i = omega arith
 bytes-take (suc n) (b ∷ s) h zero = h 0
 bytes-take (suc n) (b ∷ s) h (suc i) = bytes-take n s (λ j. h (suc j)) i
 
+number-fits : (a b : ℕ) → a < 256 → b < 256 → numberOf BigEndian (a ∷ b ∷ []) < 65536
+unfolding numberOf
+number-fits a b ha hb = omega arith
+
 field-fits : (d : List ℕ) → Bytes d → (at : ℕ) → field16 d at < 65536
 unfolding field16
 field-fits d h at = go (leb (at + 2) (length d))
   where
-    go : (b : Bool) → cond b (be16 (getD d at 0) (getD d (at + 1) 0)) 0 < 65536
-    go true = omega (arith, h at, h (at + 1))
+    go : (b : Bool) → cond b (numberOf BigEndian (getD d at 0 ∷ getD d (at + 1) 0 ∷ [])) 0 < 65536
+    go true = number-fits _ _ (h at) (h (at + 1))
     go false = omega arith
 
 -- ---- types
@@ -157,23 +162,26 @@ undeclared-fits : (l a b : ℕ) → l < 256 → a < 256 → b < 256 → Fits (un
 unfolding undeclaredColumn
 undeclared-fits l a b hl ha hb = go (eqb (baseOf l) 0x0E)
   where
-    wide : be16 a b < 65536
-    wide = omega arith
+    n : ℕ
+    n = numberOf BigEndian (a ∷ b ∷ [])
 
-    go : (x : Bool) → Fits (cond x (column l (packedLength a) (numbers a b 0) (nullableBit l) (type.Decimal a b) BigEndian) (column l (be16 a b) (numbers 0 0 (groupCcsid (groupType l (be16 a b)))) (nullableBit l) (groupType l (be16 a b)) BigEndian))
+    wide : n < 65536
+    wide = number-fits a b ha hb
+
+    go : (x : Bool) → Fits (cond x (column l (packedLength a) (numbers a b 0) (nullableBit l) (type.Decimal a b) BigEndian) (column l n (numbers 0 0 (groupCcsid (groupType l n))) (nullableBit l) (groupType l n) BigEndian))
     go true = column-fits l (packedLength a) (numbers a b 0) (nullableBit l) (type.Decimal a b) BigEndian hl (omega arith) (ha, (hb, omega arith)) (ha, hb)
     go false =
-        column-fits l (be16 a b) (numbers 0 0 (groupCcsid (groupType l (be16 a b)))) (nullableBit l) (groupType l (be16 a b)) BigEndian hl wide
-        (omega arith, (omega arith, ccsid-fits (namedIn (type.Char 0 ∷ type.VarChar 0 ∷ type.LongVarChar ∷ type.Clob ∷ type.ClobLocator ∷ type.DbClobLocator ∷ type.LobChar 0 ∷ type.Date ∷ type.Time ∷ type.Timestamp ∷ type.Xml ∷ []) (groupType l (be16 a b)))))
-        (group-type-fits l (be16 a b) wide)
+        column-fits l n (numbers 0 0 (groupCcsid (groupType l n))) (nullableBit l) (groupType l n) BigEndian hl wide
+        (omega arith, (omega arith, ccsid-fits (namedIn (type.Char 0 ∷ type.VarChar 0 ∷ type.LongVarChar ∷ type.Clob ∷ type.ClobLocator ∷ type.DbClobLocator ∷ type.LobChar 0 ∷ type.Date ∷ type.Time ∷ type.Timestamp ∷ type.Xml ∷ []) (groupType l n))))
+        (group-type-fits l n wide)
 
 declared-fits : (e : EnvEntry) (a b : ℕ) → EntryFits e → a < 256 → b < 256 → Fits (declaredColumn e a b)
 unfolding declaredColumn
 declared-fits e a b he ha hb =
     let c = e .«drda_type» in
-    let n = be16 a b in
+    let n = numberOf BigEndian (a ∷ b ∷ []) in
     let r = fromDrdaType c n 0 0 in
-    let wide : be16 a b < 65536 = omega arith in
+    let wide : n < 65536 = number-fits a b ha hb in
     column-fits c n (numbers 0 0 (e .ccsid)) (r .nullable) (r .«db2_type») BigEndian (he .0) wide (omega arith, (omega arith, he .1)) (drda-fits c n 0 0 wide (omega arith) (omega arith))
 
 lid-fits : (e : EnvEntry) (l a b : ℕ) → EntryFits e → l < 256 → a < 256 → b < 256 → Fits (lidColumn e l a b)

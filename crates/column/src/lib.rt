@@ -14,6 +14,9 @@ ghost use Rattle.column.specs.Column.{field16, referenceLength, sdaNumbe
 ghost use Rattle.column.specs.Group.{entryOf, firstEntry, undeclaredColumn, declaredColumn, lidColumn};
 ghost use Rattle.column.specs.Said.{saidColumn, sdaCode, ListedFor, CcsidFor, NullableFor};
 
+// How many LIDs there are.
+pub const LID_COUNT: usize = 256;
+
 // What an MDD and the SDA after it declare of a LID.
 pub struct EnvEntry {
     pub declared: bool,

@@ -1,7 +1,7 @@
 // Inner. The columns of a description as plain words, for the calls of C and Rust: first counted, then written into lent words. What it costs
 // grows with the description and with the columns in it, and not with the places of a column list. It tests no limit of the description's length.
 use column::EnvEntry;
-use qrydsc::LID_COUNT;
+use column::LID_COUNT;
 use triplets::Cursor;
 use triplets::Next;
 use triplets::Pending;

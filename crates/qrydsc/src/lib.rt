@@ -1,5 +1,6 @@
 // Face. parse_qrydsc: the columns that a host's description (QRYDSC) lists. It reads no rows.
 use column::EnvEntry;
+use column::LID_COUNT;
 use refusal::Outcome;
 use refusal::Refusal;
 use triplets::Cursor;
@@ -18,9 +19,6 @@ ghost use Rattle.qrydsc.specs.Qrydsc.{toldDescription, description, refu
 
 // How many bytes a description may have. specs/Qrydsc.antt calls it maxQrydsc.
 pub const MAX_QRYDSC: usize = 65536;
-
-// How many LIDs there are.
-pub const LID_COUNT: usize = 256;
 
 // What parse_qrydsc answers. After a refusal no column is there.
 pub struct Description {

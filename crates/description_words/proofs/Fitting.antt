@@ -5,6 +5,7 @@ use mathlib.Core.List.{List, [], _∷_, _++_}
 use native.Mathlib.Omega.{arith}
 use lib.Dec.{leb, ltb, eqb}
 use lib.ListN.{length, getD, take, drop, set, replicate}
+pub use Rattle.unicode.specs.Laws.{Bytes}
 use Rattle.types.specs.Types.{baseTypes, listedOr, baseOf, nullableBit, drdaType, fromDrdaType}
 use Rattle.types.specs.FixedLength.{packedLength}
 use Rattle.types.specs.Names.{bit8000, low15, namedIn}
@@ -31,9 +32,6 @@ use Rattle.words.proofs.Fields.{WidthFits, Fits}
 use Rattle.words.proofs.Columns.{AllFit}
 
 -- ---- bytes
-
-abbrev pub Bytes : List ℕ → Type 0
-Bytes s = (i : ℕ) → getD s i 0 < 256
 
 bytes-drop : (n : ℕ) (s : List ℕ) → Bytes s → Bytes (drop n s)
 bytes-drop zero s h = h

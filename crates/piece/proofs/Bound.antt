@@ -25,15 +25,12 @@ use Rattle.types.specs.Names.{bit8000, low15}
 use Rattle.rules.specs.Extent.{isReference, isShortReference, saysHeader}
 use Rattle.rules.specs.Meaning.{blob, TextSort, Item, nothing, number, boolean, part, text, Lob, blobs, clobs, xmls, allZero, isEmptyReference, headerBytes, isEmptyHeader, headerItem, lobEmpty, lobReference, lobInline, lobItem, varyingItem, lobBytesItem, lobCharItem, typeItem, itemIn}
 use Rattle.rules.specs.Walk.{columnNeed, Piece, absent, present, cellPiece, Walk, done, short, walk, walkBody}
+pub use Rattle.unicode.specs.Laws.{Bytes}
 use Rattle.rules.specs.Row.{textOf, pieceItem, rowTexts}
 use Rattle.rules.specs.Conversions.{ported}
 use Rattle.rules.proofs.Tests.{lt-or-le}
 use Rattle.rules.proofs.Walks.{isDone, usedOf, piecesOf, walk-step, walk-first}
 use Rattle.rules.proofs.Progress.{pieceAt, cons-inverse}
-
--- every byte is one
-abbrev pub Bytes : List ℕ → Type 0
-Bytes s = (i : ℕ) → getD s i 0 < 256
 
 pub bytes-drop : (n : ℕ) (s : List ℕ) → Bytes s → Bytes (drop n s)
 bytes-drop n s h i = rw (getD-drop n s i 0) (h (n + i))

@@ -13,15 +13,13 @@ use lib.Dec.{leb, ltb, eqb}
 use borrow.Author.Tests.{leb-true, ltb-true}
 use Rattle.types.specs.declared.Db2Type.{Db2Type}
 use Rattle.types.specs.declared.Db2Type.the-variants as type
-use Rattle.types.specs.declared.ByteOrder.{ByteOrder}
-use Rattle.types.specs.declared.ByteOrder.the-variants.{BigEndian, LittleEndian}
 use Rattle.types.specs.declared.ReferenceLength.{ReferenceLength}
 use Rattle.types.specs.declared.ReferenceLength.the-variants.{Absent, Width}
 use Rattle.types.specs.declared.ColumnDescriptor.{ColumnDescriptor}
 use Rattle.rules.specs.declared.Extent.{Extent}
 use Rattle.rules.specs.declared.Extent.the-variants.{Fixed, Counted, Header, Inline, Locator, Materialized}
 use Rattle.numbers.specs.Number.{digits, number}
-use Rattle.types.specs.Names.{bit8000, low15}
+use Rattle.types.specs.Names.{bit8000, low15, graphicLengthIsCharacterCount}
 use Rattle.rules.specs.Extent.{be16, be32, isReference, isHexDigit, hexDigits, isShortReference, saysHeader, lobNeed, need, graphicUnit, varyingExtent, lobExtent, lengthExtent, typeExtent}
 use Rattle.cell.specs.Inner.{unitOf, sizeOf, mostSize, mostNeed}
 
@@ -53,9 +51,8 @@ short-below n s e = go (leb 1024 n) (leb 16 (length s)) (ltb (length s) n) refl 
     go false y z l f = absurd (true≢false (sym f))
 
 -- units
-pub unit-two : (ccsid : ℕ) (o : ByteOrder) → graphicUnit ccsid o ≤ 2
-unit-two ccsid BigEndian = omega arith
-unit-two ccsid LittleEndian = go (eqb ccsid 1200)
+pub unit-two : (c : ColumnDescriptor) → graphicUnit c ≤ 2
+unit-two c = go (graphicLengthIsCharacterCount c)
   where
     go : (t : Bool) → cond t 2 1 ≤ 2
     go true = omega arith
@@ -99,7 +96,7 @@ unit-small type.Date c = omega arith
 unit-small type.Time c = omega arith
 unit-small type.Timestamp c = omega arith
 unit-small (type.Graphic n) c = omega arith
-unit-small (type.VarGraphic n) c = varying-small n (graphicUnit (c .ccsid) (c .«byte_order»)) (unit-two (c .ccsid) (c .«byte_order»))
+unit-small (type.VarGraphic n) c = varying-small n (graphicUnit c) (unit-two c)
 unit-small type.DbClob c = lob-small (c .«extdta_reference_length») (lengthExtent (c .length)) (length-small (c .length))
 unit-small type.ClobLocator c = omega arith
 unit-small type.DbClobLocator c = omega arith

@@ -17,7 +17,7 @@ use Rattle.conversion.proofs.PlainText.{locator-length}
 use Rattle.rules.specs.declared.Extent.the-variants.{Fixed}
 use Rattle.types.specs.Names.{bit8000, low15}
 use Rattle.rules.specs.Extent.{hexDigits, isReference, isShortReference, need, extentOf}
-use Rattle.rules.specs.OwnEnd.{isAbsent}
+use Rattle.types.specs.Names.{isAbsent}
 use Rattle.rules.specs.Meaning.{Item, Lob, blobs, clobs, xmls, ByteSort, TextSort, allZero, isEmptyReference, isEmptyHeader, headerBytes, headerItem, lobEmpty, lobReference}
 use Rattle.rules.specs.Meaning.{lobInline, lobItem, varyingItem, lobBytesItem, lobCharItem, isLobText, isEmptyLob, typeItem, itemIn, typeRefers, refersIn}
 use Rattle.rules.specs.Conversions.{ported}

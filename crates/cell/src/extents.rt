@@ -144,13 +144,13 @@ fn extent_need(extent: Extent, s: &[u8]) -> usize
     }
 }
 
-// The Rust: graphic_length_is_character_count.
-fn graphic_unit(ccsid: u16, order: ByteOrder) -> usize
-    ensures { λ r. ⌜ r ≡ graphicUnit ccsid order ⌝ }
+fn graphic_unit(column: ColumnDescriptor) -> usize
+    ensures { λ r. ⌜ r ≡ graphicUnit column ⌝ }
 {
-    match order {
-        ByteOrder::BigEndian => 1,
-        ByteOrder::LittleEndian => { if ccsid == 1200 { 2 } else { 1 } }
+    if column.graphic_length_is_character_count() {
+        2
+    } else {
+        1
     }
 }
 
@@ -195,8 +195,6 @@ fn extent_of(column: ColumnDescriptor) -> Extent
 {
     let t = column.db2_type;
     let length = column.length;
-    let ccsid = column.ccsid;
-    let order = column.byte_order;
     match t {
         Db2Type::SmallInt => Extent::Fixed(2),
         Db2Type::Integer => Extent::Fixed(4),
@@ -231,8 +229,8 @@ fn extent_of(column: ColumnDescriptor) -> Extent
         Db2Type::Date => Extent::Fixed(10),
         Db2Type::Time => Extent::Fixed(8),
         Db2Type::Timestamp => Extent::Fixed(length_or(length, 26)),
-        Db2Type::Graphic(n) => Extent::Fixed(graphic_unit(ccsid, order) * n as usize),
-        Db2Type::VarGraphic(n) => varying_extent(n, graphic_unit(ccsid, order)),
+        Db2Type::Graphic(n) => Extent::Fixed(graphic_unit(column) * n as usize),
+        Db2Type::VarGraphic(n) => varying_extent(n, graphic_unit(column)),
         Db2Type::DbClob => {
             let reference = column.extdta_reference_length;
             lob_extent(reference, length_extent(length))

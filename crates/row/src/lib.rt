@@ -9,18 +9,15 @@ use refusal::INPUT_LIMIT;
 use refusal::Outcome;
 use refusal::Refusal;
 use types::Columns;
-use types::Db2Type;
 use types::Db2Value;
 use types::MAX_COLUMNS;
 use types::Place;
 use types::RowAnswer;
 use types::ValuePlace;
 ghost use mathlib.Core.Path.{_≡_};
-ghost use mathlib.Core.List.{[], _∷_};
 ghost use Prim.Native.Nat.{_≤_};
 ghost use lib.ListN.{length};
 ghost use Rattle.refusal.specs.Refusal.{inputLimit, refusalNumber, refusalValues};
-ghost use Rattle.types.specs.Names.{namedIn};
 ghost use Rattle.types.specs.Places.{maxColumns, blankValue};
 ghost use Rattle.rules.specs.Walk.{walkBody};
 ghost use Rattle.rules.specs.Row.{toldRow, covered, bodyDecision, answerOf, textAfter, refusedRow};
@@ -47,15 +44,6 @@ fn refused(r: Refusal) -> RowAnswer
         outcome: Outcome::Refused(r),
         places,
         used: 0,
-    }
-}
-
-fn is_dec_float(t: Db2Type) -> bool
-    ensures { λ r. ⌜ r ≡ namedIn (Db2Type.DecFloat 0 ∷ []) t ⌝ }
-{
-    match t {
-        Db2Type::DecFloat(_) => true,
-        _ => false,
     }
 }
 
@@ -156,8 +144,7 @@ pub fn decode_row(data: &[u8], columns: Columns, text: &mut [u8]) -> RowAnswer
     let mut i: usize = 0;
     while i < count {
         let column = columns.columns[i];
-        let t = column.db2_type;
-        if is_dec_float(t) {
+        if column.is_dec_float() {
             return refused(Refusal::DecFloatColumn);
         }
         i += 1;
@@ -181,7 +168,8 @@ fn part<'a>(s: &'a [u8], p: Place) -> &'a [u8]
     &s[start..start + len]
 }
 
-// The bytes of a value: a part of the row or of the text buffer.
+// The bytes of a value: a part of the row or of the text buffer. The promise is on the bytes. It leaves free which of the two the part is of where
+// both would show the same bytes, and so wherever the part is empty.
 pub fn value_bytes<'a>(value: Db2Value, row: &'a [u8], text: &'a [u8]) -> &'a [u8]
     ensures { λ r. ⌜ now r ≡ valueBytes value (now (row .entry)) (now (text .entry)) ⌝ }
 {

@@ -19,7 +19,7 @@ use Rattle.types.specs.declared.Place.{Place}
 use Rattle.types.specs.declared.ColumnDescriptor.{ColumnDescriptor}
 use Rattle.types.specs.declared.Columns.{Columns}
 use Rattle.types.specs.declared.ValuePlace.{ValuePlace}
-use Rattle.types.specs.Names.{namedIn}
+use Rattle.types.specs.Names.{isDecFloat}
 use Rattle.types.specs.Places.{maxColumns, filled, blankColumn, blankValue}
 use Rattle.types.specs.Held.{Held, bits, row, textBuffer, held}
 use Rattle.numbers.specs.Number.{Number, numberValue, realOf, doubleOf}
@@ -170,7 +170,7 @@ number-sorts =
 
 -- for every choice of conversions whose numbers are of their type's sort
 module _ (L : Conversions) (ns : Numbers L NumberSort) where
-  value-allowed : (c : ColumnDescriptor) → namedIn (type.DecFloat 0 ∷ []) (c .«db2_type») ≡ false → (n : ℕ) (x : Item)
+  value-allowed : (c : ColumnDescriptor) → isDecFloat c ≡ false → (n : ℕ) (x : Item)
       → Item-of (sortsOf (c .«db2_type»)) n (NumberSort (c .«db2_type»)) (Nothing (c .«db2_type»)) x → (at next : ℕ) → Allows c (valueOf x at next)
   unfolding valueOf
   value-allowed c plain n nothing h at next = ⊎-elim inr (λ e. absurd (true≢false (sym e ∙ plain))) h
@@ -179,7 +179,7 @@ module _ (L : Conversions) (ns : Numbers L NumberSort) where
   value-allowed c plain n (part k from l) h at next = rw part-sort (h .0)
   value-allowed c plain n (text k t) h at next = rw text-sort h
 
-  present-allowed : (c : ColumnDescriptor) → namedIn (type.DecFloat 0 ∷ []) (c .«db2_type») ≡ false → (at : ℕ) (s : List ℕ) (next : ℕ)
+  present-allowed : (c : ColumnDescriptor) → isDecFloat c ≡ false → (at : ℕ) (s : List ℕ) (next : ℕ)
       → Allows c (pieceValue L (present c at s) next .value)
   unfolding pieceValue itemIn
   present-allowed c plain at s next = value-allowed c plain (length s) (itemIn L c s) (item-of L NumberSort ns (c .«db2_type») c s) at next
@@ -188,7 +188,7 @@ module _ (L : Conversions) (ns : Numbers L NumberSort) where
   unfolding pieceValue blankValue
   absent-allowed c e next = inl e
 
-  piece-allowed : (c : ColumnDescriptor) → namedIn (type.DecFloat 0 ∷ []) (c .«db2_type») ≡ false → (t : Bool) → c .nullable ≡ t → (at : ℕ) (s : List ℕ) (next : ℕ)
+  piece-allowed : (c : ColumnDescriptor) → isDecFloat c ≡ false → (t : Bool) → c .nullable ≡ t → (at : ℕ) (s : List ℕ) (next : ℕ)
       → Allows c (pieceValue L (cellPiece t c at s) next .value)
   unfolding cellPiece
   piece-allowed c plain true e at [] next = absent-allowed c e next
@@ -218,8 +218,8 @@ module _ (L : Conversions) (ns : Numbers L NumberSort) where
       let k = columnNeed c s in
       let h = walk-first start c cs at s o in
       let r = walk-rest start c cs at s o in
-      let this = or-left (namedIn (type.DecFloat 0 ∷ []) (c .«db2_type»)) (anyDecFloat cs) plain in
-      let others = or-right (namedIn (type.DecFloat 0 ∷ []) (c .«db2_type»)) (anyDecFloat cs) plain in
+      let this = or-left (isDecFloat c) (anyDecFloat cs) plain in
+      let others = or-right (isDecFloat c) (anyDecFloat cs) plain in
       subst (λ (w : Walk). AllAllowed (c ∷ cs) (rowValues L (piecesOf w) next)) (sym (walk-step start c cs at s k refl h))
       (cons-allowed c cs (cellPiece (c .nullable) c at (take k s)) (walk start cs (at + k) (drop k s)) next r
       (piece-allowed c this (c .nullable) refl at (take k s) next)

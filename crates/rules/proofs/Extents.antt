@@ -22,9 +22,9 @@ use Rattle.numbers.specs.Number.{number}
 use Rattle.numbers.proofs.Laws.{take-first}
 use Rattle.rules.specs.declared.Extent.{Extent}
 use Rattle.rules.specs.declared.Extent.the-variants.{Fixed, Counted, Header, Inline, Locator, Materialized}
-use Rattle.types.specs.Names.{low15}
+use Rattle.types.specs.Names.{low15, isAbsent}
 use Rattle.rules.specs.Extent.{be16, be32, referenceMark, isReference, isShortReference, saysHeader, hexDigits, lobNeed, need, graphicUnit, lobExtent, typeExtent, extentOf}
-use Rattle.rules.specs.OwnEnd.{isAbsent, isLongMaterialized, isLobOfLength0, isTinyHeader, carriesOwnEnd}
+use Rattle.rules.specs.OwnEnd.{isLongMaterialized, isLobOfLength0, isTinyHeader, carriesOwnEnd}
 use Rattle.rules.proofs.Tests.{lt-or-le, is-false, not-true, and-left, and-right, and-false, or-left}
 
 abbrev pub Stays : (List ℕ → ℕ) → Type 0
@@ -381,7 +381,7 @@ type-ends type.Date c e = refl
 type-ends type.Time c e = refl
 type-ends type.Timestamp c e = refl
 type-ends (type.Graphic n) c e = refl
-type-ends (type.VarGraphic n) c e = header-ends (leb 0x8000 n) (low15 n) (graphicUnit (c .ccsid) (c .«byte_order»)) e
+type-ends (type.VarGraphic n) c e = header-ends (leb 0x8000 n) (low15 n) (graphicUnit c) e
 type-ends type.DbClob c e = lob-ends (c .«extdta_reference_length») (eqb (c .length) 0) e
 type-ends type.ClobLocator c e = refl
 type-ends type.DbClobLocator c e = refl

@@ -18,8 +18,7 @@ use lib.Dec.{eqb}
 use borrow.Author.Tests.{lt-leb}
 use Rattle.types.specs.declared.ColumnDescriptor.{ColumnDescriptor}
 use Rattle.types.specs.declared.ValuePlace.{ValuePlace}
-use Rattle.types.specs.declared.Db2Type.the-variants as type
-use Rattle.types.specs.Names.{namedIn}
+use Rattle.types.specs.Names.{isDecFloat}
 use Rattle.types.specs.Places.{maxColumns, filled, blankValue}
 use Rattle.buffer.specs.Buffer.{written}
 use Rattle.buffer.proofs.Writing as writing
@@ -57,11 +56,11 @@ module _ (cs : List ColumnDescriptor) where
   seeking-start = record { same = refl }
 
   module _ {i : ℕ} (g : Seeking i) (c : ColumnDescriptor) (e : drop i cs ≡ c ∷ drop (i + 1) cs) where
-    pub seeking-found : namedIn (type.DecFloat 0 ∷ []) (c .«db2_type») ≡ true → anyDecFloat cs ≡ true
+    pub seeking-found : isDecFloat c ≡ true → anyDecFloat cs ≡ true
     unfolding anyDecFloat
     seeking-found h = g .same ∙ rw (e, h)
 
-    pub seeking-step : namedIn (type.DecFloat 0 ∷ []) (c .«db2_type») ≡ false → Seeking (i + 1)
+    pub seeking-step : isDecFloat c ≡ false → Seeking (i + 1)
     unfolding anyDecFloat
     seeking-step h = record { same = g .same ∙ rw (e, h) }
 

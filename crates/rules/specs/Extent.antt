@@ -7,11 +7,10 @@ use mathlib.Core.List.{List, [], _∷_}
 use lib.ListN.{length, take, getD}
 use lib.Dec.{ltb, leb, eqb}
 use Rattle.types.specs.FixedLength.{packedLength}
-use Rattle.types.specs.Names.{bit8000, low15}
+use Rattle.types.specs.Names.{bit8000, low15, graphicLengthIsCharacterCount}
 use Rattle.types.specs.declared.Db2Type.{Db2Type}
 use Rattle.types.specs.declared.Db2Type.the-variants as type
-use Rattle.types.specs.declared.ByteOrder.{ByteOrder}
-use Rattle.types.specs.declared.ByteOrder.the-variants.{BigEndian, LittleEndian}
+use Rattle.types.specs.declared.ByteOrder.the-variants.{BigEndian}
 use Rattle.types.specs.declared.ReferenceLength.{ReferenceLength}
 use Rattle.types.specs.declared.ReferenceLength.the-variants.{Absent, Width}
 use Rattle.types.specs.declared.ColumnDescriptor.{ColumnDescriptor}
@@ -62,10 +61,9 @@ need Inline s = lobNeed (4 + be32 s) s
 need Locator s = lobNeed 4 s
 need (Materialized n) s = cond (isShortReference n s) (length s) n
 
--- the Rust: graphic_length_is_character_count. A length of a graphic column counts units of so many bytes
-abbrev pub graphicUnit : ℕ → ByteOrder → ℕ
-graphicUnit ccsid BigEndian = 1
-graphicUnit ccsid LittleEndian = cond (eqb ccsid 1200) 2 1
+-- a length of a graphic column counts units of so many bytes
+abbrev pub graphicUnit : ColumnDescriptor → ℕ
+graphicUnit c = cond (graphicLengthIsCharacterCount c) 2 1
 
 -- VarChar and VarGraphic: with bit 8000 the value is a header of a LOB that is outside the row
 abbrev pub varyingExtent : ℕ → ℕ → Extent
@@ -100,8 +98,8 @@ typeExtent type.BlobLocator c = Fixed 4
 typeExtent type.Date c = Fixed 10
 typeExtent type.Time c = Fixed 8
 typeExtent type.Timestamp c = Fixed (cond (eqb (c .length) 0) 26 (c .length))
-typeExtent (type.Graphic n) c = Fixed (graphicUnit (c .ccsid) (c .«byte_order») * n)
-typeExtent (type.VarGraphic n) c = varyingExtent n (graphicUnit (c .ccsid) (c .«byte_order»))
+typeExtent (type.Graphic n) c = Fixed (graphicUnit c * n)
+typeExtent (type.VarGraphic n) c = varyingExtent n (graphicUnit c)
 typeExtent type.DbClob c = lobExtent (c .«extdta_reference_length») (lengthExtent (c .length))
 typeExtent type.ClobLocator c = Fixed 4
 typeExtent type.DbClobLocator c = Fixed 4

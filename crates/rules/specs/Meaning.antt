@@ -13,10 +13,9 @@ use Rattle.types.specs.declared.ByteOrder.{ByteOrder}
 use Rattle.types.specs.declared.ReferenceLength.{ReferenceLength}
 use Rattle.types.specs.declared.ReferenceLength.the-variants.{Absent, Width}
 use Rattle.types.specs.declared.ColumnDescriptor.{ColumnDescriptor}
-use Rattle.types.specs.Names.{ownNumbers, bit8000, low15, namedIn}
+use Rattle.types.specs.Names.{ownNumbers, bit8000, low15, namedIn, isAbsent}
 use Rattle.numbers.specs.Number.{Number}
 use Rattle.rules.specs.Extent.{isReference, isShortReference, saysHeader}
-use Rattle.rules.specs.OwnEnd.{isAbsent}
 
 -- the sorts of value that are a part of the row, and those that are a text
 pub data ByteSort : Type 0 where

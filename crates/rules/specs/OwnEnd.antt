@@ -4,14 +4,8 @@ use mathlib.Core.List.{List, [], _∷_}
 use lib.Dec.{leb, eqb}
 use Rattle.types.specs.declared.Db2Type.{Db2Type}
 use Rattle.types.specs.declared.Db2Type.the-variants as type
-use Rattle.types.specs.declared.ReferenceLength.{ReferenceLength}
-use Rattle.types.specs.declared.ReferenceLength.the-variants.{Absent, Width}
 use Rattle.types.specs.declared.ColumnDescriptor.{ColumnDescriptor}
-use Rattle.types.specs.Names.{ownNumbers, bit8000, low15, namedIn}
-
-abbrev pub isAbsent : ReferenceLength → Bool
-isAbsent Absent = true
-isAbsent (Width w) = false
+use Rattle.types.specs.Names.{ownNumbers, bit8000, low15, namedIn, isAbsent}
 
 -- "LobBytes or LobChar with the low 15 bits of its length 1,024 or more"
 abbrev pub isLongMaterialized : Db2Type → Bool

@@ -6,7 +6,6 @@ use lib.ListN.{length, take}
 use lib.Dec.{ltb, eqb}
 use Rattle.refusal.specs.Refusal.{Told, accepted, refused, told, inputLimit}
 use Rattle.buffer.specs.Buffer.{written}
-use Rattle.types.specs.declared.Db2Type.the-variants as type
 use Rattle.types.specs.declared.Db2Value.{Db2Value}
 use Rattle.types.specs.declared.Db2Value.the-variants as value
 use Rattle.types.specs.declared.Place.{Place}
@@ -14,7 +13,7 @@ use Rattle.types.specs.declared.ColumnDescriptor.{ColumnDescriptor}
 use Rattle.types.specs.declared.Columns.{Columns}
 use Rattle.types.specs.declared.ValuePlace.{ValuePlace}
 use Rattle.types.specs.declared.RowAnswer.{RowAnswer}
-use Rattle.types.specs.Names.{namedIn}
+use Rattle.types.specs.Names.{isDecFloat}
 use Rattle.types.specs.Places.{maxColumns, filled, blankValue}
 use Rattle.numbers.specs.Number.{numberValue}
 use Rattle.rules.specs.Meaning.{ByteSort, binary, blob, TextSort, decimal, char, varChar, clob, rowId, date, time, timestamp, xml, Item, nothing, number, boolean, part, text, Conversions, itemIn, refersIn}
@@ -101,7 +100,7 @@ pub data Decision : Type 0 where
 -- refusal 5: "A column of type DecFloat"
 unfoldable pub anyDecFloat : List ColumnDescriptor → Bool
 anyDecFloat [] = false
-anyDecFloat (c ∷ cs) = namedIn (type.DecFloat 0 ∷ []) (c .«db2_type») || anyDecFloat cs
+anyDecFloat (c ∷ cs) = isDecFloat c || anyDecFloat cs
 
 -- "among those the count covers"
 abbrev pub covered : Columns → List ColumnDescriptor

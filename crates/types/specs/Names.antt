@@ -1,10 +1,15 @@
--- A type's name, the numbers that it holds, and the two parts of a length; whether a type is one of a list of types by name, whatever its numbers. Assumes nothing.
+-- A type's name, the numbers that it holds, and the two parts of a length; whether a type is one of a list of types by name, whatever its numbers; tests of columns. Assumes nothing.
 use Prim.Native.Nat.{ℕ, _+_, _*_, _%_, _^_}
-use mathlib.Core.Bool.{Bool, false, _||_}
+use mathlib.Core.Bool.{Bool, true, false, _&&_, _||_}
 use mathlib.Core.List.{List, [], _∷_}
 use lib.Dec.{leb, eqb}
 use Rattle.types.specs.declared.Db2Type.{Db2Type}
 use Rattle.types.specs.declared.Db2Type.the-variants as type
+use Rattle.types.specs.declared.ByteOrder.{ByteOrder}
+use Rattle.types.specs.declared.ByteOrder.the-variants.{BigEndian, LittleEndian}
+use Rattle.types.specs.declared.ReferenceLength.{ReferenceLength}
+use Rattle.types.specs.declared.ReferenceLength.the-variants.{Absent, Width}
+use Rattle.types.specs.declared.ColumnDescriptor.{ColumnDescriptor}
 
 -- the place of a type's name in the enum
 abbrev pub nameOf : Db2Type → ℕ
@@ -82,3 +87,18 @@ low15 n = n % 0x8000
 abbrev pub namedIn : List Db2Type → Db2Type → Bool
 namedIn [] t = false
 namedIn (u ∷ us) t = eqb (nameOf u) (nameOf t) || namedIn us t
+
+abbrev pub isDecFloat : ColumnDescriptor → Bool
+isDecFloat c = namedIn (type.DecFloat 0 ∷ []) (c .«db2_type»)
+
+abbrev pub isAbsent : ReferenceLength → Bool
+isAbsent Absent = true
+isAbsent (Width w) = false
+
+abbrev pub isLittleEndian : ByteOrder → Bool
+isLittleEndian BigEndian = false
+isLittleEndian LittleEndian = true
+
+-- a length of a graphic column counts characters of two bytes; else it counts bytes
+abbrev pub graphicLengthIsCharacterCount : ColumnDescriptor → Bool
+graphicLengthIsCharacterCount c = isLittleEndian (c .«byte_order») && eqb (c .ccsid) 1200

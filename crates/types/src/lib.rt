@@ -1,9 +1,10 @@
-// Face. The types of columns and values: what a column list and the answer of the row call are made of, and the two questions that a column
-// type answers by itself: which DRDA type code stands for it, and how many bytes its values take. It reads no description and no row.
+// Face. The types of columns and values: what a column list and the answer of the row call are made of; which type a DRDA type code stands for, and the
+// questions that a type or a column answers by itself. It reads no description and no row.
 use refusal::Outcome;
 ghost use mathlib.Core.Path.{_≡_};
 ghost use Rattle.types.specs.Types.{fromDrdaType};
 ghost use Rattle.types.specs.FixedLength.{toldLength, fixedLength};
+ghost use Rattle.types.specs.Names.{graphicLengthIsCharacterCount, isDecFloat};
 ghost use Rattle.types.specs.Kinds.{kindIn, ofKind};
 
 // How many columns a list has places for. specs/Places.antt calls it maxColumns.
@@ -66,7 +67,8 @@ pub enum ReferenceLength {
     Width(u16),
 }
 
-// The byte order stands before the reference length: behind it, reading it stalls, at about 40 % of the time that an Integer takes (measured).
+// The byte order stands before the reference length. Behind it, its load waited for bytes that were just stored in another width (seen in a profile of
+// Integer columns).
 pub struct ColumnDescriptor {
     pub column_index: u8,
     pub drda_type: u8,
@@ -362,6 +364,30 @@ impl Db2Type {
             }
             Db2Type::RowId(len) => FixedLength::Bytes(len as usize),
             _ => FixedLength::Varies,
+        }
+    }
+}
+
+impl ColumnDescriptor {
+    // Whether a length of a graphic column counts characters of two bytes; else it counts bytes.
+    pub fn graphic_length_is_character_count(self) -> bool
+        ensures { λ r. ⌜ r ≡ graphicLengthIsCharacterCount self ⌝ }
+    {
+        let order = self.byte_order;
+        match order {
+            ByteOrder::BigEndian => false,
+            ByteOrder::LittleEndian => self.ccsid == 1200,
+        }
+    }
+
+    // Whether the column is of type DecFloat, which the row call refuses.
+    pub fn is_dec_float(self) -> bool
+        ensures { λ r. ⌜ r ≡ isDecFloat self ⌝ }
+    {
+        let t = self.db2_type;
+        match t {
+            Db2Type::DecFloat(_) => true,
+            _ => false,
         }
     }
 }

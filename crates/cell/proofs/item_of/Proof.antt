@@ -133,7 +133,7 @@ header-item-requires-2 : tie.Need-header-item-requires-2
 header-item-requires-2 c κs = search needs
 
 graphics-from-requires-2 : tie.Need-graphics-from-requires-2
-graphics-from-requires-2 c κs = counted-there (graphicUnit (c .before .before .before .before .before .args .column .ccsid) (c .before .before .before .before .before .args .column .«byte_order»)) (now (c .before .before .before .before .before .args .bytes)) (rw (lt-leb 0x8000 _ (c .if2 .left)) at (need-by (c .before .before .before .before .before .args .column) (now (c .before .before .before .before .before .args .bytes)) (c .before .before .t3 .given .1) (c .before .before .before .before .before .pre)))
+graphics-from-requires-2 c κs = counted-there (graphicUnit (c .before .before .before .before .before .args .column)) (now (c .before .before .before .before .before .args .bytes)) (rw (lt-leb 0x8000 _ (c .if2 .left)) at (need-by (c .before .before .before .before .before .args .column) (now (c .before .before .before .before .before .args .bytes)) (c .before .before .t3 .given .1) (c .before .before .before .before .before .pre)))
 
 enum-told-18 : tie.Need-enum-told-18
 enum-told-18 c = search needs

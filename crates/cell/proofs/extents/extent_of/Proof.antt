@@ -26,11 +26,11 @@ enum-told-5 c = search needs
 enum-known-t : tie.Need-enum-known-t
 enum-known-t c = search needs
 
-cast-t21 : tie.Need-cast-t21
-cast-t21 c = search needs
+cast-t19 : tie.Need-cast-t19
+cast-t19 c = search needs
 
-add-t22 : tie.Need-add-t22
-add-t22 c = search needs
+add-t20 : tie.Need-add-t20
+add-t20 c = search needs
 
 enum-known-t-2 : tie.Need-enum-known-t-2
 enum-known-t-2 c = search needs
@@ -38,8 +38,8 @@ enum-known-t-2 c = search needs
 enum-known-t-3 : tie.Need-enum-known-t-3
 enum-known-t-3 c = search needs
 
-cast-t26 : tie.Need-cast-t26
-cast-t26 c = search needs
+cast-t24 : tie.Need-cast-t24
+cast-t24 c = search needs
 
 enum-known-t-4 : tie.Need-enum-known-t-4
 enum-known-t-4 c = search needs
@@ -62,8 +62,8 @@ lob-extent-requires c κs = search needs
 enum-known-t-5 : tie.Need-enum-known-t-5
 enum-known-t-5 c = search needs
 
-cast-t28 : tie.Need-cast-t28
-cast-t28 c = search needs
+cast-t26 : tie.Need-cast-t26
+cast-t26 c = search needs
 
 enum-told-8 : tie.Need-enum-told-8
 enum-told-8 c = search needs
@@ -98,13 +98,12 @@ enum-known-t-6 c = search needs
 graphic-unit-requires : tie.Need-graphic-unit-requires
 graphic-unit-requires c κs = search needs
 
-cast-t32 : tie.Need-cast-t32
-cast-t32 c = search needs
+cast-t30 : tie.Need-cast-t30
+cast-t30 c = search needs
 
-mul-t33 : tie.Need-mul-t33
-mul-t33 c =
-    let column = c .before .before .before .before .args .column in
-    let two = unit-two (column .ccsid) (column .«byte_order») in
+mul-t31 : tie.Need-mul-t31
+mul-t31 c =
+    let two = unit-two (c .before .before .before .before .args .column) in
     let u : c .graphic-unit .result ≤ 2 = rw (c .graphic-unit .ensures) two in
     record { fits = omega (arith, mul-le-mul-right (c .before .before .t6 .given .0 .0) u) }
 
@@ -135,20 +134,20 @@ enum-told-16 c = search needs
 enum-known-t-8 : tie.Need-enum-known-t-8
 enum-known-t-8 c = search needs
 
-cast-t37 : tie.Need-cast-t37
-cast-t37 c = search needs
+cast-t35 : tie.Need-cast-t35
+cast-t35 c = search needs
 
 enum-known-t-9 : tie.Need-enum-known-t-9
 enum-known-t-9 c = search needs
 
-cast-t39 : tie.Need-cast-t39
-cast-t39 c = search needs
+cast-t37 : tie.Need-cast-t37
+cast-t37 c = search needs
 
 enum-known-t-10 : tie.Need-enum-known-t-10
 enum-known-t-10 c = search needs
 
-cast-t40 : tie.Need-cast-t40
-cast-t40 c = search needs
+cast-t38 : tie.Need-cast-t38
+cast-t38 c = search needs
 
 enum-told-17 : tie.Need-enum-told-17
 enum-told-17 c = search needs
@@ -224,8 +223,7 @@ returns-19 c = (rw (c .before .enum-told13 .given .1, c .length-or .ensures .0),
 
 returns-20 : tie.Need-returns-20
 returns-20 c =
-    let column = c .before .before .before .before .args .column in
-    let two = unit-two (column .ccsid) (column .«byte_order») in
+    let two = unit-two (c .before .before .before .before .args .column) in
     let u : c .graphic-unit .result ≤ 2 = rw (c .graphic-unit .ensures) two in
     (rw (c .before .before .t6 .given .1, c .graphic-unit .ensures), omega (arith, c .before .known-told6 .given .0 .1, mul-le-mul-right (c .before .before .t6 .given .0 .0) u))
 
@@ -269,11 +267,11 @@ extent-of-spec =
     enum-told-4
     enum-told-5
     enum-known-t
-    cast-t21
-    add-t22
+    cast-t19
+    add-t20
     enum-known-t-2
     enum-known-t-3
-    cast-t26
+    cast-t24
     enum-known-t-4
     varying-extent-requires
     enum-told-6
@@ -281,7 +279,7 @@ extent-of-spec =
     length-extent-requires
     lob-extent-requires
     enum-known-t-5
-    cast-t28
+    cast-t26
     enum-told-8
     enum-told-9
     length-extent-requires-2
@@ -293,8 +291,8 @@ extent-of-spec =
     length-or-requires
     enum-known-t-6
     graphic-unit-requires
-    cast-t32
-    mul-t33
+    cast-t30
+    mul-t31
     enum-known-t-7
     graphic-unit-requires-2
     varying-extent-requires-2
@@ -304,11 +302,11 @@ extent-of-spec =
     enum-told-15
     enum-told-16
     enum-known-t-8
-    cast-t37
+    cast-t35
     enum-known-t-9
-    cast-t39
+    cast-t37
     enum-known-t-10
-    cast-t40
+    cast-t38
     enum-told-17
     length-or-requires-2
     enum-told-18

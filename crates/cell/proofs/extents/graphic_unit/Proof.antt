@@ -1,23 +1,17 @@
--- `cell::extents::graphic_unit` meets its contract: the case and the test on the way to each `return` decide the definition's. Assumes nothing.
-use borrow.Author.Tests.{eq-eqb, ne-eqb}
+-- `cell::extents::graphic_unit` meets its contract: each way out rewrites with its test. Assumes nothing.
+use mathlib.Core.Path.{sym, _∙_}
 use borrow.Author.Needs.{needs}
 use Rattle.cell.proofs.extents.graphic_unit.Statement.{statement}
 use Rattle.cell.proofs.extents.graphic_unit.Tie as tie
 
-enum-told : tie.Need-enum-told
-enum-told c = search needs
-
-enum-told-2 : tie.Need-enum-told-2
-enum-told-2 c = search needs
+graphic-length-is-character-count-requires : tie.Need-graphic-length-is-character-count-requires
+graphic-length-is-character-count-requires c κs = search needs
 
 returns : tie.Need-returns
-returns c = rw (c .enum-told .given .1)
+returns c = rw (sym (c .before .graphic-length-is-character-count .ensures) ∙ c .if1 .taken)
 
 returns-2 : tie.Need-returns-2
-returns-2 c = rw (c .before .enum-told2 .given .1, eq-eqb _ 1200 (c .if1 .taken))
-
-returns-3 : tie.Need-returns-3
-returns-3 c = rw (c .before .enum-told2 .given .1, ne-eqb _ 1200 (c .if1 .left))
+returns-2 c = rw (sym (c .before .graphic-length-is-character-count .ensures) ∙ c .if1 .left)
 
 pub graphic-unit-spec : {M : Type 1} → statement M
-graphic-unit-spec = tie.close (tie.spec enum-told enum-told-2 returns returns-2 returns-3)
+graphic-unit-spec = tie.close (tie.spec graphic-length-is-character-count-requires returns returns-2)

@@ -33,7 +33,8 @@ pub extern "C" fn by_value_count_columns(data: &[u8]) -> u64
 }
 
 // The number of the value at a place of a row's answer. The description is read once; the row is decoded once and then `rounds` times again, each time
-// from the input: so what the columns cost is not counted in. decode_row has two callers here, and is not compiled into either.
+// from the input: so what the columns cost is not counted in. decode_row has two callers here, and is not compiled into either. The promise is on the
+// number alone: it says nothing of what is left in `text`.
 #[no_mangle]
 pub extern "C" fn by_value_decode_row(
     described: &[u8],

@@ -122,8 +122,9 @@ enum vejupa_sort {
  * Answers 0, 1, 2 or 101; with 101 *count is the number of columns as well. */
 uint32_t vejupa_parse_qrydsc(const uint8_t *data, size_t data_len, uint64_t *words, size_t words_len, uint64_t *count);
 
-/* The values of one row. `columns` has two words a column, as vejupa_parse_qrydsc writes them or a caller's own; there are
- * columns_len / 2 columns. Three words a value go into `values`, and the values' texts into `text`, one after
+/* The values of one row. `columns` has two words a column, as vejupa_parse_qrydsc writes them or a caller's own (vejupa_make_column); there
+ * are columns_len / 2 columns. Of a column it goes by the type with its own numbers, nullable, the CCSID, the byte order and the reference
+ * length, and by the length of Timestamp, Boolean, Blob, Clob and DbClob alone. Three words a value go into `values`, and the values' texts into `text`, one after
  * the other from its first byte, in column order. *first is then the number of bytes used, counted from data's first byte, and *second
  * the number of bytes of text written. Layout of a value, in bits from the lowest:
  *
@@ -164,7 +165,7 @@ uint32_t vejupa_fixed_length(uint64_t type_word, uint64_t *fixed, uint64_t *leng
 
 /* The text of a character value, by its CCSID: 1208 is UTF-8, 819 ISO 8859-1, 37 and 500 code page 037; any other is ASCII
  * where all bytes are below 80 in hexadecimal, else code page 037. What is malformed becomes U+FFFD. *len is the number of bytes written,
- * with 9 the length needed. Answers 0, 4 or 9. */
+ * with 9 the length needed; a buffer of 3 data_len + 14 bytes is always enough, here and in the next three. Answers 0, 4 or 9. */
 uint32_t vejupa_decode_character_bytes(const uint8_t *data, size_t data_len, uint16_t ccsid, uint8_t *text, size_t text_len,
                                        uint64_t *len);
 
@@ -219,6 +220,21 @@ static inline uint16_t vejupa_column_ccsid(const uint64_t *column) { return (uin
 
 /* 0 where there is none; 0 is a width as well. */
 static inline uint16_t vejupa_column_reference_length(const uint64_t *column) { return (uint16_t)(column[1] >> 48 & 0xFFFF); }
+
+/* The two words of a caller's own column, without a reference length: its type and the type's own numbers (length, or precision + 256 * scale),
+ * whether it is nullable and little-endian, its length and its CCSID. Column number, DRDA type code, precision and scale are 0: the row call does
+ * not look at them. */
+static inline void vejupa_make_column(uint64_t *column, enum vejupa_type type, uint16_t type_numbers, int nullable, int little_endian,
+                                      uint16_t length, uint16_t ccsid) {
+    column[0] = (uint64_t)type | (uint64_t)type_numbers << 8 | (uint64_t)(nullable != 0) << 48 | (uint64_t)(little_endian != 0) << 49;
+    column[1] = (uint64_t)length | (uint64_t)ccsid << 32;
+}
+
+/* Gives it a reference length: of a Blob, Clob, DbClob or Xml whose value is a reference of so many bytes. */
+static inline void vejupa_set_reference_length(uint64_t *column, uint16_t length) {
+    column[0] |= UINT64_C(1) << 50;
+    column[1] = (column[1] & ~(UINT64_C(0xFFFF) << 48)) | (uint64_t)length << 48;
+}
 
 /* Of values. `value` points at a value's three words (values + 3 * k). */
 

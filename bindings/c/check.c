@@ -43,6 +43,25 @@ static void fields_of_a_column(void) {
     CHECK(vejupa_column_reference_length(column) == 4);
 }
 
+/* A caller's own columns: a Decimal and a Clob, decoded. */
+static void own_columns(void) {
+    static const uint8_t row[] = {0x00, 0x12, 0x34, 0x5C, 0x00, 0x00, 0x00, 0x07};
+    uint64_t own[4];
+    vejupa_make_column(own, VEJUPA_TYPE_DECIMAL, 5 + 256 * 2, 1, 0, 3, 0);
+    vejupa_make_column(own + 2, VEJUPA_TYPE_CLOB, 0, 0, 1, 0x8004, 1208);
+    CHECK(vejupa_column_type(own) == VEJUPA_TYPE_DECIMAL && vejupa_column_type_numbers(own) == 0x205);
+    CHECK(vejupa_column_nullable(own) && !vejupa_column_little_endian(own) && vejupa_column_little_endian(own + 2));
+    CHECK(!vejupa_column_nullable(own + 2) && vejupa_column_length(own + 2) == 0x8004 && vejupa_column_ccsid(own + 2) == 1208);
+    CHECK(!vejupa_column_has_reference_length(own + 2));
+    vejupa_set_reference_length(own + 2, 9);
+    vejupa_set_reference_length(own + 2, 4);
+    CHECK(vejupa_column_has_reference_length(own + 2) && vejupa_column_reference_length(own + 2) == 4);
+    CHECK(vejupa_column_length(own + 2) == 0x8004 && vejupa_column_ccsid(own + 2) == 1208);
+    CHECK(vejupa_decode_row(own, 4, row, sizeof row, values, 6, text, sizeof text, &first, &second) == VEJUPA_ACCEPTED);
+    CHECK(first == 8 && second == 28 && memcmp(text, "123.45LOB locator 0x00000007", 28) == 0);
+    CHECK(vejupa_value_sort(values + 3) == VEJUPA_CLOB && vejupa_value_is_external(values + 3));
+}
+
 static void fields_of_values(void) {
     const uint64_t small_int[] = {VEJUPA_SMALL_INT, UINT64_MAX - 1, 0};
     const uint64_t real[] = {VEJUPA_REAL, 0x40490FDB, 0};
@@ -163,6 +182,7 @@ static void texts(void) {
 
 int main(void) {
     fields_of_a_column();
+    own_columns();
     fields_of_values();
     bytes_of_values();
     descriptions();

@@ -7,8 +7,7 @@ ghost use mathlib.Core.Bool.{true, false};
 ghost use Prim.Native.Nat.{ℕ, _+_, _/_, _%_, _<_, _≤_};
 ghost use lib.ListN.{length, getD, take, replicate};
 ghost use Rattle.conversion.specs.Hex.{hexDigit, hexText};
-ghost use Rattle.io.specs.Digits.{digits};
-ghost use Rattle.lines.specs.Lines.{bytesField, Repeats, Says};
+ghost use Rattle.lines.specs.Lines.{bytesField, IsNumber, Repeats, Says};
 
 // More bytes than this are not written as one byte many times.
 const MOST_TIMES: usize = 4294967295;
@@ -117,7 +116,7 @@ pub fn field(s: &[u8], k: usize) -> &[u8] {
 pub fn number(s: &[u8], most: usize) -> Read
     requires { ⌜ most < 4294967296 ⌝ }
     ensures bound { λ r. ⌜ r .value ≤ most ⌝ }
-    ensures number { λ r. ⌜ (r .valid ≡ true → digits 10 (length (now (s .entry))) (r .value) ≡ now (s .entry)) ⌝ }
+    ensures number { λ r. ⌜ (r .valid ≡ true → IsNumber (now (s .entry)) (r .value)) ⌝ }
 {
     if s.len() == 0 {
         return unread();

@@ -1,6 +1,6 @@
 -- `lines::number` meets its contract: the digits so far are the number's so far, which is at most the bound. Assumes nothing.
-use Prim.Native.Nat.{ℕ, _-_, _≤_}
-use mathlib.Core.Path.{_≡_, refl, ap, _∙_}
+use Prim.Native.Nat.{ℕ, _-_, _^_, _<_, _≤_}
+use mathlib.Core.Path.{_≡_, refl, sym, ap, subst, _∙_}
 use native.Mathlib.Omega.{arith}
 use borrow.Author.Needs.{needs}
 use borrow.Author.Tests.{eqb-true}
@@ -9,12 +9,12 @@ use lib.ListN.{length, take}
 use lib.Seq.{take-all}
 use Rattle.io.specs.Digits.{digits}
 use Rattle.lines.proofs.Hex.{unasked}
-use Rattle.lines.proofs.Decimal.{read-digit, zero-alone}
+use Rattle.lines.proofs.Decimal.{read-digit, read-bound, zero-alone}
 use Rattle.lines.proofs.number.Statement.{statement}
 use Rattle.lines.proofs.number.Tie as tie
 
 abbrev Inv-loop : tie.InvT-loop
-Inv-loop s most n₀ i₀ n i = (i ≤ length s) × (n ≤ most) × (digits 10 i n ≡ take i s)
+Inv-loop s most n₀ i₀ n i = (i ≤ length s) × (n ≤ most) × (digits 10 i n ≡ take i s) × (n < 10 ^ i)
 
 abbrev μ-loop : tie.MeasureT-loop
 μ-loop s most n₀ i₀ n i = length s - i
@@ -32,7 +32,7 @@ returns-2 : tie.Need-returns-2 Inv-loop μ-loop
 returns-2 c = (omega arith, λ e. zero-alone _ (eqb-true _ _ e) (c .if2 .taken))
 
 loop-holds : tie.Need-loop-holds Inv-loop μ-loop
-loop-holds c = (omega arith, omega arith, refl)
+loop-holds c = (omega arith, omega arith, refl, omega arith)
 
 shared-slice-read-decimal-value : tie.Need-shared-slice-read-decimal-value Inv-loop μ-loop
 shared-slice-read-decimal-value c = search needs
@@ -68,14 +68,23 @@ loop-again : tie.Need-loop-again Inv-loop μ-loop
 loop-again c =
     let k = c .before .before .before .before .before in
     let s = now (k .before .before .before .before .before .args .s) in
-    let d = c .before .before .decimal-value in
-    (omega arith, omega arith, read-digit s (k .loop .i) (k .loop .n) (d .result) (omega arith) (omega arith) (d .ensures .1 (omega arith)) (k .loop .inv .2))
+    let d = c .before .before .decimal-value in (
+      omega arith,
+      omega arith,
+      read-digit s (k .loop .i) (k .loop .n) (d .result) (omega arith) (omega arith) (d .ensures .1 (omega arith)) (k .loop .inv .2),
+      read-bound (k .loop .i) (k .loop .n) (d .result) (omega arith) (k .loop .inv .3),
+    )
 
 returns-5 : tie.Need-returns-5 Inv-loop μ-loop
 returns-5 c =
     let s = now (c .before .before .before .before .before .before .args .s) in
-    let done : length s ≡ c .before .loop .i = omega arith in
-    (omega arith, λ _. ap (λ (k : ℕ). digits 10 k (c .before .loop .n)) done ∙ c .before .loop .inv .2 ∙ take-all (c .before .loop .i) s (omega arith))
+    let done : length s ≡ c .before .loop .i = omega arith in (
+      omega arith,
+      λ _. (
+        ap (λ (k : ℕ). digits 10 k (c .before .loop .n)) done ∙ c .before .loop .inv .2 ∙ take-all (c .before .loop .i) s (omega arith),
+        subst (λ (k : ℕ). c .before .loop .n < 10 ^ k) (sym done) (c .before .loop .inv .3),
+      ),
+    )
 
 pub number-spec : {M : Type 1} → statement M
 number-spec =

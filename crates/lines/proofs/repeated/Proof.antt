@@ -3,7 +3,6 @@ use Prim.Native.Nat.{ℕ}
 use mathlib.Core.Path.{_≡_}
 use native.Mathlib.Omega.{arith}
 use denote.Ref.{now}
-use lib.ListN.{length}
 use Rattle.lines.proofs.Hex.{unasked, read-pair, first-bytes}
 use borrow.Author.Needs.{needs}
 use Rattle.lines.proofs.repeated.Statement.{statement}
@@ -62,8 +61,7 @@ returns-4 c =
     let k = c .before .before .before .before .before in
     let n = k .number .result .value in
     let byte = k .before .before .hex-pair in
-    let t = now (k .before .before .before .before .before .before .before .before .before .args .times) in
-    (search needs, λ e. (byte .result, length t, n, read-pair _ (byte .result) (omega arith) (byte .ensures (omega arith)), k .number .ensures .1 e, first-bytes n (byte .result) _ _ _ (omega arith) (c .before .before .fill .ensures)))
+    (search needs, λ e. (byte .result, n, read-pair _ (byte .result) (omega arith) (byte .ensures (omega arith)), k .number .ensures .1 e, first-bytes n (byte .result) _ _ _ (omega arith) (c .before .before .fill .ensures)))
 
 pub repeated-spec : {M : Type 1} → statement M
 repeated-spec =

@@ -7,7 +7,8 @@ ghost use lib.ListN.{length};
 ghost use Rattle.buffer.specs.Buffer.{written};
 ghost use Rattle.conversion.specs.Hex.{hexDigit, hexText};
 
-fn hex_digit(n: u8) -> u8
+// The digit of a number below 16.
+pub fn hex_digit(n: u8) -> u8
     requires { ⌜ n < 16 ⌝ }
     ensures { λ r. ⌜ r ≡ hexDigit n ⌝ }
 {

@@ -1,6 +1,6 @@
 // Inner. Text conversions: which one a CCSID asks for, how long its text is, and its writing into a lent buffer. A conversion is picked
 // once, before any loop over bytes. It refuses nothing: callers test lengths.
-mod hex;
+pub mod hex;
 
 use buffer::copy;
 use codepage::ebcdic037_len;

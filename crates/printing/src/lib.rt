@@ -1,12 +1,11 @@
 // Inner. Lines for people, written to standard output by way of a buffer: decimal and hexadecimal numbers, texts with their control characters escaped,
 // bytes, floats, and columns of a table. It knows no rows and no types of columns.
+use conversion::hex::hex_digit;
 use float_digits::Digits;
 use float_digits::MOST_DIGITS;
 use float_digits::POINT;
-ghost use mathlib.Core.Path.{_≡_};
 ghost use Prim.Native.Nat.{_<_};
 ghost use lib.ListN.{length};
-ghost use Rattle.conversion.specs.Hex.{hexDigit};
 
 // How many bytes are kept before they are written out.
 const ROOM: usize = 512;
@@ -29,17 +28,6 @@ enum Shown {
     Short(u8),
     // As \u{..}.
     Code(u8),
-}
-
-// The upper-case hexadecimal digit of a number below 16.
-pub fn hex_digit(n: u8) -> u8
-    requires { ⌜ n < 16 ⌝ }
-    ensures { λ r. ⌜ r ≡ hexDigit n ⌝ }
-{
-    if n < 10 {
-        return 0x30 + n;
-    }
-    0x37 + n
 }
 
 // Whether the byte behind a place is the second of U+0080 to U+009F, if the first stands here.

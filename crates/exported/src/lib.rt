@@ -1,7 +1,7 @@
 // Face, for C and Rust: the library's calls as functions on numbers and slices of numbers, in a static library. A slice is a pointer and a
 // length; slices do not overlap. Each function that can refuse answers a refusal's number, or 0, and a length beside it: the bytes written, or with
-// refusal 9 the length needed. A column is two words, a value three and a type one: crates/words has the layout. It has no rules of its own: each
-// promise cites what the call within promises, or what the call that it stands for does.
+// refusal 9 the length needed. A column is two words, a value three and a type one: crates/words has the layout. It has no
+// rules of its own but 101 and 102, of lent words: each promise cites what the call within promises, or what the call that it stands for does.
 use buffer::TextAnswer;
 use qrydsc::MAX_QRYDSC;
 use refusal::INPUT_LIMIT;

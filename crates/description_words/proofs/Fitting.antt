@@ -5,7 +5,8 @@ use mathlib.Core.List.{List, [], _∷_, _++_}
 use native.Mathlib.Omega.{arith}
 use lib.Dec.{leb, ltb, eqb}
 use lib.ListN.{length, getD, take, drop, set, replicate}
-pub use Rattle.unicode.specs.Laws.{Bytes}
+use Rattle.unicode.specs.Laws.{Bytes}
+use Rattle.unicode.proofs.Bytes.{bytes-drop, bytes-take}
 use Rattle.types.specs.Types.{baseTypes, listedOr, baseOf, nullableBit, drdaType, fromDrdaType}
 use Rattle.types.specs.FixedLength.{packedLength}
 use Rattle.types.specs.Names.{bit8000, low15, namedIn}
@@ -32,17 +33,6 @@ use Rattle.words.proofs.Fields.{WidthFits, Fits}
 use Rattle.words.proofs.Columns.{AllFit}
 
 -- ---- bytes
-
-bytes-drop : (n : ℕ) (s : List ℕ) → Bytes s → Bytes (drop n s)
-bytes-drop zero s h = h
-bytes-drop (suc n) [] h = h
-bytes-drop (suc n) (b ∷ s) h = bytes-drop n s (λ i. h (suc i))
-
-bytes-take : (n : ℕ) (s : List ℕ) → Bytes s → Bytes (take n s)
-bytes-take zero s h i = omega arith
-bytes-take (suc n) [] h i = omega arith
-bytes-take (suc n) (b ∷ s) h zero = h 0
-bytes-take (suc n) (b ∷ s) h (suc i) = bytes-take n s (λ j. h (suc j)) i
 
 number-fits : (a b : ℕ) → a < 256 → b < 256 → numberOf BigEndian (a ∷ b ∷ []) < 65536
 unfolding numberOf

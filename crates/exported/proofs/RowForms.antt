@@ -34,7 +34,7 @@ use Rattle.words.proofs.Columns.{AllFit, reads-columns, packed-length}
 use Rattle.words.proofs.Packed.{three, packed-at}
 use Rattle.words.proofs.Values.{InRange, reads-value}
 use Rattle.unicode.specs.Laws.{Bytes}
-use Rattle.piece.proofs.Bound.{bytes-drop}
+use Rattle.unicode.proofs.Bytes.{bytes-drop}
 use Rattle.row_words.specs.Rows.{valuesAfter}
 use Rattle.exported.proofs.RowCall.{covered-list}
 use Rattle.rules.specs.Value.{valueBytes, textsTogether}

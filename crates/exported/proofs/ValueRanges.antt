@@ -33,7 +33,7 @@ use Rattle.rules.specs.Conversions.{ported}
 use Rattle.rules.proofs.Items.{Item-of, Nothing, Numbers, item-of}
 use Rattle.rules.proofs.Walks.{isDone, piecesOf, walk-step, walk-first}
 use Rattle.unicode.specs.Laws.{Bytes}
-use Rattle.piece.proofs.Bound.{bytes-drop, bytes-take}
+use Rattle.unicode.proofs.Bytes.{bytes-drop, bytes-take}
 use Rattle.words.specs.Words.{typeNamed}
 use Rattle.words.proofs.TypeWords.{Fitting, named}
 use Rattle.words.proofs.Columns.{AllFit}

@@ -4,10 +4,8 @@ use Prim.Native.Nat.{ℕ, zero, suc, _+_, _*_, _-_, _≤_, _<_}
 use mathlib.Core.Path.{_≡_, refl, sym, ap, subst, _∙_}
 use mathlib.Core.Bool.{Bool, true, false, cond, _||_}
 use mathlib.Core.List.{List, [], _∷_, _++_}
-use mathlib.Core.Logic.{_⊎_, inl, inr, ⊎-elim}
 use native.Mathlib.Omega.{arith}
-use lib.ListN.{length, getD, take, drop, replicate, length-append, length-drop, length-take, List·getD-eq-default}
-use lib.Seq.{getD-take, getD-drop}
+use lib.ListN.{length, take, drop, replicate, length-append, length-drop, length-take}
 use lib.Dec.{eqb}
 use borrow.Author.Tests.{eqb-true, eqb-false}
 use Rattle.types.specs.declared.Db2Type.{Db2Type}
@@ -26,23 +24,11 @@ use Rattle.rules.specs.Extent.{isReference, isShortReference, saysHeader}
 use Rattle.rules.specs.Meaning.{blob, TextSort, Item, nothing, number, boolean, part, text, Lob, blobs, clobs, xmls, allZero, isEmptyReference, headerBytes, isEmptyHeader, headerItem, lobEmpty, lobReference, lobInline, lobItem, varyingItem, lobBytesItem, lobCharItem, typeItem, itemIn}
 use Rattle.rules.specs.Walk.{columnNeed, Piece, absent, present, cellPiece, Walk, done, short, walk, walkBody}
 pub use Rattle.unicode.specs.Laws.{Bytes}
+use Rattle.unicode.proofs.Bytes.{bytes-drop, bytes-take}
 use Rattle.rules.specs.Row.{textOf, pieceItem, rowTexts}
 use Rattle.rules.specs.Conversions.{ported}
-use Rattle.rules.proofs.Tests.{lt-or-le}
 use Rattle.rules.proofs.Walks.{isDone, usedOf, piecesOf, walk-step, walk-first}
 use Rattle.rules.proofs.Progress.{pieceAt, cons-inverse}
-
-pub bytes-drop : (n : ℕ) (s : List ℕ) → Bytes s → Bytes (drop n s)
-bytes-drop n s h i = rw (getD-drop n s i 0) (h (n + i))
-
-pub bytes-take : (n : ℕ) (s : List ℕ) → Bytes s → Bytes (take n s)
-bytes-take n s h i = ⊎-elim inside outside (lt-or-le i n)
-  where
-    inside : i < n → getD (take n s) i 0 < 256
-    inside k = rw (getD-take n s i 0 k) (h i)
-
-    outside : n ≤ i → getD (take n s) i 0 < 256
-    outside k = rw (List·getD-eq-default (take n s) 0 {n = i} (omega (arith, length-take n s))) (omega arith)
 
 -- ---- a packed decimal
 

@@ -214,7 +214,7 @@ fn put_varchar(
     put_characters(rest, 2, used, VAR_CHAR, second, next, out, values, place)
 }
 
-// Writes a value that is there, whose first byte is at place `at` of the input.
+// Writes a value that is there, whose first byte is at place `at` of the input. The types are those of needs::value_need.
 fn put_there(
     rest: &[u8],
     at: usize,

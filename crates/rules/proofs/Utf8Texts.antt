@@ -12,6 +12,7 @@ use Rattle.unicode.specs.Unicode.{utf8}
 use Rattle.unicode.specs.Ascii.{allAscii}
 use Rattle.unicode.specs.Laws.{WellFormed, Bytes}
 use Rattle.unicode.proofs.Ranges.{both}
+use Rattle.unicode.proofs.Bytes.{bytes-drop, bytes-take}
 use Rattle.unicode.proofs.Laws.{texts}
 use Rattle.conversion.proofs.Utf8Texts.{ascii-well-formed, ascii-append, characters-well-formed, graphics-well-formed, locator-well-formed, row-id-well-formed}
 use Rattle.packed.specs.Packed.{nibbles, signNibble, sign, digitNibbles, character, digits, trimmed, whole, zeros, fraction, decimalText}
@@ -120,11 +121,6 @@ picked : (b : Bool) (x y : Item) → Fine x → Fine y → Fine (cond b x y)
 picked true x y f g = f
 picked false x y f g = g
 
-bytes-drop : (n : ℕ) (s : List ℕ) → Bytes s → Bytes (drop n s)
-bytes-drop zero s h = h
-bytes-drop (suc n) [] h = h
-bytes-drop (suc n) (b ∷ s) h = bytes-drop n s (λ i. h (suc i))
-
 nothing-written : WellFormed utf8 []
 unfolding allAscii
 nothing-written = ascii-well-formed [] refl
@@ -220,12 +216,6 @@ PieceBytes (present c at s) = Bytes s
 abbrev AllBytes : List Piece → Type 0
 AllBytes [] = Unit {0}
 AllBytes (p ∷ ps) = PieceBytes p × AllBytes ps
-
-bytes-take : (n : ℕ) (s : List ℕ) → Bytes s → Bytes (take n s)
-bytes-take zero s h i = omega arith
-bytes-take (suc n) [] h i = omega arith
-bytes-take (suc n) (b ∷ s) h zero = h 0
-bytes-take (suc n) (b ∷ s) h (suc i) = bytes-take n s (λ j. h (suc j)) i
 
 piece-bytes : (t : Bool) (c : ColumnDescriptor) (at : ℕ) (s : List ℕ) → Bytes s → PieceBytes (cellPiece t c at s)
 unfolding cellPiece

@@ -6,3 +6,4 @@ pub mod Forms
 pub mod Utf8Bytes
 pub mod Utf16Units
 pub mod Laws
+pub mod Bytes

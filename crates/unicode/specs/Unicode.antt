@@ -55,13 +55,13 @@ textOf [] = []
 textOf (p ∷ ps) = pieceText p ++ textOf ps
 
 -- how many parts are replaced in that text
-abbrev pub one : Piece → ℕ
-one (scalar v) = 0
-one malformed = 1
+abbrev pub replacedIn : Piece → ℕ
+replacedIn (scalar v) = 0
+replacedIn malformed = 1
 
 unfoldable pub replaced : List Piece → ℕ
 replaced [] = 0
-replaced (p ∷ ps) = one p + replaced ps
+replaced (p ∷ ps) = replacedIn p + replaced ps
 
 -- ---- reading, piece by piece
 

@@ -11,7 +11,7 @@ use borrow.Author.Tests.{ltb-true, ltb-false, leb-true}
 use lib.Dec.{T}
 use lib.ListN.{length, take, drop, getD, length-drop, drop-of-length-le, length-append}
 use lib.Seq.{drop-cons, drop-drop, take-add, take-at, length-take-le}
-use Rattle.unicode.specs.Unicode.{Piece, scalar, malformed, utf8, pieceText, textOf, one, replaced, Range, Row, within, fit, First, firstBy, firstOf, rowIn, table-3-7, readFrom, utf8Pieces}
+use Rattle.unicode.specs.Unicode.{Piece, scalar, malformed, utf8, pieceText, textOf, replaced, Range, Row, within, fit, First, firstBy, firstOf, rowIn, table-3-7, readFrom, utf8Pieces}
 use Rattle.utf.specs.Utf8Code.{firstAt, isScalar, PieceAt, Good, Stop}
 use Rattle.unicode.specs.Unicode.{utf8Text}
 use Rattle.utf.specs.Ascii.{AsciiRun}

@@ -69,7 +69,7 @@ fn put_value(values: &mut [u64], at: usize, place: ValuePlace)
     put_words(values, at, w.kind, w.number, w.len);
 }
 
-// The value of a column that is a number.
+// The value of a column that is a number. Of the column that the words name only the byte order is used: no more of it is made.
 fn number_value(rest: &[u8], first: u64, second: u64) -> Db2Value
     requires tag { ⌜ first % 2 ^ 8 < 5 ⌝ }
     requires there { ⌜ numberBytes first ≤ length (now rest) ⌝ }

@@ -1,6 +1,6 @@
 /* Vejupa: a proved decoder of Db2 rows. The calls of the static library libexported.a, for C (C99 and later) and C++.
  *
- *     rt staticlib exported                                  writes target/staticlib/libexported.a
+ *     rt staticlib exported                                  writes target/staticlib/libexported.a, for x86-64 Linux
  *     cc -Iinclude program.c target/staticlib/libexported.a
  *
  * examples/weave_order.c is a whole program. docs/RULES.md has the rules; what each call promises stands beside it in
@@ -41,7 +41,7 @@ extern "C" {
 #define VEJUPA_DECIMAL_EMPTY 6         /* a packed decimal of no bytes */
 #define VEJUPA_DECIMAL_TOO_LONG 7      /* a packed decimal of more than 128 bytes */
 #define VEJUPA_BUFFER_TOO_SHORT 8      /* the row ends before a value does; with the bytes expected and the bytes there are */
-#define VEJUPA_TEXT_BUFFER_TOO_SHORT 9 /* with the length needed */
+#define VEJUPA_TEXT_BUFFER_TOO_SHORT 9 /* the texts do not fit into the lent buffer; with the length needed */
 #define VEJUPA_TOO_FEW_WORDS 101       /* the lent words are too few for the columns, or for the values */
 #define VEJUPA_NO_COLUMN 102           /* words that are no column's, or a word that is no type's */
 

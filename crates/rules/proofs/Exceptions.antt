@@ -107,12 +107,10 @@ module _ (x : Exception) where
               accepts = is-accepted (one .outcome) (p₂ .first);
               one = leb-true 1 (one .used) (p₃ .first);
             };
-        notLonger =
-            λ longer.
-            let same = longer (x .longer) room (leb-true (length (x .longer)) inputLimit (p₄ .first))
-            (same-bytes (take (one .used) (x .longer)) (take (one .used) (x .input)) (p₅ .first))
-            (leb-true (textsTogether (one .places)) (length room) (p₆ .first)) in
-            true≢false (sym (eq-eqb (other .used) (one .used) (same .used)) ∙ not-true (eqb (other .used) (one .used)) (p₆ .rest));
+        limit = leb-true (length (x .longer)) inputLimit (p₄ .first);
+        begins = same-bytes (take (one .used) (x .longer)) (take (one .used) (x .input)) (p₅ .first);
+        enough = leb-true (textsTogether (one .places)) (length room) (p₆ .first);
+        differs = λ same. true≢false (sym (eq-eqb (other .used) (one .used) (same .used)) ∙ not-true (eqb (other .used) (one .used)) (p₆ .rest));
       }
 
 abbrev allOf : List Exception → Bool

@@ -1,9 +1,10 @@
 -- Why the columns that document 01 lists have no end of their own: for each exception of specs/OwnEnd.antt a row that a longer input changes. Assumes nothing.
-use Prim.Native.Nat.{ℕ}
+use Prim.Native.Nat.{ℕ, _≤_}
 use mathlib.Core.Bool.{true, false}
 use mathlib.Core.Path.{_≡_}
 use mathlib.Core.List.{List, [], _∷_, _++_}
-use lib.ListN.{replicate}
+use lib.ListN.{length, take, replicate}
+use Rattle.refusal.specs.Refusal.{inputLimit}
 use Rattle.types.specs.declared.Db2Type.{Db2Type}
 use Rattle.types.specs.declared.Db2Type.the-variants as type
 use Rattle.types.specs.declared.ByteOrder.the-variants.{BigEndian}
@@ -13,7 +14,7 @@ use Rattle.types.specs.declared.Columns.{Columns}
 use Rattle.types.specs.Places.{columnList}
 use Rattle.rules.specs.OwnEnd.{carriesOwnEnd, allCarryOwnEnd}
 use Rattle.rules.specs.Conversions.{rowAnswer, rowText}
-use Rattle.rules.specs.Demand3.{AcceptedRow, Longer}
+use Rattle.rules.specs.Demand3.{AcceptedRow, LargeEnough, Same}
 
 -- a column of a type, with a length of its own beside the type's
 abbrev pub column : Db2Type → ℕ → ColumnDescriptor
@@ -73,12 +74,16 @@ exceptions =
     ∷ headerOf1 (type.VarGraphic 0x8001)
     ∷ []
 
--- the row is accepted, as demand 3 asks, only its last column lacks an end, and yet the longer input gives another answer
+-- The row is accepted, as demand 3 asks, and only its last column lacks an end. The longer input is within the limit of refusal 4 and begins with the bytes used,
+-- and the text buffer is large enough; yet its answer is another
 pub record Breaks (x : Exception) : Type 0 where
   pub lacksEnd : carriesOwnEnd (x .last) ≡ false
   pub othersCarry : allCarryOwnEnd (x .before) ≡ true
   pub acceptedRow : AcceptedRow rowAnswer rowText (columnsIn x) (x .input) room
-  pub notLonger : Longer rowAnswer rowText (columnsIn x) (x .input) room → ⊥
+  pub limit : length (x .longer) ≤ inputLimit
+  pub begins : take (rowAnswer (columnsIn x) (x .input) room .used) (x .longer) ≡ take (rowAnswer (columnsIn x) (x .input) room .used) (x .input)
+  pub enough : LargeEnough (rowAnswer (columnsIn x) (x .input) room) room
+  pub differs : Same rowAnswer rowText (columnsIn x) (x .longer) room (x .input) room → ⊥
 
 abbrev pub AllBreak : List Exception → Type 0
 AllBreak [] = Unit {0}

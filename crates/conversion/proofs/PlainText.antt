@@ -1,11 +1,12 @@
 -- Texts that are the bytes they were read from, and how long a text can be. Assumes nothing.
-use Prim.Native.Nat.{ℕ, _+_, _*_, _≤_, _<_}
+use Prim.Native.Nat.{ℕ, _+_, _*_, _≤_}
 use mathlib.Core.List.{List, [], _∷_, _++_, append-nil}
 use mathlib.Core.Path.{_≡_, refl, sym, ap, _∙_}
 use native.Mathlib.Omega.{arith}
-use lib.ListN.{length, getD, length-append}
+use lib.ListN.{length, length-append}
 use lib.Seq.{take-length, drop-length}
 use Rattle.unicode.specs.Unicode.{textOf, readFrom, utf8Text}
+use Rattle.unicode.specs.Laws.{Bytes}
 use Rattle.utf.specs.Utf8Code.{Good, Stop}
 use Rattle.utf.proofs.Utf8Runs.{good-text}
 use Rattle.utf.proofs.Bound.{utf8-bound, utf16-bound}
@@ -49,7 +50,7 @@ row-id-length s = omega (arith, hex-length s, length-append rowIdMark (hexText s
 
 -- ---- the longest text
 
-pub text-bound : (p : Conversion) (s : List ℕ) → ((i : ℕ) → getD s i 0 < 256) → length (textIn p s) ≤ 3 * length s + 14
+pub text-bound : (p : Conversion) (s : List ℕ) → Bytes s → length (textIn p s) ≤ 3 * length s + 14
 unfolding textIn
 text-bound Plain s h = omega arith
 text-bound Utf8 s h = omega (arith, utf8-bound s)

@@ -35,7 +35,7 @@ module _ (answer : Columns → List ℕ → List ℕ → RowTold) (after : Colum
   abbrev pub SameLength : Type 0
   SameLength = (columns : Columns) (s d : List ℕ) → length (after columns s d) ≡ length d
 
-  -- the bytes used are bytes of the input; a refusal uses none
+  -- the bytes used are bytes of the input (of a refusal: none, by refusedRow)
   abbrev pub UsedFits : Type 0
   UsedFits = (columns : Columns) (s d : List ℕ) → answer columns s d .used ≤ length s
 

@@ -7,7 +7,8 @@ use Rattle.types.specs.declared.FixedLength.the-variants.{Bytes, Varies}
 use Rattle.types.specs.FixedLength.{toldLength, fixedLength}
 use Rattle.words.specs.declared.TypeRead.{TypeRead}
 use Rattle.words.specs.declared.TypeRead.the-variants.{Known, NoType}
-use Rattle.words.specs.Words.{readType, toldType}
+use Rattle.words.specs.Words.{readType}
+use Rattle.words.specs.Told.{toldType}
 use Rattle.exported.specs.Descriptions.{typeNumber, flagOf, bytesOf, lengthOf}
 
 -- what the call hands out: a number, the flag and the length

@@ -13,8 +13,6 @@ use Rattle.types.specs.declared.ByteOrder.the-variants.{BigEndian, LittleEndian
 use Rattle.types.specs.declared.ReferenceLength.{ReferenceLength}
 use Rattle.types.specs.declared.ReferenceLength.the-variants.{Absent, Width}
 use Rattle.types.specs.declared.ColumnDescriptor.{ColumnDescriptor}
-use Rattle.words.specs.declared.TypeRead.{TypeRead}
-use Rattle.words.specs.declared.TypeRead.the-variants.{Known, NoType}
 
 -- a type word: bits 0 to 7 the place of the type's name, bits 8 to 23 the numbers that it holds
 abbrev pub packType : Db2Type → ℕ
@@ -77,8 +75,3 @@ unfoldable pub readType : ℕ → Option Db2Type
 readType w =
     let t = typeNamed (w % 2 ^ 8) (w / 2 ^ 8) in
     cond (ltb w (2 ^ 24) && eqb (packType t) w) (some t) none
-
--- what the code reads, as a type or none
-abbrev pub toldType : TypeRead → Option Db2Type
-toldType (Known t) = some t
-toldType NoType = none

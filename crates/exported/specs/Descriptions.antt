@@ -10,9 +10,9 @@ use Rattle.refusal.specs.Refusal.{Told, accepted, refused}
 use Rattle.buffer.specs.Buffer.{written}
 use Rattle.types.specs.declared.Db2Type.{Db2Type}
 use Rattle.types.specs.declared.Columns.{Columns}
+use Rattle.types.specs.Places.{covered}
 use Rattle.types.specs.FixedLength.{fixedLength}
 use Rattle.qrydsc.specs.Qrydsc.{DescriptionTold}
-use Rattle.rules.specs.Row.{covered}
 use Rattle.words.specs.Words.{packColumns}
 
 -- the lent words w are fewer than two for each column

@@ -8,10 +8,10 @@ use Rattle.refusal.specs.Refusal.{accepted}
 use Rattle.unicode.specs.Unicode.{utf8}
 use Rattle.unicode.specs.Laws.{WellFormed, Bytes}
 use Rattle.types.specs.declared.Columns.{Columns}
-use Rattle.types.specs.Places.{maxColumns, blankColumn, blankValue}
+use Rattle.types.specs.Places.{maxColumns, blankColumn, blankValue, covered}
 use Rattle.types.specs.Held.{Held, bits, row, textBuffer, held}
 use Rattle.rules.specs.Value.{bytesAt}
-use Rattle.rules.specs.Row.{RowTold, covered}
+use Rattle.rules.specs.Row.{RowTold}
 use Rattle.rules.specs.Sorts.{Allows}
 
 -- a value's place lies in the row s, or in the text buffer d

@@ -7,10 +7,10 @@ use mathlib.Core.List.{List, [], _∷_}
 use lib.ListN.{length, take, getD}
 use Rattle.refusal.specs.Refusal.{accepted, inputLimit}
 use Rattle.types.specs.declared.Columns.{Columns}
-use Rattle.types.specs.Places.{blankValue}
+use Rattle.types.specs.Places.{blankValue, covered}
 use Rattle.rules.specs.OwnEnd.{allCarryOwnEnd}
 use Rattle.rules.specs.Value.{valueBytes, textsTogether}
-use Rattle.rules.specs.Row.{RowTold, covered, refusedRow}
+use Rattle.rules.specs.Row.{RowTold, refusedRow}
 
 -- "The same answer is the whole answer: every value place, floats by their bits, texts, Binary and Blob values by place, length and bytes; the external columns;
 -- the bytes used." a is the answer to the input s and leaves the text buffer d; b that to t, and leaves e. A float that is no NaN has one pattern of bits

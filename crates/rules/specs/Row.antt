@@ -2,7 +2,7 @@
 use Prim.Native.Nat.{ℕ, _+_}
 use mathlib.Core.Bool.{Bool, false, cond, _||_}
 use mathlib.Core.List.{List, [], _∷_, _++_}
-use lib.ListN.{length, take}
+use lib.ListN.{length}
 use lib.Dec.{ltb, eqb}
 use Rattle.refusal.specs.Refusal.{Told, accepted, refused, told, inputLimit}
 use Rattle.buffer.specs.Buffer.{written}
@@ -15,6 +15,7 @@ use Rattle.types.specs.declared.ValuePlace.{ValuePlace}
 use Rattle.types.specs.declared.RowAnswer.{RowAnswer}
 use Rattle.types.specs.Names.{isDecFloat}
 use Rattle.types.specs.Places.{maxColumns, filled, blankValue}
+pub use Rattle.types.specs.Places.{covered}
 use Rattle.numbers.specs.Number.{numberValue}
 use Rattle.rules.specs.Meaning.{ByteSort, binary, blob, TextSort, decimal, char, varChar, clob, rowId, date, time, timestamp, xml, Item, nothing, number, boolean, part, text, Conversions, itemIn, refersIn}
 use Rattle.rules.specs.Walk.{Piece, absent, present, Walk, done, short, skipOf, walkBody}
@@ -97,14 +98,10 @@ pub data Decision : Type 0 where
   -- the row's pieces, and how many bytes of the input they used
   acceptance : List Piece → ℕ → Decision
 
--- refusal 5: "A column of type DecFloat"
+-- refusal 5: "A column of type DecFloat, among those the count covers"
 unfoldable pub anyDecFloat : List ColumnDescriptor → Bool
 anyDecFloat [] = false
 anyDecFloat (c ∷ cs) = isDecFloat c || anyDecFloat cs
-
--- "among those the count covers"
-abbrev pub covered : Columns → List ColumnDescriptor
-covered columns = take (columns .count) (columns .columns)
 
 module _ (L : Conversions) where
   -- refusal 8: "Too short, with the two numbers". Refusal 9: "Text buffer shorter than the texts together, with the length needed"

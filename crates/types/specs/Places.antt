@@ -2,7 +2,7 @@
 use Prim.Native.Nat.{ℕ, _-_}
 use mathlib.Core.Bool.{false}
 use mathlib.Core.List.{List, _++_}
-use lib.ListN.{length, replicate}
+use lib.ListN.{length, take, replicate}
 use Rattle.types.specs.declared.Db2Type.the-variants as type
 use Rattle.types.specs.declared.Db2Value.the-variants as value
 use Rattle.types.specs.declared.ByteOrder.the-variants.{BigEndian}
@@ -42,3 +42,7 @@ blankValue = record { value = value.Null; external = false }
 -- a list of columns in its places, with its count
 unfoldable pub columnList : List ColumnDescriptor → Columns
 columnList cs = record { columns = filled blankColumn cs; count = length cs }
+
+-- "those that the count covers"
+abbrev pub covered : Columns → List ColumnDescriptor
+covered l = take (l .count) (l .columns)

@@ -1,5 +1,6 @@
 //! The differential run: first inputs by rule, then random ones, each asked of both sides. It ends at the first difference,
 //! with the smallest input that it finds.
+use crate::blocks;
 use crate::inputs::{self, Style, EDGE_BYTES, LIMIT_LENGTHS, LONG_LENGTHS, SEQUENCES};
 use crate::leaf::{Leaf, KINDS};
 use crate::port_side::{Library, PortSide};
@@ -16,14 +17,20 @@ pub enum Stage {
     Short,
     Edges,
     Places,
+    Utf8Blocks,
+    Utf16Blocks,
+    ByteBlocks,
     Lengths,
     Any,
 }
 
-const STAGES: [Stage; 5] = [
+const STAGES: [Stage; 8] = [
     Stage::Short,
     Stage::Edges,
     Stage::Places,
+    Stage::Utf8Blocks,
+    Stage::Utf16Blocks,
+    Stage::ByteBlocks,
     Stage::Lengths,
     Stage::Any,
 ];
@@ -58,6 +65,9 @@ impl<L: Library> Run<L> {
             Stage::Short => self.short(),
             Stage::Edges => self.edges(),
             Stage::Places => self.places(),
+            Stage::Utf8Blocks => blocks::inputs::utf8(&mut |leaf, data| self.case(leaf, data)),
+            Stage::Utf16Blocks => blocks::inputs::utf16(&mut |leaf, data| self.case(leaf, data)),
+            Stage::ByteBlocks => blocks::inputs::bytes(&mut |leaf, data| self.case(leaf, data)),
             Stage::Lengths => self.lengths(),
             Stage::Any => self.any(),
         })

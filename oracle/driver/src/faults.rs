@@ -1,4 +1,7 @@
 //! Libraries with a fault, to see that the differential run notices each. A fault shows only on some inputs, as a real one would.
+use crate::blocks::model::{
+    Dropped, Likely, Miscount, Unseen, Utf16, Utf8, DROPPED, MISCOUNTS, UNSEEN,
+};
 use crate::leaf::{Leaf, TEXT_LIMIT};
 use crate::port_side::{ample, Archive, Library};
 use port::Outcome;
@@ -47,9 +50,19 @@ pub enum Fault {
     LowerRowId,
     /// Another beginning of a locator.
     LocatorBeginning,
+    /// Of the last character of a long text of code page 037 the second byte is lost.
+    LastCut,
+    /// The last byte of each 1,024 is not looked at where the CCSID says nothing.
+    HighUnseen,
+    /// A condition is left out of the test for well-formed UTF-8 in blocks.
+    Block(Dropped),
+    /// Units of UTF-16 are counted wrong in blocks.
+    Units(Miscount),
+    /// A likely text is tested wrong in blocks.
+    Shown(Unseen),
 }
 
-pub const FAULTS: [Fault; 21] = [
+const FAULTS: [Fault; 23] = [
     Fault::WrongByte,
     Fault::LengthShort,
     Fault::LengthLong,
@@ -71,7 +84,17 @@ pub const FAULTS: [Fault; 21] = [
     Fault::ControlsShown,
     Fault::LowerRowId,
     Fault::LocatorBeginning,
+    Fault::LastCut,
+    Fault::HighUnseen,
 ];
+
+pub fn all() -> Vec<Fault> {
+    let mut all = FAULTS.to_vec();
+    all.extend(DROPPED.map(Fault::Block));
+    all.extend(MISCOUNTS.map(Fault::Units));
+    all.extend(UNSEEN.map(Fault::Shown));
+    all
+}
 
 /// The archive with a fault.
 pub struct Faulty(pub Fault);
@@ -111,6 +134,12 @@ fn has_replacement(text: &[u8]) -> bool {
     text.windows(3).any(|part| part == REPLACEMENT)
 }
 
+/// Whether all bytes from 80 on are the last of 1,024.
+fn high_at_ends(data: &[u8]) -> bool {
+    let mut places = data.iter().enumerate();
+    places.all(|(place, byte)| byte.is_ascii() || place % 1024 == 1023)
+}
+
 fn exchanged(data: &[u8], from: u8, to: u8) -> Vec<u8> {
     let exchange = |byte: &u8| if *byte == from { to } else { *byte };
     data.iter().map(exchange).collect()
@@ -131,6 +160,9 @@ impl Faulty {
             Fault::No13488 => leaf == Leaf::Graphic { ccsid: 13488 },
             Fault::LowerRowId => leaf == Leaf::RowId,
             Fault::LocatorBeginning => leaf == Leaf::Locator,
+            Fault::LastCut => leaf == Leaf::Character { ccsid: 37 } && data.len() > 64,
+            Fault::HighUnseen => leaf == Leaf::Character { ccsid: 0 },
+            Fault::Block(_) => leaf == Leaf::Character { ccsid: 1208 },
             _ => false,
         }
     }
@@ -153,6 +185,9 @@ impl Faulty {
             Fault::No13488 => text = whole(Leaf::Character { ccsid: 13488 }, data)?,
             Fault::LowerRowId => text.make_ascii_lowercase(),
             Fault::LocatorBeginning => text[4] = b'L',
+            Fault::LastCut if text.last().is_some_and(|byte| !byte.is_ascii()) => drop(text.pop()),
+            Fault::HighUnseen if high_at_ends(data) => text = data.to_vec(),
+            Fault::Block(dropped) => text = Utf8(Some(dropped)).text(data),
             _ => {}
         }
         Some(text)
@@ -171,6 +206,20 @@ impl Faulty {
             Fault::EmptyDecimal if decimal && data.is_empty() => refuse(7),
             _ => None,
         }
+    }
+
+    /// The outcome with another length, where the fault is one of measuring. A buffer where any text fits is written without that.
+    fn wrong_length(&self, leaf: Leaf, data: &[u8], text: &mut [u8]) -> Option<Outcome> {
+        let Fault::Units(miscount) = self.0 else {
+            return None;
+        };
+        let units = leaf == Leaf::Graphic { ccsid: 1200 } && data.len().is_multiple_of(2);
+        if !units || text.len() >= ample(data.len()) {
+            return None;
+        }
+        let mut other = whole(leaf, data)?;
+        other.resize(Utf16(Some(miscount)).length(data), 0);
+        Some(deliver(&other, text))
     }
 
     /// The archive's outcome with the fault put into it, where the fault is one of numbers or of other bytes.
@@ -196,6 +245,9 @@ impl Library for Faulty {
         if let Some(outcome) = self.wrong_limit(leaf, data, text) {
             return outcome;
         }
+        if let Some(outcome) = self.wrong_length(leaf, data, text) {
+            return outcome;
+        }
         if let Some(other) = self.wrong_text(leaf, data) {
             return deliver(&other, text);
         }
@@ -214,6 +266,7 @@ impl Library for Faulty {
                     data
                 })
             }
+            Fault::Shown(unseen) => u32::from(Likely(Some(unseen)).is(data)),
             _ => Archive.likely(data),
         }
     }
@@ -222,8 +275,10 @@ impl Library for Faulty {
 #[cfg(test)]
 mod tests {
     use super::*;
+    use crate::blocks::inputs;
     use crate::compare::{Run, Stage};
     use crate::run::{Difference, Until};
+    use std::ops::ControlFlow::Continue;
 
     /// The first stage that can notice a fault: those before it would cost time.
     fn stage(fault: Fault) -> Stage {
@@ -231,6 +286,9 @@ mod tests {
             Fault::LimitEarly | Fault::LimitLate => Stage::Lengths,
             Fault::WrongByte => Stage::Places,
             Fault::DecimalLimitEarly | Fault::PrecisionUsed => Stage::Any,
+            Fault::Block(_) | Fault::Shown(_) => Stage::Utf8Blocks,
+            Fault::Units(_) => Stage::Utf16Blocks,
+            Fault::LastCut | Fault::HighUnseen => Stage::ByteBlocks,
             _ => Stage::Short,
         }
     }
@@ -264,23 +322,105 @@ mod tests {
             Fault::ControlsShown => "L C285 A 1",
             Fault::LowerRowId => "format_rowid(0A) A 30783061",
             Fault::LocatorBeginning => "format_lob_locator(-) A 4C4F42204C",
+            Fault::LastCut => "T 37 000000",
+            Fault::HighUnseen => "T 0 000000",
+            Fault::Block(_) => "T 1208 ",
+            Fault::Units(_) => "G 1200 0000",
+            Fault::Shown(_) => "L ",
         }
+    }
+
+    /// What a long input that shows a fault must hold: the bytes that a condition is about, and what is left of the others.
+    fn part(fault: Fault) -> &'static str {
+        match fault {
+            Fault::LastCut => "000004 A 000000",
+            Fault::HighUnseen => "000080 A 000000",
+            Fault::Block(dropped) => match dropped {
+                Dropped::Place | Dropped::First => " 800000",
+                Dropped::AfterFirst | Dropped::Second => " C20000",
+                Dropped::AfterSecond | Dropped::Third => " E18000",
+                Dropped::AfterThird | Dropped::Edge => " F0908000",
+                Dropped::From0xC0 => " C08000",
+                Dropped::From0xF5 => " F5808080",
+                Dropped::After0xE0 => " E08080",
+                Dropped::After0xED => " EDA080",
+                Dropped::After0xF0 => " F0808080",
+                Dropped::After0xF4 => " F4908080",
+                Dropped::Again => " 80800000",
+                Dropped::EndAfterFirst => "00C20000",
+                Dropped::EndAfterSecond => "E0A00000",
+                Dropped::EndAfterThird => "00F0908000",
+            },
+            Fault::Units(miscount) => match miscount {
+                Miscount::PairOfSix | Miscount::PairAcross => "0000D800DC000000",
+                Miscount::FirstTwice | Miscount::LastLeftOut | Miscount::OddPlaces => "00000000",
+                Miscount::From0x80 => "000000800000",
+                Miscount::From0x800 => "000008000000",
+                Miscount::From0xDB00 => "0000DB00DC000000",
+                Miscount::From0xDF00 => "0000D800DF000000",
+            },
+            Fault::Shown(unseen) => match unseen {
+                Unseen::Malformed => "090980 A 1",
+                Unseen::Below0x20 => "000000 A 1",
+                Unseen::Delete => "7F0909",
+                Unseen::From0x80 => "C2800909",
+                Unseen::Across => "0909C280 A 1",
+                Unseen::Tab => "090909 A 0",
+                Unseen::LineFeed => "0A0909",
+                Unseen::Return => "0D0909",
+            },
+            _ => "",
+        }
+    }
+
+    /// How long the smallest input is, where it is long.
+    fn length(fault: Fault) -> Option<usize> {
+        match fault {
+            Fault::LimitEarly => Some(TEXT_LIMIT),
+            Fault::LimitLate => Some(TEXT_LIMIT + 1),
+            Fault::DecimalLimitEarly => Some(128),
+            Fault::HighUnseen => Some(1024),
+            Fault::Block(Dropped::Again) => Some(66),
+            Fault::Units(_) => Some(256),
+            Fault::Shown(Unseen::Across) => Some(129),
+            Fault::LastCut | Fault::Block(_) | Fault::Shown(_) => Some(65),
+            _ => None,
+        }
+    }
+
+    /// With every condition the models answer as the archive does: what a fault shows is the condition that it lacks.
+    #[test]
+    fn without_a_fault_the_models_are_right() {
+        let mut right = |leaf: Leaf, data: &[u8]| {
+            let text = || whole(leaf, data).expect("no text is too long");
+            match leaf {
+                Leaf::Character { ccsid: 1208 } => assert_eq!(Utf8(None).text(data), text()),
+                Leaf::Graphic { .. } if data.len().is_multiple_of(2) => {
+                    assert_eq!(Utf16(None).length(data), text().len());
+                }
+                Leaf::Likely => assert_eq!(u32::from(Likely(None).is(data)), Archive.likely(data)),
+                _ => {}
+            }
+            Continue(())
+        };
+        assert!(inputs::utf8(&mut right).is_continue());
+        assert!(inputs::utf16(&mut right).is_continue());
     }
 
     #[test]
     fn every_fault_is_noticed_and_its_input_made_small() {
-        for fault in FAULTS {
+        for fault in all() {
             let Difference { port, lengths, .. } = found(fault);
-            let shown = &port[..port.len().min(60)];
+            let shown = &port[..port.len().min(300)];
             assert!(port.starts_with(smallest(fault)), "{fault:?}: {shown}");
-            let length = match fault {
-                Fault::LimitEarly => TEXT_LIMIT,
-                Fault::LimitLate => TEXT_LIMIT + 1,
-                Fault::DecimalLimitEarly => 128,
-                _ => continue,
+            assert!(port.contains(part(fault)), "{fault:?}: {shown}");
+            let Some(length) = length(fault) else {
+                continue;
             };
             assert_eq!(lengths.map(|(now, _)| now), Some(length), "{fault:?}");
-            assert!(port.contains(&"00".repeat(length)), "{fault:?}");
+            if part(fault).is_empty() {
+                assert!(port.contains(&"00".repeat(length)), "{fault:?}");
+            }
         }
     }
 }

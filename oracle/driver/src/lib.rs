@@ -4,6 +4,7 @@
 //! - `request`: the line format of requests and answers
 //! - `rust_side`, `port_side`: the two that answer
 //! - `random`, `inputs`: bytes to ask about
+//! - `blocks`: the same for texts that go by blocks, and a model of what is tested and counted in these
 //! - `compare`: the differential run
 //! - `faults`: wrong libraries, to see that the run notices them
 //! - `descriptions`, `rows`: all of this for descriptions and types, and for rows
@@ -14,6 +15,12 @@
 //! - `run`: when a run ends, and with what
 //! - `lent`: memory to lend to a call, and to look at afterwards
 //! - `shrink`: the smallest input that differs
+//!
+//! And what the programs share that take times:
+//!
+//! - `samples`: texts of every class
+//! - `timing`: the time that calls take
+pub mod blocks;
 pub mod command;
 pub mod compare;
 pub mod descriptions;
@@ -27,4 +34,6 @@ pub mod request;
 pub mod rows;
 pub mod run;
 pub mod rust_side;
+pub mod samples;
 pub mod shrink;
+pub mod timing;

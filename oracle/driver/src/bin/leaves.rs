@@ -2,14 +2,14 @@
 //! With a number of cases a run is the same every time. `--fault NAME` puts a fault into the port's answers.
 use differential::command::{self, grouped, Report};
 use differential::compare::{Run, Stage};
-use differential::faults::{Faulty, FAULTS};
+use differential::faults::{self, Faulty};
 use differential::leaf::KINDS;
 use differential::port_side::{Archive, Library};
 use differential::run::Until;
 use std::process::ExitCode;
 
 fn main() -> ExitCode {
-    let named = |name: &str| command::named(&FAULTS, name);
+    let named = |name: &str| command::named(&faults::all(), name);
     command::main("leaves", named, |until, seed, fault| match fault {
         None => run(Archive, until, seed),
         Some(fault) => run(Faulty(fault), until, seed),

@@ -94,6 +94,29 @@ pub fn plain(db2_type: Type) -> Column {
     }
 }
 
+/// So many columns: texts of one type, and texts of several types among numbers.
+pub fn texts(count: usize) -> [List; 2] {
+    let text = Column {
+        ccsid: 1208,
+        ..plain(Name::VarChar.with(100))
+    };
+    let several = [
+        text,
+        plain(Name::SmallInt.plain()),
+        Column {
+            nullable: true,
+            ..text
+        },
+        Column {
+            length: 1,
+            ..plain(Name::Clob.plain())
+        },
+        Column { ccsid: 37, ..text },
+    ];
+    let several = several.into_iter().cycle().take(count).collect();
+    [vec![text; count], several].map(List::numbered)
+}
+
 fn types(name: Name) -> Vec<Type> {
     match name.numbers() {
         Numbers::None => vec![name.plain()],

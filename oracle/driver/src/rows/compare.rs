@@ -19,14 +19,16 @@ pub enum Stage {
     Words,
     Shapes,
     Long,
+    Texts,
     Short,
     Any,
 }
 
-const STAGES: [Stage; 5] = [
+const STAGES: [Stage; 6] = [
     Stage::Words,
     Stage::Shapes,
     Stage::Long,
+    Stage::Texts,
     Stage::Short,
     Stage::Any,
 ];
@@ -109,6 +111,7 @@ impl<L: Library> Run<L> {
             Stage::Words => self.words(),
             Stage::Shapes => self.shapes(),
             Stage::Long => self.long(),
+            Stage::Texts => self.texts(),
             Stage::Short => self.short(),
             Stage::Any => self.any(),
         })
@@ -268,6 +271,22 @@ impl<L: Library> Run<L> {
                 data[..4].copy_from_slice(&u32::to_be_bytes(length as u32 - 4));
                 for list in &lists {
                     self.row(list, &data)?;
+                }
+            }
+        }
+        Continue(())
+    }
+
+    /// Texts of which one is unlike the others, at every place: what is found out about a text must stay with its column.
+    fn texts(&mut self) -> Flow {
+        let mut row = Vec::new();
+        for count in [1, 2, 63, 64, 65, 127, COLUMN_LIMIT] {
+            for list in columns::texts(count) {
+                for place in 0..count {
+                    for [one, others] in inputs::unlike() {
+                        inputs::texts(&list.columns, place, one, others, &mut row);
+                        self.row(&list, &row)?;
+                    }
                 }
             }
         }

@@ -221,6 +221,10 @@ faults! {
     NineWithLent,
     /// No text is written.
     NoText,
+    /// A text is taken for well-formed where that of the column before it is,
+    FoundOfLast,
+    /// or that of the column 64 before it.
+    FoundOf64Before,
     /// A word after the values changes.
     WordAfterChanged,
     /// A byte after the texts changes, in a large buffer only.
@@ -252,6 +256,7 @@ mod tests {
             | Fault::LargeNumberTaken
             | Fault::NoColumnFirst
             | Fault::TooFewFirst => Stage::Words,
+            Fault::FoundOfLast | Fault::FoundOf64Before => Stage::Texts,
             _ => Stage::Any,
         }
     }

@@ -199,6 +199,42 @@ impl Default for Values {
     }
 }
 
+/// A text and what others are where it is unlike them: well-formed among malformed ones or the other way about, short and long enough for blocks.
+pub fn unlike() -> [[&'static [u8]; 2]; 4] {
+    const GOOD: &[u8] = b"a\xC3\xA9";
+    const BAD: &[u8] = b"\xC3a";
+    const LONG: &[u8] = &[b'z'; 80];
+    const LONG_BAD: &[u8] = &[0x80; 80];
+    [[GOOD, BAD], [BAD, GOOD], [LONG, LONG_BAD], [LONG_BAD, LONG]]
+}
+
+/// A row of `columns::texts`, with one text at a place and another at all others, of which some are Null.
+pub fn texts(columns: &[Column], place: usize, one: &[u8], others: &[u8], row: &mut Vec<u8>) {
+    row.clear();
+    for (at, column) in columns.iter().enumerate() {
+        let text = if at == place { one } else { others };
+        let length = text.len() as u32;
+        if column.nullable {
+            let is_null = at != place && at % 2 == 1;
+            row.push(if is_null { 0xFF } else { 0x00 });
+            if is_null {
+                continue;
+            }
+        }
+        match column.db2_type.name {
+            Name::SmallInt => row.extend([0, 1]),
+            Name::Clob => {
+                row.extend(length.to_be_bytes());
+                row.extend(text);
+            }
+            _ => {
+                row.extend((length as u16).to_be_bytes());
+                row.extend(text);
+            }
+        }
+    }
+}
+
 /// Whether the column's lengths count characters of two bytes.
 fn doubled(column: &Column) -> bool {
     column.ccsid == 1200 && column.order == Order::Little

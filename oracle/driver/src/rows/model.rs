@@ -675,6 +675,25 @@ impl Model {
         Some((found.external(!self.has(Fault::LobNotExternal)), used))
     }
 
+    /// By a fault a malformed text is taken for well-formed where another is so: a question mark here stands for each malformed part.
+    fn taken_for_good(&self, values: &mut [(Found, usize)]) {
+        let other = |good: &[Option<bool>], place: usize| match self.0 {
+            Some(Fault::FoundOfLast) => good[place.checked_sub(1)?],
+            Some(Fault::FoundOf64Before) => good[place.checked_sub(64)?],
+            _ => None,
+        };
+        let is_good = |(found, _): &(Found, usize)| match &found.held {
+            Held::Text(shown) => Some(!shown.contains('\u{FFFD}')),
+            _ => None,
+        };
+        let good: Vec<Option<bool>> = values.iter().map(is_good).collect();
+        for (place, (found, _)) in values.iter_mut().enumerate() {
+            if let (Held::Text(shown), Some(true)) = (&mut found.held, other(&good, place)) {
+                *shown = shown.replace('\u{FFFD}', "?");
+            }
+        }
+    }
+
     /// The words of the values, and the texts.
     fn placed(&self, values: Vec<(Found, usize)>, skip: usize) -> (Vec<u64>, Vec<u8>) {
         let mut words = Vec::new();
@@ -776,7 +795,7 @@ impl Library for Model {
             Ok(columns) => columns,
             Err(refusal) => return refusal,
         };
-        let (found, used) = match self.walk(&columns, data) {
+        let (mut found, used) = match self.walk(&columns, data) {
             Ok(walked) => walked,
             Err(refusal) => {
                 if self.has(Fault::ShortWritesValues) && !values.is_empty() {
@@ -785,6 +804,7 @@ impl Library for Model {
                 return refusal;
             }
         };
+        self.taken_for_good(&mut found);
         let skip = self.skip(data);
         let counted = if self.has(Fault::UsedWithoutSkip) {
             used - skip

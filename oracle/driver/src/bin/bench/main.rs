@@ -10,17 +10,13 @@ use differential::descriptions::COLUMN_LIMIT;
 use differential::leaf::{Leaf, TEXT_LIMIT};
 use differential::port_side::{ample, Archive, Library};
 use differential::rust_side;
+use differential::timing::{by_turns, copied, processor, read, ROUNDS};
 use std::hint::black_box;
 use std::process::ExitCode;
 use std::rc::Rc;
-use std::time::{Duration, Instant};
 
 /// Short texts are timed in a batch of so many input bytes, so that they stay in the nearest cache.
 const BATCH: usize = 1 << 14;
-
-/// How long a line is measured, and at least how many rounds.
-const TIME: Duration = Duration::from_millis(400);
-const ROUNDS: usize = 40;
 
 /// A line of the table: a call, and inputs of one length, each timed as one call.
 struct Line {
@@ -33,6 +29,8 @@ struct Line {
 #[derive(Clone)]
 enum Call {
     Leaf(Leaf),
+    /// No call: the text is copied as it is.
+    Copy,
     /// Through the boundary: words in a lent buffer.
     Description,
     /// By value: a list of 128 places.
@@ -54,11 +52,19 @@ impl Line {
     }
 }
 
-/// Nanoseconds a call. A call that writes no text has no exact buffer.
+/// Nanoseconds a call. A copy is none of the Rust's; a call that writes no text has no exact buffer.
 struct Times {
-    rust: f64,
+    rust: Option<f64>,
     ample: f64,
     exact: Option<f64>,
+}
+
+impl Times {
+    /// The larger of the two ratios.
+    fn ratio(&self) -> Option<f64> {
+        let most = self.ample.max(self.exact.unwrap_or(0.0));
+        self.rust.map(|rust| most / rust)
+    }
 }
 
 fn main() -> ExitCode {
@@ -82,7 +88,9 @@ fn main() -> ExitCode {
         }
         let times = measure(line, &mut lent);
         println!("{}", row(line, &times));
-        let ratio = times.ample.max(times.exact.unwrap_or(0.0)) / times.rust;
+        let Some(ratio) = times.ratio() else {
+            continue;
+        };
         if slowest.as_ref().is_none_or(|(most, _)| ratio > *most) {
             slowest = Some((ratio, format!("{}, {} bytes", line.name, line.length())));
         }
@@ -95,11 +103,7 @@ fn main() -> ExitCode {
 
 fn heading() -> String {
     use rows::AGAIN;
-    let machine = std::fs::read_to_string("/proc/cpuinfo").unwrap_or_default();
-    let processor = machine
-        .lines()
-        .find_map(|line| line.strip_prefix("model name")?.split_once(": "))
-        .map_or("unknown", |(_, name)| name);
+    let processor = processor();
     format!(
         "Processor: {processor}. Release builds, processor time of one thread, both from one run: the least of at least {ROUNDS} \
          rounds, the two by turns in each, with {BATCH} bytes of short texts, or one long text, a reading of the clock. The port's buffer is lent \
@@ -108,18 +112,23 @@ fn heading() -> String {
          column of the list is looked at, at a place that the compiler does not know. For a row of c columns the text buffer has 3 n + 258 c bytes (any \
          texts fit), or is exactly as long as the texts together; the columns are described before. By value a short row is decoded {AGAIN} times \
          over by both, since the port's column list does not outlive a call. The floor of a row is no call: the columns' words and the row are \
-         read, and the values' words and the texts, which are ready, are copied. The Rust's time \
+         read, and the values' words and the texts, which are ready, are copied; that of a long text is its copy, `memcpy`. The Rust's time \
          includes the allocation of its text, list or values, and its freeing. Ratio: port / Rust."
     )
 }
 
 fn row(line: &Line, times: &Times) -> String {
-    let column = |time: f64| format!("{} | {:.2}", shown(time), time / times.rust);
+    let none = || "–".to_string();
+    let ratio = |time: f64, rust: f64| format!("{:.2}", time / rust);
+    let column = |time: f64| {
+        let ratio = times.rust.map(|rust| ratio(time, rust));
+        format!("{} | {}", shown(time), ratio.unwrap_or_else(none))
+    };
     format!(
         "| {} | {} | {} | {} | {} |",
         line.name,
         line.length(),
-        shown(times.rust),
+        times.rust.map_or_else(none, shown),
         column(times.ample),
         times.exact.map_or("– | –".to_string(), column)
     )
@@ -145,6 +154,7 @@ fn same<'a>(line: &'a Line, lent: &mut Lent) -> Result<(), &'a [u8]> {
                 let written = &lent.text[..outcome.len as usize];
                 outcome.number == 0 && rust.as_bytes() == written
             }
+            Call::Copy => true,
             Call::Description => {
                 let archive = descriptions::port_side::Archive;
                 let port = descriptions::port_side::PortSide::new(archive).describe(text);
@@ -174,15 +184,17 @@ fn measure(line: &Line, lent: &mut Lent) -> Times {
             [rust, port, f64::NAN]
         }
         &Call::Leaf(leaf) => measure_leaf(leaf, texts, lent),
+        Call::Copy => measure_copy(texts, lent),
         Call::Description => measure_description(texts, lent),
         Call::DescriptionByValue => measure_by_value(texts, lent),
         Call::Row(form, table) => rows::measure(*form, table, texts, lent),
     };
     let [rust, ample, exact] = times.map(|time| time / texts.len() as f64);
+    let measured = |time: f64| Some(time).filter(|time| !time.is_nan());
     Times {
-        rust,
+        rust: measured(rust),
         ample,
-        exact: Some(exact).filter(|time| !time.is_nan()),
+        exact: measured(exact),
     }
 }
 
@@ -210,6 +222,14 @@ fn port_texts(leaf: Leaf, texts: &[Vec<u8>], sizes: &[usize], buffer: &mut [u8])
         let outcome = Archive.write(leaf, text, &mut buffer[..size]);
         read(&buffer[..outcome.len as usize])
     })
+}
+
+fn measure_copy(texts: &[Vec<u8>], lent: &mut Lent) -> [f64; 3] {
+    let [copy] = by_turns(
+        lent,
+        [&|lent| batch(texts, |text| copied(text, &mut lent.text))],
+    );
+    [f64::NAN, copy, f64::NAN]
 }
 
 /// All descriptions of a line have the same number of columns.
@@ -253,56 +273,10 @@ fn port_descriptions(texts: &[Vec<u8>], words: &mut [u64]) -> u64 {
     })
 }
 
-/// Looks at a text: its length and its last byte, so that the compiler can leave out neither it nor its writing.
-fn read(text: &[u8]) -> u64 {
-    let text = black_box(text);
-    text.len() as u64 + u64::from(text[text.len() - 1])
-}
-
 /// Calls once for each text; the sum is looked at, the texts are not known to the compiler.
 fn batch(texts: &[Vec<u8>], mut call: impl FnMut(&[u8]) -> u64) -> u64 {
     texts
         .iter()
         .map(|text| call(black_box(text)))
         .fold(0, u64::wrapping_add)
-}
-
-/// What is timed: it may use what is lent, and answers a number that depends on all that it did.
-type Work<'a> = &'a dyn Fn(&mut Lent) -> u64;
-
-/// The processor time that this thread has used. On a machine that others use too, the time in which they run does not count.
-fn processor_time() -> Duration {
-    #[repr(C)]
-    struct Timespec {
-        seconds: i64,
-        nanoseconds: i64,
-    }
-    unsafe extern "C" {
-        fn clock_gettime(clock: i32, time: *mut Timespec) -> i32;
-    }
-    /// CLOCK_THREAD_CPUTIME_ID of Linux, for which alone the archive is made.
-    const THREAD: i32 = 3;
-    let mut time = Timespec {
-        seconds: 0,
-        nanoseconds: 0,
-    };
-    let status = unsafe { clock_gettime(THREAD, &mut time) };
-    assert_eq!(status, 0, "the thread's clock can be read");
-    Duration::new(time.seconds as u64, time.nanoseconds as u32)
-}
-
-/// The least time of each, in nanoseconds, taken by turns.
-fn by_turns<const N: usize>(lent: &mut Lent, works: [Work; N]) -> [f64; N] {
-    let mut least = [Duration::MAX; N];
-    let start = Instant::now();
-    let mut rounds = 0;
-    while rounds < ROUNDS || start.elapsed() < TIME {
-        for (work, least) in works.iter().zip(&mut least) {
-            let start = processor_time();
-            black_box(work(lent));
-            *least = (processor_time() - start).min(*least);
-        }
-        rounds += 1;
-    }
-    least.map(|time| time.as_secs_f64() * 1e9)
 }

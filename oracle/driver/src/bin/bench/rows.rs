@@ -1,13 +1,16 @@
 //! The row call: columns, rows of them, and the times of the Rust, of the port through the boundary and by value, and of a plain reading and
 //! writing of the same bytes.
-use crate::inputs::{ascii, ebcdic, packed, uniform, utf16_mixed, utf8_mixed, Maker};
-use crate::{batch, by_turns, by_value, Call, Lent, Line, BATCH};
+use crate::{batch, by_value, Call, Lent, Line, BATCH};
 use db2_proto::fdoca::{decode_row, ColumnDescriptor};
 use differential::descriptions::rust_side::parsed;
 use differential::descriptions::COLUMN_LIMIT;
 use differential::random::Random;
 use differential::rows::port_side::{ample, Archive, PortSide};
 use differential::rows::{rust_side, Answer, List};
+use differential::samples::{
+    ascii, ebcdic, malformed, packed, uniform, utf16_mixed, utf8_cjk, utf8_mixed, Maker,
+};
+use differential::timing::by_turns;
 use port::value::VALUE_WORDS;
 use std::hint::black_box;
 use std::rc::Rc;
@@ -236,6 +239,11 @@ pub fn lines(random: &mut Random) -> Vec<Line> {
         (
             "16 texts, UTF-8 mixed",
             sixteen_texts(0x32, 1208, utf8_mixed),
+        ),
+        ("16 texts, UTF-8 CJK", sixteen_texts(0x32, 1208, utf8_cjk)),
+        (
+            "16 texts, UTF-8, 1 % malformed",
+            sixteen_texts(0x32, 1208, malformed),
         ),
         ("16 texts, 037", sixteen_texts(0x32, 37, ebcdic)),
         ("16 texts, 819 ASCII", sixteen_texts(0x32, 819, ascii)),

@@ -23,7 +23,7 @@ byte-append f [] b = refl
 byte-append f (x ∷ a) b = ap (λ (l : List ℕ). utf8 (f x) ++ l) (byte-append f a b) ∙ sym (append-assoc (utf8 (f x)) (byteText f a) (byteText f b))
 
 module _ (s : List ℕ) (i e : ℕ) (h : i ≤ e) where
-  block : drop i s ≡ take (e - i) (drop i s) ++ drop e s
+  pub block : drop i s ≡ take (e - i) (drop i s) ++ drop e s
   block =
       let k : i + (e - i) ≡ e = omega arith in
       sym (take-append-drop (e - i) (drop i s)) ∙ ap (λ (l : List ℕ). take (e - i) (drop i s) ++ l) (drop-drop (e - i) i s ∙ ap (λ (n : ℕ). drop n s) k)
@@ -56,10 +56,11 @@ text-length (b ∷ s) h =
     length-append (utf8 b) (byteText codePoint819 s) ∙ omega (arith, small-length b (h 0), text-length s (λ i. h (suc i)))
 
 -- two bytes of text at least, where two bytes are left
-pub two-left : (s : List ℕ) (i : ℕ) → ((j : ℕ) → getD s j 0 < 0x100) → i + 1 < length s → 2 ≤ length (byteText codePoint819 (drop i s))
-two-left s i h k =
+pub two-left : (f : ℕ → ℕ) → ((b : ℕ) → b < 0x100 → f b < 0x100) → (s : List ℕ) (i : ℕ) → ((j : ℕ) → getD s j 0 < 0x100) → i + 1 < length s
+    → 2 ≤ length (byteText f (drop i s))
+two-left f small s i h k =
     omega
-    (arith, byte-length codePoint819 s i (omega arith), byte-length codePoint819 s (i + 1) k, small-length (getD s i 0) (h i), small-length (getD s (i + 1) 0) (h (i + 1)))
+    (arith, byte-length f s i (omega arith), byte-length f s (i + 1) k, small-length (f (getD s i 0)) (small (getD s i 0) (h i)), small-length (f (getD s (i + 1) 0)) (small (getD s (i + 1) 0) (h (i + 1))))
 
 -- where no byte is 80 or above, the bytes are their text
 pub plain-text : (s : List ℕ) → highs s ≡ 0 → byteText codePoint819 s ≡ s

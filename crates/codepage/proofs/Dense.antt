@@ -8,24 +8,23 @@ use native.Mathlib.Omega.{arith}
 use native.Mathlib.Nat.{add-zero}
 use borrow.Author.Tests.{ltb-true, ltb-false}
 use lib.Dec.{ltb}
-use lib.ListN.{length, take, drop, getD, set, length-set, length-drop, drop-of-length-le}
-use lib.Seq.{set-set, set-comm, set-getD, take-set-le, drop-set-lt, drop-drop, take-all, getD-drop, drop-at, length-take-le}
+use lib.ListN.{length, take, drop, getD, set, length-set, length-drop, length-append, drop-of-length-le}
+use lib.Seq.{set-set, set-comm, set-getD, take-set-le, drop-set-lt, drop-drop, take-all, getD-drop, length-take-le}
 use Rattle.buffer.specs.Buffer.{written}
-use Rattle.buffer.proofs.Writing.{Writing, stored, fits, as-long, wrote-rest}
+use Rattle.buffer.proofs.Writing.{Writing, stored, fits, as-long, back, wrote-rest}
 use Rattle.unicode.specs.Unicode.{utf8}
 use Rattle.unicode.proofs.ScalarBytes.{utf8-one, utf8-two}
+use Rattle.codepage.specs.CodePage.{byteText}
+use Rattle.codepage.proofs.ByteText.{byte-next, byte-end}
+use Rattle.codepage.proofs.Blocks.{small-length, two-left}
 
 pub record Loose (T d rest out : List ℕ) (o : ℕ) : Type 0 where
   pub mended : Writing T d rest (set out o (getD d o 0)) o
 
--- what is not yet written is the buffer's own
-kept : {T d rest out : List ℕ} {o : ℕ} → Writing T d rest out o → drop o out ≡ drop o d
-kept {T} {d} {rest} {out} {o} w = rw (w .buffer) (drop-at (take o T) (drop o d) o (length-take-le o T (w .before)))
-
 pub loosen : {T d rest out : List ℕ} {o : ℕ} → Writing T d rest out o → Loose T d rest out o
 loosen {T} {d} {rest} {out} {o} w =
     let g : getD d o 0 ≡ getD out o 0 =
-    ap (λ (n : ℕ). getD d n 0) (sym (add-zero o)) ∙ sym (getD-drop o d 0 0) ∙ ap (λ (l : List ℕ). getD l 0 0) (sym (kept w)) ∙ getD-drop o out 0 0 ∙ ap (λ (n : ℕ). getD out n 0) (add-zero o) in
+    ap (λ (n : ℕ). getD d n 0) (sym (add-zero o)) ∙ sym (getD-drop o d 0 0) ∙ ap (λ (l : List ℕ). getD l 0 0) (sym (back w)) ∙ getD-drop o out 0 0 ∙ ap (λ (n : ℕ). getD out n 0) (add-zero o) in
     record { mended = rw (g, set-getD out o 0) w }
 
 pub loose-long : {T d rest out : List ℕ} {o : ℕ} → Loose T d rest out o → length out ≡ length d
@@ -36,12 +35,10 @@ loose-fits {T} {d} {rest} {out} {o} w = omega (arith, fits (w .mended), length-s
 
 -- a code point below 100 is stored
 pub loose-step : {T d l out : List ℕ} {o : ℕ} → Loose T d l out o → (v : ℕ) → v < 0x100 → (rest : List ℕ) → l ≡ utf8 v ++ rest
-    → (n : ℕ) → n ≡ length (utf8 v) → (b : ℕ) → b ≡ getD (utf8 v) 0 0 → (p : ℕ) → p ≡ o + 1 → Loose T d rest (set (set out p (0x80 + v % 64)) o b) (o + n)
-loose-step {T} {d} {l} {out} {o} w v h rest e n z b q p r = go (ltb v 0x80) refl
+    → (n : ℕ) → n ≡ length (utf8 v) → (b : ℕ) → b ≡ getD (utf8 v) 0 0 → (p : ℕ) → p ≡ o + 1 → (S : ℕ) → (0x80 ≤ v → S ≡ 0x80 + v % 64)
+    → Loose T d rest (set (set out p S) o b) (o + n)
+loose-step {T} {d} {l} {out} {o} w v h rest e n z b q p r S second = go (ltb v 0x80) refl
   where
-    S : ℕ
-    S = 0x80 + v % 64
-
     apart : o + 1 ≡ o → ⊥
     apart k = omega arith
 
@@ -56,7 +53,7 @@ loose-step {T} {d} {l} {out} {o} w v h rest e n z b q p r = go (ltb v 0x80) refl
         rw (x, y, r) (record { mended = rw i (w₁ .mended) })
     go false k =
         let m : 0x80 ≤ v = ltb-false v 0x80 k in
-        let u : utf8 v ≡ (0xC0 + v / 64) ∷ S ∷ [] = utf8-two v m (omega arith) in
+        let u : utf8 v ≡ (0xC0 + v / 64) ∷ S ∷ [] = rw (second m) (utf8-two v m (omega arith)) in
         let x : b ≡ 0xC0 + v / 64 = q ∙ ap (λ (c : List ℕ). getD c 0 0) u in
         let y : o + n ≡ o + 1 + 1 = omega (arith, ap length u) in
         let w₁ : Writing T d rest (set (set (set out o (getD d o 0)) o (0xC0 + v / 64)) (o + 1) S) (o + 1 + 1) =
@@ -82,3 +79,42 @@ loose-rest {T} {d} {l} {out} {o} w t rest e h ys q n z =
     drop-drop (length t) o (set out o x) ∙ drop-set-lt (o + length t) out o x (omega arith) ∙ sym (drop-drop (length t) o out) in
     let y : ys ≡ written t (take (length (set out o x) - o) (drop o (set out o x))) = rw (L, g, c) (q ∙ ap (written t) f) in
     rw (← a, ← b) (rw L at (wrote-rest (w .mended) t rest e ys y n z))
+
+-- A turn of a loop over the bytes of s, which are code points below 100 by f: the text from i on is still to be written, from o on, and v is the code point at i
+module _ (f : ℕ → ℕ) (small : (b : ℕ) → b < 0x100 → f b < 0x100) (s : List ℕ) (bytes : (j : ℕ) → getD s j 0 < 0x100) (i : ℕ) {d out : List ℕ} {o : ℕ}
+    (w : Loose (byteText f s) d (byteText f (drop i s)) out o) where
+  pub dense-room : i + 1 < length s → o + 2 ≤ length out
+  dense-room left = omega (arith, loose-fits w, two-left f small s i bytes left)
+
+  module _ (left : i + 1 < length s) (v : ℕ) (e : v ≡ f (getD s i 0)) (n : ℕ) (z : n ≡ length (utf8 v)) where
+    low : v < 0x100
+    low = rw e (small (getD s i 0) (bytes i))
+
+    pub dense-few : n ≤ 2
+    dense-few = omega (arith, small-length v low, low)
+
+    pub dense-turn : (b : ℕ) → b ≡ getD (utf8 v) 0 0 → (a : ℕ) → (0x80 ≤ v → a ≡ 0x80 + v % 64)
+        → Loose (byteText f s) d (byteText f (drop (i + 1) s)) (set (set out (o + 1) a) o b) (o + n)
+    dense-turn b q a second =
+        let text : byteText f (drop i s) ≡ utf8 v ++ byteText f (drop (i + 1) s) = rw e (byte-next f s i (omega arith)) in
+        loose-step w v low (byteText f (drop (i + 1) s)) text n z b q (o + 1) refl a second
+
+  -- the last byte, whose code point is u
+  module _ (there : i + 1 ≡ length s) (u : ℕ) (e : u ≡ f (getD s (length s - 1) 0)) where
+    last-text : byteText f (drop i s) ≡ utf8 u ++ []
+    last-text =
+        let k : length s - 1 ≡ i = omega arith in
+        let x : u ≡ f (getD s i 0) = e ∙ ap (λ (j : ℕ). f (getD s j 0)) k in
+        byte-next f s i (omega arith) ∙ rw (← x, byte-end f s (i + 1) (omega arith))
+
+    last-some : 0 < length (utf8 u)
+    last-some = rw e (omega (arith, small-length (f (getD s (length s - 1) 0)) (small (getD s (length s - 1) 0) (bytes (length s - 1)))))
+
+    pub last-fits : length (utf8 u) ≤ length (take (length out - o) (drop o out))
+    last-fits =
+        omega (arith, loose-fits w, ap length last-text, length-append (utf8 u) [], length-take-le (length out - o) (drop o out) (omega (arith, length-drop o out)))
+
+    -- it was written into the rest of the buffer: ys is what the callee left there
+    pub last-turn : (ys : List ℕ) → ys ≡ written (utf8 u) (take (length out - o) (drop o out)) → (n : ℕ) → n ≡ length (utf8 u)
+        → Writing (byteText f s) d [] (take o out ++ (ys ++ drop (length out - o) (drop o out))) (o + n)
+    last-turn ys q n z = loose-rest w (utf8 u) [] last-text last-some ys q n z

@@ -2,3 +2,4 @@ pub mod HexLaws
 pub mod PlainText
 pub mod Arms
 pub mod Utf8Texts
+pub mod Guesses

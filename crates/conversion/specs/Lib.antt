@@ -1,3 +1,4 @@
 pub mod Hex
 pub mod Conversion
 pub mod Measure
+pub mod Guess

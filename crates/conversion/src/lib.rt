@@ -9,17 +9,20 @@ use codepage::latin1_len;
 use codepage::latin1_write;
 use hex::marked_hex_write;
 use utf::ascii::has_high;
+use utf::lossy::utf8_lossy_len;
+use utf::lossy::utf8_lossy_write;
 use utf::utf8::run_of;
-use utf::utf8::utf8_lossy_len;
-use utf::utf8::utf8_lossy_write;
 use utf::utf16::utf16_lossy_len;
 use utf::utf16::utf16_lossy_write;
 ghost use mathlib.Core.Path.{_≡_};
+ghost use mathlib.Core.Bool.{true};
 ghost use Prim.Native.Nat.{_≤_};
-ghost use lib.ListN.{length};
+ghost use lib.ListN.{length, take};
 ghost use Rattle.refusal.specs.Refusal.{inputLimit};
 ghost use Rattle.buffer.specs.Buffer.{written};
+ghost use Rattle.utf.specs.Ascii.{AsciiRun};
 ghost use Rattle.conversion.specs.Conversion.{characterConversion, graphicConversion, isUtf16, textIn};
+ghost use Rattle.conversion.specs.Guess.{guessText, Guessed};
 ghost use Rattle.conversion.specs.Measure.{Measures};
 
 // How the bytes of a text are read.
@@ -92,14 +95,16 @@ fn utf8_measure(s: &[u8]) -> Measured
     ensures { λ r. ⌜ Measures Conversion.Utf8 (now (s .entry)) (r .len) (r .conversion) ⌝ }
 {
     let r = run_of(s);
+    let e = r.end;
     if r.bad == 0 {
         return Measured {
-            len: r.end,
+            len: e,
             conversion: Conversion::Plain,
         };
     }
+    let n = e + utf8_lossy_len(&s[e..]);
     Measured {
-        len: utf8_lossy_len(s),
+        len: n,
         conversion: Conversion::Utf8,
     }
 }
@@ -158,4 +163,49 @@ pub fn text_write(conversion: Conversion, s: &[u8], out: &mut [u8]) -> usize
         Conversion::Locator => marked_hex_write(b"LOB locator 0x", s, out),
         Conversion::RowId => marked_hex_write(b"0x", s, out),
     }
+}
+
+// The CCSID is not named, and not one of UTF-16: the conversion goes by a look at the bytes.
+pub fn is_guessed(ccsid: u16) -> bool
+    ensures { λ r. ⌜ (r ≡ true → Guessed ccsid) ⌝ }
+{
+    match ccsid {
+        1208 | 819 | 37 | 500 | 1200 | 13488 => false,
+        _ => true,
+    }
+}
+
+// Copies a run of ASCII at the beginning of s, in whole blocks of 1,024 bytes, and returns its length: a block is copied while what the look at it
+// read is near.
+fn copy_ascii_long(s: &[u8], out: &mut [u8]) -> usize
+    requires { ⌜ length (now s) ≤ length (now out) ⌝ }
+    ensures run { λ r. ⌜ AsciiRun r (now (s .entry)) ⌝ }
+    ensures bytes { λ r. ⌜ now (out .exit) ≡ written (take r (now (s .entry))) (now (out .entry)) ⌝ }
+{
+    let mut i = 0;
+    loop {
+        if s.len() - i < 1024 {
+            return i;
+        }
+        let e = i + 1024;
+        if has_high(&s[i..e]) {
+            return i;
+        }
+        copy(&s[i..e], &mut out[i..]);
+        i = e;
+    }
+}
+
+// Writes the text of s where the conversion is guessed: ASCII in one pass. A text by code page 037 is no shorter than its bytes, so that it covers what
+// was copied.
+pub fn guess_write(s: &[u8], out: &mut [u8]) -> usize
+    requires { ⌜ length (guessText (now s)) ≤ length (now out) ⌝ }
+    ensures count { λ r. ⌜ r ≡ length (guessText (now (s .entry))) ⌝ }
+    ensures bytes { λ _. ⌜ now (out .exit) ≡ written (guessText (now (s .entry))) (now (out .entry)) ⌝ }
+{
+    let n = copy_ascii_long(s, out);
+    if has_high(&s[n..]) {
+        return text_write(Conversion::Ebcdic037, s, out);
+    }
+    n + copy(&s[n..], &mut out[n..])
 }

@@ -1,24 +1,27 @@
 -- Laws of items that the code rests on: an item as the code holds it has the text and the value of the rules' item. Assumes nothing.
 use Prim.Native.Nat.{ℕ, _+_, _-_, _≤_}
 use mathlib.Core.Path.{_≡_, sym, ap, _∙_, subst}
-use mathlib.Core.Bool.{Bool}
+use mathlib.Core.Bool.{Bool, true}
 use mathlib.Core.List.{List}
 use native.Mathlib.Omega.{arith}
 use lib.ListN.{length, take, drop, length-drop}
-use lib.Seq.{length-take-le}
+use lib.Seq.{length-take-le, take-all}
 use Rattle.types.specs.declared.ColumnDescriptor.{ColumnDescriptor}
 use Rattle.types.specs.declared.Db2Value.{Db2Value}
 use Rattle.types.specs.declared.ValuePlace.{ValuePlace}
+use Rattle.conversion.specs.declared.Conversion.the-variants as by
+use Rattle.conversion.specs.Conversion.{textIn}
 use Rattle.rules.specs.Extent.{need, extentOf}
-use Rattle.rules.specs.Meaning.{Item, itemIn, refersIn}
+use Rattle.rules.specs.Meaning.{Item, text, itemIn, refersIn}
 use Rattle.rules.specs.Row.{place, textValue, valueOf, textOf, pieceItem, pieceValue}
 use Rattle.rules.specs.Conversions.{ported}
 use Rattle.cell.specs.declared.CellItem.{CellItem}
 use Rattle.cell.specs.declared.CellItem.the-variants.{Nothing, Number, Boolean, Part, Text}
 use Rattle.cell.specs.declared.TextSort.{TextSort}
 use Rattle.cell.specs.declared.Reading.{Reading}
+use Rattle.cell.specs.declared.Reading.the-variants.{By}
 use Rattle.cell.specs.Cell.{textSort, textBy, Readable, Holds, Decodes}
-use Rattle.piece.specs.Piece.{Within, itemText, itemValue, valueIn, valueText}
+use Rattle.piece.specs.Piece.{Within, itemText, itemValue, valueIn, valueText, textStart, PlainPiece}
 
 pub holds-within : (x : CellItem) (s : List ℕ) (i : Item) → Holds x s i → Within x s
 holds-within Nothing s i h = tt
@@ -70,6 +73,25 @@ module _ (x : CellItem) (s : List ℕ) (k : TextSort) (reading : Reading) (from 
       ap (λ (m : ℕ). textValue (textSort k) (place next m)) (h ∙ ap (λ (y : CellItem). length (itemText y s)) e)
       ∙ ap (λ (y : CellItem). itemValue y s at next) (sym e)
 
+-- ---- a text that is the bytes themselves, all from a place on
+
+all-from : (start len : ℕ) (s : List ℕ) → start + len ≡ length s → take len (drop start s) ≡ drop start s
+all-from start len s e = take-all len (drop start s) (omega (arith, length-drop start s))
+
+module _ (x : CellItem) (s : List ℕ) (k : TextSort) (reading : Reading) (start len from : ℕ) (e : x ≡ Text k reading start len) (a : (start ≡ from) × (start + len ≡ length s)) where
+  pub plain-cut : textBy reading (take ((start + len) - start) (drop start s)) ≡ take ((start + len) - start) (drop start s) → itemText x s ≡ drop from s
+  plain-cut h =
+      ap (λ (y : CellItem). itemText y s) e ∙ (rw (cut-as start len s) at h) ∙ all-from start len s (a .1) ∙ ap (λ (n : ℕ). drop n s) (a .0)
+
+  -- the same item, read as it stands
+  pub plain-holds : itemText x s ≡ drop from s → (i : Item) → Holds x s i → Holds (Text k (By by.Plain) start len) s i
+  unfolding textIn
+  plain-holds p i h =
+      let g : Holds (Text k reading start len) s i = subst (λ (y : CellItem). Holds y s i) e h in
+      let q : textBy reading (take len (drop start s)) ≡ take len (drop start s) =
+      ap (λ (y : CellItem). itemText y s) (sym e) ∙ p ∙ ap (λ (n : ℕ). drop n s) (sym (a .0)) ∙ sym (all-from start len s (a .1)) in
+      (g .0 ∙ ap (text (textSort k)) q, (g .1 .0, tt))
+
 -- ---- what the column decoder finds
 
 abbrev valuePlace : Db2Value → Bool → ValuePlace
@@ -93,3 +115,20 @@ module _ (x : CellItem) (c : ColumnDescriptor) (s : List ℕ) (d : Decodes x c s
       ap (λ (y : Db2Value). valuePlace y external) (h ∙ holds-value x (take used s) (itemIn ported c (take used s)) at next got)
       ∙ ap (λ (b : Bool). valuePlace (valueOf (itemIn ported c (take used s)) at next) b) f
       ∙ ap (λ (n : ℕ). valuePlace (valueOf (itemIn ported c (take n s)) at next) (refersIn ported c (take n s))) e
+
+  pub got-plain : itemText x (take used s) ≡ drop (textStart (c .«db2_type»)) (take used s) → PlainPiece (valueIn c 0 s)
+  unfolding pieceItem
+  got-plain h = sym got-text ∙ h ∙ ap (λ (n : ℕ). drop (textStart (c .«db2_type»)) (take n s)) e
+
+  plain-got : textOf (itemIn ported c (take (need (extentOf c) s) s)) ≡ drop (textStart (c .«db2_type»)) (take (need (extentOf c) s) s)
+      → itemText x (take used s) ≡ drop (textStart (c .«db2_type»)) (take used s)
+  unfolding pieceItem
+  plain-got h = got-text ∙ h ∙ ap (λ (n : ℕ). drop (textStart (c .«db2_type»)) (take n s)) (sym e)
+
+  -- y says of any bytes what x says, where the text is the bytes themselves if b holds
+  pub read-decodes : (y : CellItem) (b : Bool)
+      → ((t : List ℕ) → length t ≡ used → (b ≡ true → itemText x t ≡ drop (textStart (c .«db2_type»)) t) → (i : Item) → Holds x t i → Holds y t i)
+      → used ≤ length s → (at : ℕ) → (b ≡ true → PlainPiece (valueIn c at s)) → Decodes y c s
+  read-decodes y b f h at p =
+      subst (λ (n : ℕ). Holds y (take n s) (itemIn ported c (take n s))) e
+      (f (take used s) (length-take-le used s h) (λ t. plain-got (p t)) (itemIn ported c (take used s)) got)

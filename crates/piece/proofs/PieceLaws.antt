@@ -21,7 +21,7 @@ pub all-after : (k : ℕ) (s : List ℕ) → take (length s - k) (drop k s) ≡ 
 all-after k s = take-all (length s - k) (drop k s) (omega (arith, length-drop k s))
 
 -- a test of what is not so
-said : (b t : Bool) → not b ≡ t → b ≡ not t
+pub said : (b t : Bool) → not b ≡ t → b ≡ not t
 said true t e = ap not e
 said false t e = ap not e
 

@@ -1,2 +1,3 @@
 pub mod Piece
 pub mod Texts
+pub mod Marks

@@ -1,19 +1,21 @@
 -- For inner functions; no public promise rests on it. The piece of a row that a column makes of the rest of the row, and its text. Assumes nothing.
 use Prim.Native.Nat.{ℕ, _+_, _≤_, _<_}
 use mathlib.Core.Path.{_≡_}
-use mathlib.Core.Bool.{Bool, true, false}
+use mathlib.Core.Bool.{Bool, true, false, cond}
 use mathlib.Core.List.{List, [], _∷_}
 use lib.Dec.{eqb}
 use lib.ListN.{length, take, drop}
 use Rattle.types.specs.declared.ColumnDescriptor.{ColumnDescriptor}
 use Rattle.types.specs.declared.Db2Type.{Db2Type}
+use Rattle.types.specs.declared.Db2Type.the-variants as type
 use Rattle.types.specs.declared.Db2Value.{Db2Value}
 use Rattle.types.specs.declared.Db2Value.the-variants as value
 use Rattle.types.specs.declared.ValuePlace.{ValuePlace}
+use Rattle.types.specs.Names.{namedIn}
 use Rattle.rules.specs.declared.Extent.the-variants.{Fixed}
 use Rattle.rules.specs.Extent.{need, extentOf, typeExtent}
-use Rattle.rules.specs.Meaning.{typeItem}
-use Rattle.rules.specs.Walk.{Piece, present, columnNeed, cellPiece}
+use Rattle.rules.specs.Meaning.{typeItem, itemIn}
+use Rattle.rules.specs.Walk.{Piece, absent, present, columnNeed, cellPiece}
 use Rattle.rules.specs.Row.{place, partValue, textValue, startOf, textOf, pieceItem}
 use Rattle.rules.specs.Conversions.{ported}
 use Rattle.cell.specs.declared.CellItem.{CellItem}
@@ -48,6 +50,16 @@ valueText c s = textOf (pieceItem ported (valueIn c 0 s))
 -- a piece's text does not depend on where the piece is
 abbrev pub pieceText : ColumnDescriptor → List ℕ → List ℕ
 pieceText c s = textOf (pieceItem ported (pieceIn c 0 s))
+
+-- where the text of a value within the row begins among the value's bytes: behind the two or four bytes that say its length
+abbrev pub textStart : Db2Type → ℕ
+textStart t =
+    cond (namedIn (type.VarChar 0 ∷ type.LongVarChar ∷ type.VarGraphic 0 ∷ []) t) 2 (cond (namedIn (type.Clob ∷ type.DbClob ∷ type.Xml ∷ []) t) 4 0)
+
+-- the text is the value's bytes from there on: writing it is copying them
+abbrev pub PlainPiece : Piece → Type 0
+PlainPiece absent = Unit {0}
+PlainPiece (present c at s) = textOf (itemIn ported c s) ≡ drop (textStart (c .«db2_type»)) s
 
 -- an item as the column decoder holds it, of the value's bytes s: it lies within them, its text, and its value where s begins at place `at`
 abbrev pub Within : CellItem → List ℕ → Type 0

@@ -3,20 +3,26 @@ use cell::ByteSort;
 use cell::CellItem;
 use cell::Reading;
 use cell::TextSort;
+use conversion::Conversion;
 use conversion::text_measure;
 use conversion::text_write;
 use packed::decimal_len;
 use packed::decimal_write;
+use types::Db2Type;
 use types::Db2Value;
 use types::Place;
 ghost use mathlib.Core.Path.{_≡_};
-ghost use Prim.Native.Nat.{_+_, _≤_};
-ghost use lib.ListN.{length};
+ghost use mathlib.Core.Bool.{true};
+ghost use mathlib.Core.List.{List};
+ghost use Prim.Native.Nat.{ℕ, _+_, _≤_};
+ghost use lib.ListN.{length, drop};
 ghost use Rattle.refusal.specs.Refusal.{inputLimit};
 ghost use Rattle.buffer.specs.Buffer.{written};
 ghost use Rattle.rules.specs.Row.{place, startOf, partValue, textValue};
-ghost use Rattle.cell.specs.Cell.{byteSort, textSort, textBy, Readable};
-ghost use Rattle.piece.specs.Piece.{Within, itemText, itemValue};
+ghost use Rattle.conversion.specs.declared.Conversion.{Conversion};
+ghost use Rattle.rules.specs.Meaning.{Item};
+ghost use Rattle.cell.specs.Cell.{byteSort, textSort, textBy, Readable, Holds};
+ghost use Rattle.piece.specs.Piece.{Within, itemText, itemValue, textStart};
 
 // A value, and how many bytes of text were written.
 pub struct ItemWritten {
@@ -24,17 +30,38 @@ pub struct ItemWritten {
     pub written: usize,
 }
 
+// The length of a text, and whether it is the bytes that it is read from.
+pub struct TextLength {
+    pub len: usize,
+    pub plain: bool,
+}
+
+fn is_plain(conversion: Conversion) -> bool
+    ensures { λ r. ⌜ (r ≡ true → conversion ≡ Conversion.Plain) ⌝ }
+{
+    match conversion {
+        Conversion::Plain => true,
+        _ => false,
+    }
+}
+
 // The length of a text, and its writing into out from its first byte.
-fn reading_len(reading: Reading, s: &[u8]) -> usize
+fn reading_len(reading: Reading, s: &[u8]) -> TextLength
     requires { ⌜ (length (now s) ≤ inputLimit) × Readable reading (length (now s)) ⌝ }
-    ensures { λ r. ⌜ r ≡ length (textBy reading (now (s .entry))) ⌝ }
+    ensures len { λ r. ⌜ r .len ≡ length (textBy reading (now (s .entry))) ⌝ }
+    ensures plain { λ r. ⌜ (r .plain ≡ true → textBy reading (now (s .entry)) ≡ now (s .entry)) ⌝ }
 {
     match reading {
         Reading::By(conversion) => {
             let m = text_measure(conversion, s);
-            m.len
+            let same = m.conversion;
+            let plain = is_plain(same);
+            TextLength { len: m.len, plain }
         }
-        Reading::Packed(scale) => decimal_len(s, scale),
+        Reading::Packed(scale) => {
+            let len = decimal_len(s, scale);
+            TextLength { len, plain: false }
+        }
     }
 }
 
@@ -49,18 +76,84 @@ fn reading_write(reading: Reading, s: &[u8], out: &mut [u8]) -> usize
     }
 }
 
-pub fn item_len(item: CellItem, bytes: &[u8]) -> usize
+// Whether a part of `count` bytes, which begins with byte `start` and has `len` bytes, is all of them from byte `from` on.
+fn is_all_from(start: usize, len: usize, from: usize, count: usize) -> bool
+    ensures { λ r. ⌜ (r ≡ true → (start ≡ from) × (start + len ≡ count)) ⌝ }
+{
+    if start != from {
+        return false;
+    }
+    if count < start {
+        return false;
+    }
+    count - start == len
+}
+
+// Where the text of a value within the row begins among the value's bytes.
+fn text_start(t: Db2Type) -> usize
+    ensures { λ r. ⌜ r ≡ textStart t ⌝ }
+{
+    match t {
+        Db2Type::VarChar(_) | Db2Type::LongVarChar | Db2Type::VarGraphic(_) => 2,
+        Db2Type::Clob | Db2Type::DbClob | Db2Type::Xml => 4,
+        _ => 0,
+    }
+}
+
+// The length of the text of an item of type t, and whether the text is the bytes themselves, from text_start on.
+pub fn item_len(item: CellItem, bytes: &[u8], t: Db2Type) -> TextLength
     requires { ⌜ (length (now bytes) ≤ inputLimit) × Within item (now bytes) ⌝ }
-    ensures { λ r. ⌜ r ≡ length (itemText item (now (bytes .entry))) ⌝ }
+    ensures len { λ r. ⌜ r .len ≡ length (itemText item (now (bytes .entry))) ⌝ }
+    ensures plain { λ r. ⌜ (r .plain ≡ true → itemText item (now (bytes .entry)) ≡ drop (textStart t) (now (bytes .entry))) ⌝ }
 {
     match item {
         CellItem::Text {
             sort: _,
             reading,
-            from,
+            from: start,
             len,
-        } => reading_len(reading, &bytes[from..from + len]),
-        _ => 0,
+        } => {
+            let l = reading_len(reading, &bytes[start..start + len]);
+            if is_all_from(start, len, text_start(t), bytes.len()) {
+                return l;
+            }
+            TextLength {
+                len: l.len,
+                plain: false,
+            }
+        }
+        _ => TextLength {
+            len: 0,
+            plain: false,
+        },
+    }
+}
+
+// The same item of `count` bytes, where `plain` says that its text is the bytes themselves: read as they stand.
+pub fn item_read(item: CellItem, plain: bool, t: Db2Type, count: usize) -> CellItem
+    ensures { λ r. ⌜ ((s : List ℕ) → length s ≡ count → (plain ≡ true → itemText item s ≡ drop (textStart t) s) → (i : Item) → Holds item s i → Holds r s i) ⌝ }
+{
+    if !plain {
+        return item;
+    }
+    match item {
+        CellItem::Text {
+            sort,
+            reading: _,
+            from: start,
+            len,
+        } => {
+            if is_all_from(start, len, text_start(t), count) {
+                return CellItem::Text {
+                    sort,
+                    reading: Reading::By(Conversion::Plain),
+                    from: start,
+                    len,
+                };
+            }
+            item
+        }
+        _ => item,
     }
 }
 

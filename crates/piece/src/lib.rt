@@ -1,12 +1,16 @@
 // Inner. A column's part of a row: its indicator, how many bytes it takes, its value with its place, and its text written into the unwritten rest
 // of the text buffer. It goes through no columns: the row calls do, for columns by value and for columns in words.
 mod items;
+pub mod marks;
 
 use cell::decode_column_value;
 use cell::extents::column_need;
 use cell::refers::refers;
 use items::item_len;
+use items::item_read;
 use items::item_write;
+use marks::WORDS;
+use marks::is_marked;
 use numbers::big_int;
 use numbers::double;
 use numbers::integer;
@@ -17,8 +21,8 @@ use types::Db2Type;
 use types::Db2Value;
 use types::ValuePlace;
 ghost use mathlib.Core.Path.{_≡_};
-ghost use mathlib.Core.Bool.{cond};
-ghost use Prim.Native.Nat.{_+_, _≤_};
+ghost use mathlib.Core.Bool.{true, cond};
+ghost use Prim.Native.Nat.{ℕ, _+_, _<_, _≤_};
 ghost use lib.ListN.{length};
 ghost use Rattle.refusal.specs.Refusal.{inputLimit};
 ghost use Rattle.types.specs.Places.{blankValue};
@@ -28,7 +32,8 @@ ghost use Rattle.rules.specs.Walk.{short, skipOf, columnNeed, cellShort};
 ghost use Rattle.rules.specs.Row.{pieceValue};
 ghost use Rattle.rules.specs.Conversions.{ported};
 ghost use Rattle.cell.specs.Inner.{mostNeed};
-ghost use Rattle.piece.specs.Piece.{isNull, Numbers, numberPlace, valueIn, valueText, pieceIn, pieceText};
+ghost use Rattle.piece.specs.Piece.{isNull, Numbers, numberPlace, valueIn, valueText, pieceIn, pieceText, PlainPiece};
+ghost use Rattle.piece.specs.Marks.{markAt};
 
 // The Rust's two numbers of a row that is too short.
 pub struct Lacking {
@@ -36,10 +41,11 @@ pub struct Lacking {
     pub actual: usize,
 }
 
-// How long a column's text is, and how many bytes of the row the column takes.
+// How long a column's text is, how many bytes of the row the column takes, and whether the text is the value's own bytes.
 pub struct PieceLength {
     pub used: usize,
     pub len: usize,
+    pub plain: bool,
 }
 
 // A column's value, how many bytes of the row the column takes, and how many bytes of text were written.
@@ -167,11 +173,17 @@ fn other_length(rest: &[u8], column: ColumnDescriptor) -> PieceLength
     requires limit { ⌜ length (now rest) ≤ inputLimit ⌝ }
     ensures used { λ r. ⌜ r .used ≡ need (extentOf column) (now (rest .entry)) ⌝ }
     ensures len { λ r. ⌜ r .len ≡ length (valueText column (now (rest .entry))) ⌝ }
+    ensures plain { λ r. ⌜ (r .plain ≡ true → PlainPiece (valueIn column 0 (now (rest .entry)))) ⌝ }
 {
     let used = column_need(rest, column);
     let item = decode_column_value(rest, column);
-    let len = item_len(item, &rest[..used]);
-    PieceLength { used, len }
+    let t = column.db2_type;
+    let l = item_len(item, &rest[..used], t);
+    PieceLength {
+        used,
+        len: l.len,
+        plain: l.plain,
+    }
 }
 
 // A column's text where a value is there, which begins with the first byte.
@@ -180,11 +192,16 @@ fn value_length(rest: &[u8], column: ColumnDescriptor) -> PieceLength
     requires limit { ⌜ length (now rest) ≤ inputLimit ⌝ }
     ensures used { λ r. ⌜ r .used ≡ need (extentOf column) (now (rest .entry)) ⌝ }
     ensures len { λ r. ⌜ r .len ≡ length (valueText column (now (rest .entry))) ⌝ }
+    ensures plain { λ r. ⌜ (r .plain ≡ true → PlainPiece (valueIn column 0 (now (rest .entry)))) ⌝ }
 {
     let t = column.db2_type;
     let n = number_bytes(t);
     if 0 < n {
-        return PieceLength { used: n, len: 0 };
+        return PieceLength {
+            used: n,
+            len: 0,
+            plain: false,
+        };
     }
     other_length(rest, column)
 }
@@ -195,14 +212,23 @@ pub fn piece_length(rest: &[u8], column: ColumnDescriptor) -> PieceLength
     requires limit { ⌜ length (now rest) ≤ inputLimit ⌝ }
     ensures used { λ r. ⌜ r .used ≡ columnNeed column (now (rest .entry)) ⌝ }
     ensures len { λ r. ⌜ r .len ≡ length (pieceText column (now (rest .entry))) ⌝ }
+    ensures plain { λ r. ⌜ ((at : ℕ) → r .plain ≡ true → PlainPiece (pieceIn column at (now (rest .entry)))) ⌝ }
 {
     if is_null(rest, column.nullable) {
-        return PieceLength { used: 1, len: 0 };
+        return PieceLength {
+            used: 1,
+            len: 0,
+            plain: false,
+        };
     }
     let from = lead(column.nullable);
     let v = value_length(&rest[from..], column);
     let used = from + v.used;
-    PieceLength { used, len: v.len }
+    PieceLength {
+        used,
+        len: v.len,
+        plain: v.plain,
+    }
 }
 
 // A number: it has no text, and refers to nothing.
@@ -224,20 +250,26 @@ fn other_write(
     rest: &[u8],
     at: usize,
     column: ColumnDescriptor,
+    marks: &[u64; WORDS],
+    k: usize,
     next: usize,
     out: &mut [u8],
 ) -> PieceWritten
     requires there { ⌜ need (extentOf column) (now rest) ≤ length (now rest) ⌝ }
     requires limit { ⌜ at + length (now rest) ≤ inputLimit ⌝ }
     requires room { ⌜ length (valueText column (now rest)) ≤ length (now out) ⌝ }
+    requires plain { ⌜ (k < 768) × (markAt (now marks) k ≡ true → PlainPiece (valueIn column at (now rest))) ⌝ }
     ensures place { λ r. ⌜ r .place ≡ pieceValue ported (valueIn column at (now (rest .entry))) next ⌝ }
     ensures used { λ r. ⌜ r .used ≡ need (extentOf column) (now (rest .entry)) ⌝ }
     ensures count { λ r. ⌜ r .written ≡ length (valueText column (now (rest .entry))) ⌝ }
     ensures bytes { λ _. ⌜ now (out .exit) ≡ written (valueText column (now (rest .entry))) (now (out .entry)) ⌝ }
 {
     let used = column_need(rest, column);
-    let item = decode_column_value(rest, column);
+    let found = decode_column_value(rest, column);
     let external = refers(&rest[..used], column);
+    let t = column.db2_type;
+    let plain = is_marked(marks, k);
+    let item = item_read(found, plain, t, used);
     let w = item_write(item, &rest[..used], at, next, out);
     let value = w.value;
     PieceWritten {
@@ -247,17 +279,21 @@ fn other_write(
     }
 }
 
-// A column's value where it is there, which begins with the first byte, at place `at` of the input.
+// A column's value where it is there, which begins with the first byte, at place `at` of the input. The mark of column k says that its text is
+// the value's own bytes, as measuring found.
 pub fn value_write(
     rest: &[u8],
     at: usize,
     column: ColumnDescriptor,
+    marks: &[u64; WORDS],
+    k: usize,
     next: usize,
     out: &mut [u8],
 ) -> PieceWritten
     requires there { ⌜ need (extentOf column) (now rest) ≤ length (now rest) ⌝ }
     requires limit { ⌜ at + length (now rest) ≤ inputLimit ⌝ }
     requires room { ⌜ length (valueText column (now rest)) ≤ length (now out) ⌝ }
+    requires plain { ⌜ (k < 768) × (markAt (now marks) k ≡ true → PlainPiece (valueIn column at (now rest))) ⌝ }
     ensures place { λ r. ⌜ r .place ≡ pieceValue ported (valueIn column at (now (rest .entry))) next ⌝ }
     ensures used { λ r. ⌜ r .used ≡ need (extentOf column) (now (rest .entry)) ⌝ }
     ensures count { λ r. ⌜ r .written ≡ length (valueText column (now (rest .entry))) ⌝ }
@@ -271,22 +307,25 @@ pub fn value_write(
         Db2Type::BigInt => number_piece(big_int(rest, order), 8),
         Db2Type::Real => number_piece(real(rest, order), 4),
         Db2Type::Double => number_piece(double(rest, order), 8),
-        _ => other_write(rest, at, column, next, out),
+        _ => other_write(rest, at, column, marks, k, next, out),
     }
 }
 
 // The column's value, where the rest of the row begins at place `at` of the input; its text is written into out, whose first byte is the next unwritten
-// one of the text buffer, at place `next` of it.
+// one of the text buffer, at place `next` of it. The marks are looked at only for a value that is no number.
 pub fn piece_write(
     rest: &[u8],
     at: usize,
     column: ColumnDescriptor,
+    marks: &[u64; WORDS],
+    k: usize,
     next: usize,
     out: &mut [u8],
 ) -> PieceWritten
     requires there { ⌜ columnNeed column (now rest) ≤ length (now rest) ⌝ }
     requires limit { ⌜ at + length (now rest) ≤ inputLimit ⌝ }
     requires room { ⌜ length (pieceText column (now rest)) ≤ length (now out) ⌝ }
+    requires plain { ⌜ (k < 768) × (markAt (now marks) k ≡ true → PlainPiece (pieceIn column at (now rest))) ⌝ }
     ensures place { λ r. ⌜ r .place ≡ pieceValue ported (pieceIn column at (now (rest .entry))) next ⌝ }
     ensures used { λ r. ⌜ r .used ≡ columnNeed column (now (rest .entry)) ⌝ }
     ensures count { λ r. ⌜ r .written ≡ length (pieceText column (now (rest .entry))) ⌝ }
@@ -296,7 +335,7 @@ pub fn piece_write(
         return null_piece();
     }
     let from = lead(column.nullable);
-    let v = value_write(&rest[from..], at + from, column, next, out);
+    let v = value_write(&rest[from..], at + from, column, marks, k, next, out);
     let place = v.place;
     let used = from + v.used;
     PieceWritten {

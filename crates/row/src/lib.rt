@@ -1,5 +1,8 @@
 // Face. decode_row: the values of a row, by its columns, with their texts in a lent buffer; and value_bytes, which shows a value's bytes. It reads no
 // description.
+use piece::marks::NONE;
+use piece::marks::WORDS;
+use piece::marks::mark;
 use piece::piece_length;
 use piece::piece_need;
 use piece::piece_write;
@@ -23,6 +26,7 @@ ghost use Rattle.rules.specs.Walk.{walkBody};
 ghost use Rattle.rules.specs.Row.{toldRow, covered, bodyDecision, answerOf, textAfter, refusedRow};
 ghost use Rattle.rules.specs.Conversions.{ported, rowAnswer, rowText};
 ghost use Rattle.rules.specs.Value.{bytesAt, valueBytes};
+ghost use Rattle.piece.specs.Marks.{PlainMarks};
 ghost use Rattle.piece.specs.Texts.{textsOf, neededBeyond};
 ghost use Rattle.row.specs.Whole.{Whole};
 
@@ -48,13 +52,22 @@ fn refused(r: Refusal) -> RowAnswer
 }
 
 // How long the texts of a row are together, where a text buffer of `room` bytes is too short for them; else 0. Every column has its bytes, the last of
-// them before place `end` of the input.
-fn text_needed(data: &[u8], start: usize, end: usize, columns: Columns, room: usize) -> usize
+// them before place `end` of the input. A column whose text is copied is marked.
+fn text_needed(
+    data: &[u8],
+    start: usize,
+    end: usize,
+    columns: Columns,
+    room: usize,
+    marks: &mut [u64; WORDS],
+) -> usize
     requires count { ⌜ columns .count ≤ maxColumns ⌝ }
     requires start { ⌜ start ≤ length (now «data») ⌝ }
     requires limit { ⌜ length (now «data») ≤ inputLimit ⌝ }
     requires whole { ⌜ Whole (walkBody (covered columns) start (now «data»)) end ⌝ }
-    ensures { λ r. ⌜ r ≡ neededBeyond room (textsOf (walkBody (covered columns) start (now («data» .entry)))) ⌝ }
+    requires marks { ⌜ PlainMarks (now marks) (walkBody (covered columns) start (now «data»)) ⌝ }
+    ensures needed { λ r. ⌜ r ≡ neededBeyond room (textsOf (walkBody (covered columns) start (now («data» .entry)))) ⌝ }
+    ensures marks { λ _. ⌜ PlainMarks (now (marks .exit)) (walkBody (covered columns) start (now («data» .entry))) ⌝ }
 {
     let count = columns.count;
     let mut at = start;
@@ -63,6 +76,7 @@ fn text_needed(data: &[u8], start: usize, end: usize, columns: Columns, room: us
     while i < count {
         let column = columns.columns[i];
         let p = piece_length(&data[at..], column);
+        mark(marks, i, p.plain);
         at += p.used;
         total += p.len;
         i += 1;
@@ -102,8 +116,9 @@ fn decode_row_body(data: &[u8], start: usize, columns: Columns, text: &mut [u8])
     }
     // no column of n bytes has a text longer than 3 n + 258
     let room = text.len();
+    let mut marks: [u64; WORDS] = [NONE; WORDS];
     if room < 3 * (end - start) + 258 * count {
-        let needed = text_needed(data, start, end, columns, room);
+        let needed = text_needed(data, start, end, columns, room, &mut marks);
         if 0 < needed {
             return refused(Refusal::TextBufferTooShort { needed });
         }
@@ -115,7 +130,7 @@ fn decode_row_body(data: &[u8], start: usize, columns: Columns, text: &mut [u8])
     let mut k: usize = 0;
     while k < count {
         let column = columns.columns[k];
-        let p = piece_write(&data[at..], at, column, next, &mut text[next..]);
+        let p = piece_write(&data[at..], at, column, &marks, k, next, &mut text[next..]);
         let place = p.place;
         places[k] = place;
         at += p.used;

@@ -4,6 +4,9 @@ mod needs;
 mod puts;
 
 use needs::need_named;
+use piece::marks::NONE;
+use piece::marks::WORDS;
+use piece::marks::mark;
 use piece::piece_length;
 use piece::shortage;
 use piece::skip_of;
@@ -27,6 +30,7 @@ ghost use Rattle.rules.specs.Conversions.{ported};
 ghost use Rattle.words.specs.Reading.{readColumns};
 ghost use Rattle.row_words.specs.Rows.{valuesAfter};
 ghost use Rattle.row_words.specs.Passes.{checkedOf, columnsNamed, outline, Says};
+ghost use Rattle.piece.specs.Marks.{PlainMarks};
 ghost use Rattle.piece.specs.Texts.{textsOf, neededBeyond};
 
 // What the columns' words say before the row is looked at: how many columns are of type DecFloat, or that some words are no column's.
@@ -115,13 +119,22 @@ fn walk_columns(columns: &[u64], data: &[u8], start: usize) -> Walked
 }
 
 // How long the texts of a row are together, where a text buffer of `room` bytes is too short for them; else 0. Every column has its bytes, the
-// last of them before place `end` of the input.
-fn text_needed(columns: &[u64], data: &[u8], start: usize, end: usize, room: usize) -> usize
+// last of them before place `end` of the input. Where the texts are measured, a column is marked whose text is copied.
+fn text_needed(
+    columns: &[u64],
+    data: &[u8],
+    start: usize,
+    end: usize,
+    room: usize,
+    marks: &mut [u64; WORDS],
+) -> usize
     requires count { ⌜ length (now columns) / 2 ≤ maxColumns ⌝ }
     requires start { ⌜ start ≤ length (now «data») ⌝ }
     requires limit { ⌜ length (now «data») ≤ inputLimit ⌝ }
     requires whole { ⌜ Walked.Done end ≡ outline (walkBody (columnsNamed (now columns)) start (now «data»)) ⌝ }
-    ensures { λ r. ⌜ r ≡ neededBeyond room (textsOf (walkBody (columnsNamed (now (columns .entry))) start (now («data» .entry)))) ⌝ }
+    requires marks { ⌜ PlainMarks (now marks) (walkBody (columnsNamed (now columns)) start (now «data»)) ⌝ }
+    ensures needed { λ r. ⌜ r ≡ neededBeyond room (textsOf (walkBody (columnsNamed (now (columns .entry))) start (now («data» .entry)))) ⌝ }
+    ensures marks { λ _. ⌜ PlainMarks (now (marks .exit)) (walkBody (columnsNamed (now (columns .entry))) start (now («data» .entry))) ⌝ }
 {
     let count = columns.len() / 2;
     // no text of n bytes is longer than 3 n + 258
@@ -135,6 +148,7 @@ fn text_needed(columns: &[u64], data: &[u8], start: usize, end: usize, room: usi
         let k = 2 * i;
         let column = column_named(columns[k], columns[k + 1]);
         let p = piece_length(&data[at..], column);
+        mark(marks, i, p.plain);
         at += p.used;
         total += p.len;
         i += 1;
@@ -151,6 +165,7 @@ fn write_columns(
     data: &[u8],
     start: usize,
     end: usize,
+    marks: &[u64; WORDS],
     values: &mut [u64],
     text: &mut [u8],
 ) -> usize
@@ -159,6 +174,8 @@ fn write_columns(
     requires whole { ⌜ Walked.Done end ≡ outline (walkBody (columnsNamed (now columns)) start (now «data»)) ⌝ }
     requires words { ⌜ 3 * (length (now columns) / 2) ≤ length (now values) ⌝ }
     requires room { ⌜ length (textsOf (walkBody (columnsNamed (now columns)) start (now «data»))) ≤ length (now text) ⌝ }
+    requires count { ⌜ length (now columns) / 2 ≤ maxColumns ⌝ }
+    requires marks { ⌜ PlainMarks (now marks) (walkBody (columnsNamed (now columns)) start (now «data»)) ⌝ }
     ensures count { λ r. ⌜ r ≡ length (textsOf (walkBody (columnsNamed (now (columns .entry))) start (now («data» .entry)))) ⌝ }
     ensures values { λ _. ⌜ now (values .exit) ≡ valuesAfter (bodyDecision ported (columnsNamed (now (columns .entry))) start (now («data» .entry)) (now (text .entry))) (now (values .entry)) ⌝ }
     ensures text { λ _. ⌜ now (text .exit) ≡ textAfter ported (bodyDecision ported (columnsNamed (now (columns .entry))) start (now («data» .entry)) (now (text .entry))) (now (text .entry)) ⌝ }
@@ -174,6 +191,8 @@ fn write_columns(
             at,
             columns[k],
             columns[k + 1],
+            marks,
+            i,
             next,
             &mut text[next..],
             values,
@@ -199,11 +218,12 @@ pub fn decode_row(columns: &[u64], data: &[u8], values: &mut [u64], text: &mut [
     match walk_columns(columns, data, start) {
         Walked::Short { expected, actual } => RowOutcome::TooShort { expected, actual },
         Walked::Done { end } => {
-            let needed = text_needed(columns, data, start, end, text.len());
+            let mut marks: [u64; WORDS] = [NONE; WORDS];
+            let needed = text_needed(columns, data, start, end, text.len(), &mut marks);
             if 0 < needed {
                 return RowOutcome::TextTooShort { needed };
             }
-            let written = write_columns(columns, data, start, end, values, text);
+            let written = write_columns(columns, data, start, end, &marks, values, text);
             RowOutcome::Accepted { used: end, written }
         }
     }

@@ -9,6 +9,7 @@ use crate::needs::is_nullable;
 use crate::needs::number_bytes;
 use crate::needs::number_width;
 use crate::needs::timestamp_bytes;
+use conversion::Conversion;
 use conversion::character_conversion;
 use conversion::text_write;
 use numbers::big_int;
@@ -19,22 +20,26 @@ use numbers::small_int;
 use packed::decimal_write;
 use piece::is_null;
 use piece::lead;
+use piece::marks::WORDS;
+use piece::marks::is_marked;
 use piece::value_write;
 use types::Db2Value;
 use types::ValuePlace;
 use words::column_named;
 use words::value_words;
 ghost use mathlib.Core.Path.{_≡_};
-ghost use mathlib.Core.Bool.{false};
-ghost use Prim.Native.Nat.{ℕ, _+_, _%_, _<_, _≤_, _^_};
-ghost use lib.ListN.{length};
+ghost use mathlib.Core.Bool.{true, false};
+ghost use Prim.Native.Nat.{ℕ, _+_, _/_, _%_, _<_, _≤_, _^_};
+ghost use lib.ListN.{length, take, drop};
 ghost use Rattle.refusal.specs.Refusal.{inputLimit};
 ghost use Rattle.buffer.specs.Buffer.{written};
 ghost use Rattle.rules.specs.Extent.{need, extentOf};
 ghost use Rattle.rules.specs.Walk.{columnNeed};
 ghost use Rattle.rules.specs.Row.{pieceValue};
 ghost use Rattle.rules.specs.Conversions.{ported};
-ghost use Rattle.piece.specs.Piece.{valueIn, valueText, pieceIn, pieceText};
+ghost use Rattle.conversion.specs.Conversion.{textIn, characterText};
+ghost use Rattle.piece.specs.Marks.{markAt};
+ghost use Rattle.piece.specs.Piece.{valueIn, valueText, pieceIn, pieceText, PlainPiece};
 ghost use Rattle.words.specs.Reading.{columnNamed};
 ghost use Rattle.row_words.specs.Passes.{numberBytes, wordsSet, threeSet, charactersIn};
 
@@ -106,13 +111,27 @@ fn put_number(rest: &[u8], first: u64, second: u64, values: &mut [u64], place: u
     number_bytes(first)
 }
 
-// Writes the text of a value of `used` bytes, which stands in them from byte `from` on, with `kind` as its first word.
+// The conversion of the bytes of a text, by the CCSID in the column's second word, unless the mark of column k says that they are the text.
+fn conversion_of(marks: &[u64; WORDS], k: usize, second: u64, bytes: &[u8]) -> Conversion
+    requires { ⌜ (k < 768) × (markAt (now marks) k ≡ true → characterText (second / 2 ^ 32 % 2 ^ 16) (now bytes) ≡ now bytes) ⌝ }
+    ensures { λ r. ⌜ textIn r (now (bytes .entry)) ≡ characterText (second / 2 ^ 32 % 2 ^ 16) (now (bytes .entry)) ⌝ }
+{
+    if is_marked(marks, k) {
+        return Conversion::Plain;
+    }
+    character_conversion((second / 0x1_0000_0000 % 0x1_0000) as u16, bytes)
+}
+
+// Writes the text of a value of `used` bytes, which stands in them from byte `from` on, with `kind` as its first word. The mark of column k
+// says that the text is these bytes.
 fn put_characters(
     rest: &[u8],
     from: usize,
     used: usize,
     kind: u64,
     second: u64,
+    marks: &[u64; WORDS],
+    k: usize,
     next: usize,
     out: &mut [u8],
     values: &mut [u64],
@@ -122,13 +141,14 @@ fn put_characters(
     requires there { ⌜ used ≤ length (now rest) ⌝ }
     requires room { ⌜ length (charactersIn second from used (now rest)) ≤ length (now out) ⌝ }
     requires words { ⌜ place + 2 < length (now values) ⌝ }
+    requires plain { ⌜ (k < 768) × (markAt (now marks) k ≡ true → charactersIn second from used (now rest) ≡ drop from (take used (now rest))) ⌝ }
     ensures used { λ r. ⌜ r .used ≡ used ⌝ }
     ensures count { λ r. ⌜ r .written ≡ length (charactersIn second from used (now (rest .entry))) ⌝ }
     ensures bytes { λ _. ⌜ now (out .exit) ≡ written (charactersIn second from used (now (rest .entry))) (now (out .entry)) ⌝ }
     ensures values { λ _. ⌜ now (values .exit) ≡ wordsSet (now (values .entry)) place kind next (length (charactersIn second from used (now (rest .entry)))) ⌝ }
 {
     let bytes = &rest[from..used];
-    let conversion = character_conversion((second / 0x1_0000_0000 % 0x1_0000) as u16, bytes);
+    let conversion = conversion_of(marks, k, second, bytes);
     let n = text_write(conversion, bytes, out);
     put_words(values, place, kind, next as u64, n as u64);
     Taken { used, written: n }
@@ -164,6 +184,8 @@ fn put_other(
     at: usize,
     first: u64,
     second: u64,
+    marks: &[u64; WORDS],
+    k: usize,
     next: usize,
     out: &mut [u8],
     values: &mut [u64],
@@ -173,13 +195,14 @@ fn put_other(
     requires limit { ⌜ at + length (now rest) ≤ inputLimit ⌝ }
     requires room { ⌜ length (valueText (columnNamed first second) (now rest)) ≤ length (now out) ⌝ }
     requires words { ⌜ place + 2 < length (now values) ⌝ }
+    requires plain { ⌜ (k < 768) × (markAt (now marks) k ≡ true → PlainPiece (valueIn (columnNamed first second) at (now rest))) ⌝ }
     ensures used { λ r. ⌜ r .used ≡ need (extentOf (columnNamed first second)) (now (rest .entry)) ⌝ }
     ensures count { λ r. ⌜ r .written ≡ length (valueText (columnNamed first second) (now (rest .entry))) ⌝ }
     ensures bytes { λ _. ⌜ now (out .exit) ≡ written (valueText (columnNamed first second) (now (rest .entry))) (now (out .entry)) ⌝ }
     ensures values { λ _. ⌜ now (values .exit) ≡ threeSet (now (values .entry)) place (pieceValue ported (valueIn (columnNamed first second) at (now (rest .entry))) next) ⌝ }
 {
     let column = column_named(first, second);
-    let p = value_write(rest, at, column, next, out);
+    let p = value_write(rest, at, column, marks, k, next, out);
     put_value(values, place, p.place);
     Taken {
         used: p.used,
@@ -192,6 +215,8 @@ fn put_varchar(
     at: usize,
     first: u64,
     second: u64,
+    marks: &[u64; WORDS],
+    k: usize,
     next: usize,
     out: &mut [u8],
     values: &mut [u64],
@@ -202,16 +227,29 @@ fn put_varchar(
     requires limit { ⌜ at + length (now rest) ≤ inputLimit ⌝ }
     requires room { ⌜ length (valueText (columnNamed first second) (now rest)) ≤ length (now out) ⌝ }
     requires words { ⌜ place + 2 < length (now values) ⌝ }
+    requires plain { ⌜ (k < 768) × (markAt (now marks) k ≡ true → PlainPiece (valueIn (columnNamed first second) at (now rest))) ⌝ }
     ensures used { λ r. ⌜ r .used ≡ need (extentOf (columnNamed first second)) (now (rest .entry)) ⌝ }
     ensures count { λ r. ⌜ r .written ≡ length (valueText (columnNamed first second) (now (rest .entry))) ⌝ }
     ensures bytes { λ _. ⌜ now (out .exit) ≡ written (valueText (columnNamed first second) (now (rest .entry))) (now (out .entry)) ⌝ }
     ensures values { λ _. ⌜ now (values .exit) ≡ threeSet (now (values .entry)) place (pieceValue ported (valueIn (columnNamed first second) at (now (rest .entry))) next) ⌝ }
 {
     if is_header(first) {
-        return put_other(rest, at, first, second, next, out, values, place);
+        return put_other(rest, at, first, second, marks, k, next, out, values, place);
     }
     let used = counted_bytes(rest, first);
-    put_characters(rest, 2, used, VAR_CHAR, second, next, out, values, place)
+    put_characters(
+        rest,
+        2,
+        used,
+        VAR_CHAR,
+        second,
+        marks,
+        k,
+        next,
+        out,
+        values,
+        place,
+    )
 }
 
 // Writes a value that is there, whose first byte is at place `at` of the input. The types are those of needs::value_need.
@@ -220,6 +258,8 @@ fn put_there(
     at: usize,
     first: u64,
     second: u64,
+    marks: &[u64; WORDS],
+    k: usize,
     next: usize,
     out: &mut [u8],
     values: &mut [u64],
@@ -229,6 +269,7 @@ fn put_there(
     requires limit { ⌜ at + length (now rest) ≤ inputLimit ⌝ }
     requires room { ⌜ length (valueText (columnNamed first second) (now rest)) ≤ length (now out) ⌝ }
     requires words { ⌜ place + 2 < length (now values) ⌝ }
+    requires plain { ⌜ (k < 768) × (markAt (now marks) k ≡ true → PlainPiece (valueIn (columnNamed first second) at (now rest))) ⌝ }
     ensures used { λ r. ⌜ r .used ≡ need (extentOf (columnNamed first second)) (now (rest .entry)) ⌝ }
     ensures count { λ r. ⌜ r .written ≡ length (valueText (columnNamed first second) (now (rest .entry))) ⌝ }
     ensures bytes { λ _. ⌜ now (out .exit) ≡ written (valueText (columnNamed first second) (now (rest .entry))) (now (out .entry)) ⌝ }
@@ -246,36 +287,55 @@ fn put_there(
             char_bytes(first),
             CHAR,
             second,
+            marks,
+            k,
             next,
             out,
             values,
             place,
         ),
-        8 => put_varchar(rest, at, first, second, next, out, values, place),
-        15 => put_characters(rest, 0, 10, DATE, second, next, out, values, place),
-        16 => put_characters(rest, 0, 8, TIME, second, next, out, values, place),
+        8 => put_varchar(rest, at, first, second, marks, k, next, out, values, place),
+        15 => put_characters(
+            rest,
+            0,
+            10,
+            DATE,
+            second,
+            marks,
+            k,
+            next,
+            out,
+            values,
+            place,
+        ),
+        16 => put_characters(rest, 0, 8, TIME, second, marks, k, next, out, values, place),
         17 => put_characters(
             rest,
             0,
             timestamp_bytes(second),
             TIMESTAMP,
             second,
+            marks,
+            k,
             next,
             out,
             values,
             place,
         ),
-        _ => put_other(rest, at, first, second, next, out, values, place),
+        _ => put_other(rest, at, first, second, marks, k, next, out, values, place),
     }
 }
 
 // Writes a column's value into its three words and its text into out, as piece_write does. The rest of the row begins at place `at` of the input;
-// out's first byte is at place `next` of the text buffer.
+// out's first byte is at place `next` of the text buffer. The mark of column k says that the text is the value's own bytes, as measuring
+// found; it is looked at only for texts.
 pub fn put_column(
     rest: &[u8],
     at: usize,
     first: u64,
     second: u64,
+    marks: &[u64; WORDS],
+    k: usize,
     next: usize,
     out: &mut [u8],
     values: &mut [u64],
@@ -285,6 +345,7 @@ pub fn put_column(
     requires limit { ⌜ at + length (now rest) ≤ inputLimit ⌝ }
     requires room { ⌜ length (pieceText (columnNamed first second) (now rest)) ≤ length (now out) ⌝ }
     requires words { ⌜ place + 2 < length (now values) ⌝ }
+    requires plain { ⌜ (k < 768) × (markAt (now marks) k ≡ true → PlainPiece (pieceIn (columnNamed first second) at (now rest))) ⌝ }
     ensures used { λ r. ⌜ r .used ≡ columnNeed (columnNamed first second) (now (rest .entry)) ⌝ }
     ensures count { λ r. ⌜ r .written ≡ length (pieceText (columnNamed first second) (now (rest .entry))) ⌝ }
     ensures bytes { λ _. ⌜ now (out .exit) ≡ written (pieceText (columnNamed first second) (now (rest .entry))) (now (out .entry)) ⌝ }
@@ -312,6 +373,8 @@ pub fn put_column(
         at + from,
         first,
         second,
+        marks,
+        k,
         next,
         out,
         values,

@@ -5,18 +5,22 @@ use buffer::refused;
 use conversion::Conversion;
 use conversion::character_conversion;
 use conversion::graphic_conversion;
+use conversion::guess_write;
+use conversion::is_guessed;
 use conversion::text_measure;
 use conversion::text_write;
 use refusal::INPUT_LIMIT;
 use refusal::Outcome;
 use refusal::Refusal;
 ghost use mathlib.Core.Path.{_≡_};
-ghost use Prim.Native.Nat.{_≤_};
+ghost use mathlib.Core.Bool.{true};
+ghost use Prim.Native.Nat.{_+_, _*_, _≤_};
 ghost use lib.ListN.{length};
 ghost use Rattle.refusal.specs.Refusal.{inputLimit};
 ghost use Rattle.buffer.specs.Buffer.{toldText, textAnswer, textBuffer};
 ghost use Rattle.unicode.specs.Likely.{likelyText};
 ghost use Rattle.conversion.specs.Conversion.{textIn, characterText, graphicText, locatorText, rowIdText};
+ghost use Rattle.conversion.specs.Guess.{guessText, Guessed};
 ghost use Rattle.text.specs.Text.{conversionAnswer, conversionBuffer};
 
 // The text of s at the beginning of a buffer. A buffer that holds any text of so many bytes is written without measuring.
@@ -45,13 +49,68 @@ fn convert(conversion: Conversion, s: &[u8], text: &mut [u8]) -> TextAnswer
     }
 }
 
+// The conversion is guessed, and any text of n bytes fits: it may be written before it is known.
+fn is_roomy_guess(n: usize, ccsid: u16, room: usize) -> bool
+    requires { ⌜ n ≤ inputLimit ⌝ }
+    ensures { λ r. ⌜ (r ≡ true → (3 * n + 14 ≤ room) × Guessed ccsid) ⌝ }
+{
+    if room < 3 * n + 14 {
+        return false;
+    }
+    is_guessed(ccsid)
+}
+
+// The text of s, whose conversion is guessed, at the beginning of such a buffer.
+fn convert_guess(s: &[u8], text: &mut [u8]) -> TextAnswer
+    requires { ⌜ 3 * length (now s) + 14 ≤ length (now text) ⌝ }
+    ensures answer { λ r. ⌜ toldText r ≡ textAnswer (guessText (now (s .entry))) (now (text .entry)) ⌝ }
+    ensures buffer { λ _. ⌜ now (text .exit) ≡ textBuffer (guessText (now (s .entry))) (now (text .entry)) ⌝ }
+{
+    let count = guess_write(s, text);
+    TextAnswer {
+        outcome: Outcome::Accepted,
+        written: count,
+    }
+}
+
+// Up to so many bytes a text is spared the tests that a longer one has.
+const SHORT: usize = 1024;
+
+// The text of a long character value, by its CCSID.
+fn long_characters(s: &[u8], ccsid: u16, text: &mut [u8]) -> TextAnswer
+    ensures answer { λ r. ⌜ toldText r ≡ conversionAnswer (now (s .entry)) (characterText ccsid (now (s .entry))) (now (text .entry)) ⌝ }
+    ensures buffer { λ _. ⌜ now (text .exit) ≡ conversionBuffer (now (s .entry)) (characterText ccsid (now (s .entry))) (now (text .entry)) ⌝ }
+{
+    if s.len() > INPUT_LIMIT {
+        return refused(Refusal::InputTooLong);
+    }
+    if is_roomy_guess(s.len(), ccsid, text.len()) {
+        return convert_guess(s, text);
+    }
+    convert(character_conversion(ccsid, s), s, text)
+}
+
+// The same for a graphic value.
+fn long_graphics(s: &[u8], ccsid: u16, text: &mut [u8]) -> TextAnswer
+    ensures answer { λ r. ⌜ toldText r ≡ conversionAnswer (now (s .entry)) (graphicText ccsid (now (s .entry))) (now (text .entry)) ⌝ }
+    ensures buffer { λ _. ⌜ now (text .exit) ≡ conversionBuffer (now (s .entry)) (graphicText ccsid (now (s .entry))) (now (text .entry)) ⌝ }
+{
+    if s.len() > INPUT_LIMIT {
+        return refused(Refusal::InputTooLong);
+    }
+    if is_roomy_guess(s.len(), ccsid, text.len()) {
+        return convert_guess(s, text);
+    }
+    convert(graphic_conversion(ccsid, s), s, text)
+}
+
 // The text of a character value, by its CCSID.
 pub fn decode_character_bytes(data: &[u8], ccsid: u16, text: &mut [u8]) -> TextAnswer
     ensures answer { λ r. ⌜ toldText r ≡ conversionAnswer (now («data» .entry)) (characterText ccsid (now («data» .entry))) (now (text .entry)) ⌝ }
     ensures buffer { λ _. ⌜ now (text .exit) ≡ conversionBuffer (now («data» .entry)) (characterText ccsid (now («data» .entry))) (now (text .entry)) ⌝ }
 {
-    if data.len() > INPUT_LIMIT {
-        return refused(Refusal::InputTooLong);
+    if data.len() > SHORT {
+        return long_characters(data, ccsid, text);
     }
     convert(character_conversion(ccsid, data), data, text)
 }
@@ -61,8 +120,8 @@ pub fn decode_graphic_bytes(data: &[u8], ccsid: u16, text: &mut [u8]) -> TextAns
     ensures answer { λ r. ⌜ toldText r ≡ conversionAnswer (now («data» .entry)) (graphicText ccsid (now («data» .entry))) (now (text .entry)) ⌝ }
     ensures buffer { λ _. ⌜ now (text .exit) ≡ conversionBuffer (now («data» .entry)) (graphicText ccsid (now («data» .entry))) (now (text .entry)) ⌝ }
 {
-    if data.len() > INPUT_LIMIT {
-        return refused(Refusal::InputTooLong);
+    if data.len() > SHORT {
+        return long_graphics(data, ccsid, text);
     }
     convert(graphic_conversion(ccsid, data), data, text)
 }

@@ -1,17 +1,19 @@
 -- Runs of ASCII. Assumes nothing.
 use Prim.Native.Nat.{ℕ, zero, suc, _+_, _-_, _≤_, _<_}
-use mathlib.Core.Bool.{Bool, true, false, cond, not}
+use mathlib.Core.Bool.{Bool, true, false, cond, not, _&&_, _||_}
 use mathlib.Core.List.{List, [], _∷_, _++_}
 use mathlib.Core.Path.{_≡_, refl, sym, ap, subst, _∙_}
 use native.Mathlib.Omega.{arith}
 use native.Mathlib.Numerals.{add-one}
-use borrow.Author.Tests.{ltb-true, ltb-false, lt-ltb, le-ltb, le-leb, lt-leb, not-true, not-false}
+use borrow.Author.Tests.{ltb-true, ltb-false, lt-ltb, le-ltb, le-leb, lt-leb, leb-false, not-true, not-false}
 use lib.Bits.{bitOr, or-add-and, and-le-l, and-le-r}
 use lib.Dec.{T, ltb, leb}
 use lib.ListN.{length, take, drop, getD, length-drop}
 use lib.Seq.{take-suc, take-add, take-all}
 use Rattle.unicode.specs.Ascii.{allAscii}
+use Rattle.unicode.proofs.Ranges.{never}
 use Rattle.utf.specs.Ascii.{AsciiRun}
+use Rattle.utf.specs.Utf16Code.{bitOf}
 
 -- ---- a whole list, read from its first byte on, with the largest byte so far
 
@@ -97,6 +99,32 @@ run-byte i s r h k = record {
   fits = omega arith;
   ascii = rw (add-one i, take-suc s i 0 h) (ascii-append (take i s) (getD s i 0 ∷ []) (r .ascii) (rw (lt-ltb (getD s i 0) 0x80 k)));
 }
+
+-- a byte more, where none is 7F or above
+pub run-unless : (s : List ℕ) (i : ℕ) (high : Bool) → (high ≡ false → AsciiRun i s) → i < length s → (leb 0x7F (getD s i 0) || high) ≡ false → AsciiRun (i + 1) s
+run-unless s i high f h e = go (leb 0x7F (getD s i 0)) refl e
+  where
+    go : (t : Bool) → leb 0x7F (getD s i 0) ≡ t → (t || high) ≡ false → AsciiRun (i + 1) s
+    go true q z = never (sym z)
+    go false q z = run-byte i s (f z) h (omega (arith, leb-false 0x7F (getD s i 0) q))
+
+-- n bytes of the first i are a run, and all of them where all are ASCII
+pub record Leading (s : List ℕ) (all : Bool) (n i : ℕ) : Type 0 where
+  pub run : AsciiRun n s
+  pub so-far : all ≡ true → n ≡ i
+  pub most : n ≤ i
+
+-- a byte more
+pub leading-more : (s : List ℕ) (all : Bool) (n i : ℕ) → Leading s all n i → i < length s → (m : ℕ) → m ≡ bitOf (all && ltb (getD s i 0) 0x80) → Leading s (all && ltb (getD s i 0) 0x80) (n + m) (i + 1)
+leading-more s all n i l h m q = go all (ltb (getD s i 0) 0x80) refl refl q
+  where
+    go : (x y : Bool) → all ≡ x → ltb (getD s i 0) 0x80 ≡ y → m ≡ bitOf (x && y) → Leading s (x && y) (n + m) (i + 1)
+    go true true e f z =
+        let k : n ≡ i = l .so-far e in
+        let o : n + m ≡ n + 1 = omega arith in
+        rw o (record { run = run-byte n s (l .run) (omega arith) (rw k (ltb-true (getD s i 0) 0x80 f)); so-far = λ w. omega arith; most = omega arith })
+    go true false e f z = let o : n + m ≡ n = omega arith in rw o (record { run = l .run; so-far = λ w. never w; most = omega (arith, l .most) })
+    go false y e f z = let o : n + m ≡ n = omega arith in rw o (record { run = l .run; so-far = λ w. never w; most = omega (arith, l .most) })
 
 -- the first byte of a run, and the run after it
 pub run-first : (b : ℕ) (bs : List ℕ) (n : ℕ) → AsciiRun (suc n) (b ∷ bs) → (b < 0x80) × AsciiRun n bs

@@ -4,3 +4,9 @@ pub mod Utf8Laws
 pub mod Utf8Runs
 pub mod Bound
 pub mod LikelyLaws
+pub mod Utf8BlockLaws
+pub mod Utf16BlockLaws
+pub mod LossyLengths
+pub mod LossyWriting
+pub mod LikelyBlockLaws
+pub mod Utf16LaneLaws

@@ -110,7 +110,7 @@ module _ (s : List ℕ) (i : ℕ) (h : i + 1 < length s) where
 
 -- ---- how many bytes of the text a unit stands for, where a high surrogate before a low one has one, and the low one three, as if it were alone
 
-abbrev UnitLength : List ℕ → ℕ → ℕ → Type 0
+abbrev pub UnitLength : List ℕ → ℕ → ℕ → Type 0
 UnitLength s i n = length (utf16Text (drop i s)) ≡ n + length (utf16Text (drop (i + 2) s))
 
 by-value : (s : List ℕ) (i v n : ℕ) → Utf16Next s i v 2 → length (utf8 v) ≡ n → UnitLength s i n

@@ -29,7 +29,7 @@ Between [] k b = Unit {0}
 Between (r ∷ rs) zero b = (b < r .first .low) × Between rs zero b
 Between (r ∷ rs) (suc k) b = (r .first .high < b) × Between rs k b
 
-abbrev dummy : Row
+abbrev pub dummy : Row
 dummy = row (range 0 0) 0 []
 
 cond-same : (t : Bool) → cond t false false ≡ false

@@ -18,7 +18,7 @@ use Rattle.utf.specs.Ascii.{AsciiRun}
 use Rattle.utf.proofs.AsciiLaws.{run-first, rest}
 use Rattle.utf.proofs.Utf8Laws.{step-ascii}
 use Rattle.buffer.specs.Buffer.{written}
-use Rattle.buffer.proofs.Writing.{Writing, wrote-first, wrote-rest, fits-rest, next}
+use Rattle.buffer.proofs.Writing.{Writing, next}
 use Rattle.unicode.proofs.Reading.{read-cons, text-append, replaced-append}
 use Rattle.unicode.proofs.Utf8Bytes.{first-text}
 
@@ -102,10 +102,6 @@ pub good-text : (n : ℕ) (l : List ℕ) → Good n l → utf8Text l ≡ take n 
 unfolding utf8Text
 good-text n l g = rw (g .split) (text-append (g .ps) (utf8Pieces (drop n l)) ∙ rw (g .text))
 
--- the text at i, where the next n bytes are a run
-pub run-text : (s : List ℕ) (i n : ℕ) → Good n (drop i s) → utf8Text (drop i s) ≡ take n (drop i s) ++ utf8Text (drop (i + n) s)
-run-text s i n g = good-text n (drop i s) g ∙ rw (drop-drop n i s)
-
 -- the text of the piece at i, and of what follows it
 module _ (s : List ℕ) (i n : ℕ) (ok : Bool) (h : i < length s) (p : PieceAt s i n ok) where
   pub piece-text : utf8Text (drop i s) ≡ pieceText (firstAt s i .piece) ++ utf8Text (drop (i + n) s)
@@ -146,8 +142,8 @@ module _ (s : List ℕ) (i n : ℕ) where
   broken-length p = ap length (broken-text p)
 
 -- lengths
-pub run-length : (s : List ℕ) (i n : ℕ) → Good n (drop i s) → length (utf8Text (drop i s)) ≡ n + length (utf8Text (drop (i + n) s))
-run-length s i n g = ap length (run-text s i n g) ∙ length-append (take n (drop i s)) _ ∙ rw (length-take-le n (drop i s) (g .fits))
+pub good-length : (n : ℕ) (l : List ℕ) → Good n l → length (utf8Text l) ≡ n + length (utf8Text (drop n l))
+good-length n l g = ap length (good-text n l g) ∙ length-append (take n l) _ ∙ rw (length-take-le n l (g .fits))
 
 module _ (s : List ℕ) (i n : ℕ) (h : i < length s) where
   pub whole-next : PieceAt s i n true → length (utf8Text (drop i s)) ≡ n + length (utf8Text (drop (i + n) s))
@@ -167,13 +163,18 @@ ascii-one b bs h =
     let a = step-ascii (b ∷ bs) 0 h in
     good-at (b ∷ bs) 0 1 (omega arith) (a .0) (sym (a .1))
 
+-- an ASCII character, and a run after it
+pub good-first : (b : ℕ) (bs : List ℕ) (n : ℕ) → b < 0x80 → Good n bs → Good (suc n) (b ∷ bs)
+good-first b bs n h g =
+    let e : 1 + n ≡ suc n = omega arith in
+    subst (λ (m : ℕ). Good m (b ∷ bs)) e (good-more 1 n (b ∷ bs) (ascii-one b bs h) g)
+
 pub ascii-good : (n : ℕ) (l : List ℕ) → AsciiRun n l → Good n l
 ascii-good zero l r = good-none l
 ascii-good (suc n) [] r = let z : ⊥ = omega (arith, r .fits) in absurd z
 ascii-good (suc n) (b ∷ bs) r =
     let k = run-first b bs n r in
-    let e : 1 + n ≡ suc n = omega arith in
-    subst (λ (m : ℕ). Good m (b ∷ bs)) e (good-more 1 n (b ∷ bs) (ascii-one b bs (k .0)) (ascii-good n bs (k .1)))
+    good-first b bs n (k .0) (ascii-good n bs (k .1))
 
 -- the run of ASCII from i on, of what is lent as `&s[i..]`
 pub ascii-good-at : (s : List ℕ) (i n : ℕ) → AsciiRun n (take (length s - i) (drop i s)) → Good n (drop i s)
@@ -189,22 +190,6 @@ pub ascii-written : (s d out : List ℕ) (n : ℕ) → AsciiRun n s → Writing 
 ascii-written s d out n r w =
     let k : length (take n s) ≡ n = length-take-le n s (r .fits) in
     w .buffer ∙ rw (good-text n s (ascii-good n s r), take-at (take n s) (utf8Text (drop n s)) n k, k)
-
--- the first n bytes, a run of ASCII, were written into the whole buffer
-pub ascii-wrote : (s d out : List ℕ) (n : ℕ) → length (utf8Text s) ≤ length d → AsciiRun n s → out ≡ written (take n s) d → Writing (utf8Text s) d (utf8Text (drop n s)) out n
-ascii-wrote s d out n h r q = wrote-first (utf8Text s) d h (take n s) (utf8Text (drop n s)) (good-text n s (ascii-good n s r)) out q n (sym (length-take-le n s (r .fits)))
-
--- the next n bytes, a run of ASCII, were written into the unwritten rest
-module _ (s d out : List ℕ) (i o : ℕ) {T : List ℕ} (w : Writing T d (utf8Text (drop i s)) out o) (n : ℕ) (r : AsciiRun n (drop i s)) where
-  abbrev text : utf8Text (drop i s) ≡ take n (drop i s) ++ utf8Text (drop (i + n) s)
-  text = run-text s i n (ascii-good n (drop i s) r)
-
-  pub ascii-room : n ≤ length (take (length out - o) (drop o out))
-  ascii-room = fits-rest w (take n (drop i s)) (utf8Text (drop (i + n) s)) text (sym (length-take-le n (drop i s) (r .fits)))
-
-  pub ascii-wrote-rest : (ys : List ℕ) → ys ≡ written (take n (drop i s)) (take (length out - o) (drop o out))
-      → Writing T d (utf8Text (drop (i + n) s)) (take o out ++ (ys ++ drop (length out - o) (drop o out))) (o + n)
-  ascii-wrote-rest ys q = wrote-rest w (take n (drop i s)) (utf8Text (drop (i + n) s)) text ys q n (sym (length-take-le n (drop i s) (r .fits)))
 
 -- ---- the bytes from i on, one after the other
 

@@ -1,4 +1,5 @@
 // Likely text.
+use super::likely_blocks::likely_start;
 use super::utf8::step_at;
 use super::utf8::trail_at;
 ghost use mathlib.Core.Path.{_≡_};
@@ -54,7 +55,7 @@ fn likely_at(s: &[u8], e: usize) -> usize
 pub fn bytes_are_likely_text(s: &[u8]) -> bool
     ensures { λ r. ⌜ r ≡ likelyText (now (s .entry)) ⌝ }
 {
-    let mut e = 0;
+    let mut e = likely_start(s);
     while e < s.len() {
         let n = likely_at(s, e);
         if n == 0 {

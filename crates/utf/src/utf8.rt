@@ -1,14 +1,13 @@
-// UTF-8, read with one U+FFFD for each maximal malformed part.
+// UTF-8, read: what stands at a place, and how far a text is well-formed.
 use super::ascii::ascii_long_blocks;
 use super::ascii::ascii_run;
-use super::ascii::copy_ascii;
-use buffer::copy;
+use super::ascii::ascii_short_blocks;
+use super::blocks::good_blocks;
 ghost use mathlib.Core.Path.{_≡_};
-ghost use Prim.Native.Nat.{_+_, _<_, _≤_};
-ghost use lib.ListN.{length, take, drop};
-ghost use Rattle.buffer.specs.Buffer.{written};
-ghost use Rattle.unicode.specs.Unicode.{utf8, pieceText, within, trail, utf8Text};
-ghost use Rattle.utf.specs.Utf8Code.{trailAt, firstAt, Coded, PieceAt, TrailsAt, Common, Good, Stop};
+ghost use Prim.Native.Nat.{_<_};
+ghost use lib.ListN.{length};
+ghost use Rattle.unicode.specs.Unicode.{within, trail};
+ghost use Rattle.utf.specs.Utf8Code.{trailAt, Coded, PieceAt, TrailsAt, Common, Good, Stop};
 
 // The byte at j is there, and lies from low to high.
 pub fn trail_at(s: &[u8], j: usize, low: u8, high: u8) -> bool
@@ -68,7 +67,7 @@ fn four_at(s: &[u8], i: usize, low: u8, high: u8) -> usize
 }
 
 // What stands at i.
-fn first_at(s: &[u8], i: usize) -> usize
+pub fn first_at(s: &[u8], i: usize) -> usize
     requires { ⌜ i < length (now s) ⌝ }
     ensures { λ r. ⌜ Coded (PieceAt (now (s .entry)) i) r ⌝ }
 {
@@ -116,7 +115,7 @@ fn is_trail(b: u8) -> bool
 }
 
 // The length of a common sequence at i that is well-formed, or 0. It is small enough to be compiled into the loops that call it.
-fn common_at(s: &[u8], i: usize) -> usize
+pub fn common_at(s: &[u8], i: usize) -> usize
     requires { ⌜ i < length (now s) ⌝ }
     ensures { λ r. ⌜ Common (now (s .entry)) i r ⌝ }
 {
@@ -162,6 +161,21 @@ pub fn step_at(s: &[u8], i: usize) -> usize
     first_at(s, i)
 }
 
+// The length of a well-formed part at the beginning of s, by what is quick for a text that is not short.
+fn good_start(s: &[u8]) -> usize
+    ensures { λ r. ⌜ Good r (now (s .entry)) ⌝ }
+{
+    if s.len() <= 64 {
+        return 0;
+    }
+    let mut e = ascii_long_blocks(s);
+    e += ascii_short_blocks(&s[e..]);
+    if s.len() - e < 64 {
+        return e;
+    }
+    e + good_blocks(&s[e..], 128)
+}
+
 // The first end bytes are well-formed; after them is a malformed part of bad bytes, or nothing where bad is 0.
 pub struct Run {
     pub end: usize,
@@ -172,7 +186,7 @@ pub fn run_of(s: &[u8]) -> Run
     ensures good { λ r. ⌜ Good (r .end) (now (s .entry)) ⌝ }
     ensures stop { λ r. ⌜ Stop (r .end) (r .bad) (now (s .entry)) ⌝ }
 {
-    let mut e = ascii_long_blocks(s);
+    let mut e = good_start(s);
     loop {
         e += ascii_run(&s[e..]);
         if s.len() <= e {
@@ -184,114 +198,4 @@ pub fn run_of(s: &[u8]) -> Run
         }
         e += n;
     }
-}
-
-// The length of the text of s.
-pub fn utf8_lossy_len(s: &[u8]) -> usize
-    requires { ⌜ length (now s) ≤ 1048576 ⌝ }
-    ensures { λ r. ⌜ r ≡ length (utf8Text (now (s .entry))) ⌝ }
-{
-    let mut i = 0;
-    let mut n = 0;
-    loop {
-        let k = ascii_run(&s[i..]);
-        i += k;
-        n += k;
-        if s.len() <= i {
-            return n;
-        }
-        let t = step_at(s, i);
-        if t < 8 {
-            i += t;
-            n += t;
-            continue;
-        }
-        i += t - 8;
-        n += 3;
-    }
-}
-
-// Writes U+FFFD.
-fn write_replacement(out: &mut [u8])
-    requires { ⌜ 3 ≤ length (now out) ⌝ }
-    ensures { λ _. ⌜ now (out .exit) ≡ written (utf8 0xFFFD) (now (out .entry)) ⌝ }
-{
-    out[0] = 0xEF;
-    out[1] = 0xBF;
-    out[2] = 0xBD;
-}
-
-// Copies the two or three bytes of s from i on.
-fn copy_common(s: &[u8], i: usize, n: usize, out: &mut [u8])
-    requires { ⌜ (i + n ≤ length (now s)) × ((n ≤ length (now out)) × ((2 ≤ n) × (n ≤ 3))) ⌝ }
-    ensures { λ _. ⌜ now (out .exit) ≡ written (take n (drop i (now (s .entry)))) (now (out .entry)) ⌝ }
-{
-    out[0] = s[i];
-    out[1] = s[i + 1];
-    if n == 2 {
-        return;
-    }
-    out[2] = s[i + 2];
-}
-
-// Writes what stands at i, and returns what that is. A common sequence goes first, and first_at is called: the loop over this stays small.
-fn write_piece(s: &[u8], i: usize, out: &mut [u8]) -> usize
-    requires { ⌜ (i < length (now s)) × (length (pieceText (firstAt (now s) i .piece)) ≤ length (now out)) ⌝ }
-    ensures piece { λ r. ⌜ Coded (PieceAt (now (s .entry)) i) r ⌝ }
-    ensures bytes { λ _. ⌜ now (out .exit) ≡ written (pieceText (firstAt (now (s .entry)) i .piece)) (now (out .entry)) ⌝ }
-{
-    let m = common_at(s, i);
-    if m != 0 {
-        copy_common(s, i, m, out);
-        return m;
-    }
-    let n = first_at(s, i);
-    if n < 8 {
-        let e = i + n;
-        copy(&s[i..e], out);
-        return n;
-    }
-    write_replacement(out);
-    n
-}
-
-// Writes the text of s into out, from its first byte, piece by piece, and returns the text's length.
-fn write_pieces(s: &[u8], out: &mut [u8]) -> usize
-    requires { ⌜ length (utf8Text (now s)) ≤ length (now out) ⌝ }
-    ensures count { λ r. ⌜ r ≡ length (utf8Text (now (s .entry))) ⌝ }
-    ensures bytes { λ _. ⌜ now (out .exit) ≡ written (utf8Text (now (s .entry))) (now (out .entry)) ⌝ }
-{
-    let mut i = 0;
-    let mut o = 0;
-    loop {
-        let k = copy_ascii(&s[i..], &mut out[o..]);
-        i += k;
-        o += k;
-        if s.len() <= i {
-            return o;
-        }
-        let n = write_piece(s, i, &mut out[o..]);
-        if n < 8 {
-            i += n;
-            o += n;
-            continue;
-        }
-        i += n - 8;
-        o += 3;
-    }
-}
-
-// Writes the text of s into out, from its first byte, and returns the text's length. What is well-formed, most often all, is copied at once.
-pub fn utf8_lossy_write(s: &[u8], out: &mut [u8]) -> usize
-    requires { ⌜ length (utf8Text (now s)) ≤ length (now out) ⌝ }
-    ensures count { λ r. ⌜ r ≡ length (utf8Text (now (s .entry))) ⌝ }
-    ensures bytes { λ _. ⌜ now (out .exit) ≡ written (utf8Text (now (s .entry))) (now (out .entry)) ⌝ }
-{
-    let r = run_of(s);
-    let e = r.end;
-    copy(&s[0..e], out);
-    if r.bad == 0 {
-        return e;
-    }
-    e + write_pieces(&s[e..], &mut out[e..])
 }

@@ -1,19 +1,15 @@
 -- `codepage::latin1_dense` meets its contract. The loop's invariant: what is not yet written is the text from i on, and the byte at o may hold anything.
 -- Two bytes of text are left wherever the loop stores two. Assumes nothing.
 use Prim.Native.Nat.{ℕ, _+_, _-_, _%_, _≤_, _<_}
-use mathlib.Core.Path.{_≡_, refl, sym, ap, _∙_}
+use mathlib.Core.Path.{_≡_, refl}
 use mathlib.Core.List.{List, [], _++_}
 use native.Mathlib.Omega.{arith}
 use borrow.Author.Needs.{needs}
 use denote.Ref.{now}
-use lib.ListN.{length, take, drop, getD, set, length-set, length-drop, length-append}
-use lib.Seq.{length-take-le}
-use Rattle.unicode.specs.Unicode.{utf8}
+use lib.ListN.{length, take, drop, getD, set, length-set}
 use Rattle.codepage.specs.CodePage.{byteText, codePoint819}
 use Rattle.buffer.proofs.Writing.{Writing, start, fits, as-long, all, end}
-use Rattle.codepage.proofs.ByteText.{byte-next, byte-end}
-use Rattle.codepage.proofs.Blocks.{small-length, two-left}
-use Rattle.codepage.proofs.Dense.{Loose, loosen, loose-long, loose-fits, loose-step, loose-rest}
+use Rattle.codepage.proofs.Dense.{Loose, loosen, loose-long, loose-fits, dense-room, dense-turn, last-fits, last-turn}
 use Rattle.codepage.proofs.latin1_dense.Statement.{statement}
 use Rattle.codepage.proofs.latin1_dense.Tie as tie
 
@@ -58,14 +54,14 @@ module _ (c : tie.After-wide Inv-loop μ-loop) where
   w : Loose (byteText codePoint819 S) D (byteText codePoint819 (drop I S)) Out O
   w = c .before .before .before .loop .inv .2
 
+  bytes : (j : ℕ) → getD S j 0 < 0x100
+  bytes j = omega (arith, c .before .shared-slice-known2 .given j)
+
   left : I + 1 < length S
   left = omega (arith, c .before .before .loop-test .taken, c .before .before .before .loop .inv .1)
 
   room : O + 2 ≤ length Out
-  room = omega (arith, loose-fits w, two-left S I (λ j. omega (arith, c .before .shared-slice-known2 .given j)) left)
-
-  text : byteText codePoint819 (drop I S) ≡ utf8 Cp ++ byteText codePoint819 (drop (I + 1) S)
-  text = byte-next codePoint819 S I (omega (arith, left)) ∙ ap (λ (v : ℕ). utf8 v ++ byteText codePoint819 (drop (I + 1) S)) (sym (c .wide .ensures .0))
+  room = dense-room codePoint819 (λ b h. h) S bytes I w left
 
 add-p : tie.Need-add-p Inv-loop μ-loop
 add-p c = omega (arith, room c, loose-long (w c))
@@ -94,7 +90,7 @@ module _ (c : tie.After-small-len Inv-loop μ-loop) where
   at = c .before .before
 
   w₁ : Loose (byteText codePoint819 (S at)) (D at) (byteText codePoint819 (drop (I at + 1) (S at))) (set (set (Out at) (O at + 1) (0x80 + Cp at % 64)) (O at) (c .before .lead .result)) (O at + c .small-len .result)
-  w₁ = loose-step (w at) (Cp at) (at .wide .ensures .1) _ (text at) (c .small-len .result) (c .small-len .ensures .0) (c .before .lead .result) (c .before .lead .ensures) (O at + 1) refl
+  w₁ = dense-turn codePoint819 (λ b h. h) (S at) (bytes at) (I at) (w at) (left at) (Cp at) (at .wide .ensures .0) (c .small-len .result) (c .small-len .ensures .0) (c .before .lead .result) (c .before .lead .ensures) _ (λ h. refl)
 
 add-o : tie.Need-add-o Inv-loop μ-loop
 add-o c = omega (arith, room (at c), c .small-len .ensures .1)
@@ -131,44 +127,34 @@ module _ (c : tie.After-wide2 Inv-loop μ-loop) where
   w₂ : Loose (byteText codePoint819 S₂) (now (c .before .before .before .before .before .before .args .out)) (byteText codePoint819 (drop I₂ S₂)) Out₂ O₂
   w₂ = c .before .before .before .loop .inv .2
 
-  there : I₂ ≡ length S₂ - 1
+  bytes₂ : (j : ℕ) → getD S₂ j 0 < 0x100
+  bytes₂ j = omega (arith, c .before .shared-slice-known3 .given j)
+
+  there : I₂ + 1 ≡ length S₂
   there = omega (arith, c .before .before .before .loop .inv .0, c .before .before .before .loop .inv .1, c .before .before .loop-test .left)
 
-  text₂ : byteText codePoint819 (drop I₂ S₂) ≡ utf8 (c .wide2 .result) ++ byteText codePoint819 (drop (I₂ + 1) S₂)
-  text₂ =
-      byte-next codePoint819 S₂ I₂ (omega (arith, there, c .before .before .before .loop .inv .1))
-      ∙ ap (λ (v : ℕ). utf8 v ++ byteText codePoint819 (drop (I₂ + 1) S₂)) (ap (λ (k : ℕ). getD S₂ k 0) there ∙ sym (c .wide2 .ensures .0))
-
-  room₂ : O₂ + length (utf8 (c .wide2 .result)) ≤ length Out₂
-  room₂ = omega (arith, loose-fits w₂, ap length text₂, length-append (utf8 (c .wide2 .result)) (byteText codePoint819 (drop (I₂ + 1) S₂)))
-
 sub-write-small : tie.Need-sub-write-small Inv-loop μ-loop
-sub-write-small c = omega (arith, room₂ c)
+sub-write-small c = omega (arith, loose-fits (w₂ c))
 
 part-write-small-start : tie.Need-part-write-small-start Inv-loop μ-loop
-part-write-small-start c = omega (arith, room₂ c)
+part-write-small-start c = omega (arith, loose-fits (w₂ c))
 
 part-write-small-end : tie.Need-part-write-small-end Inv-loop μ-loop
 part-write-small-end c = omega arith
 
 write-small-requires : tie.Need-write-small-requires Inv-loop μ-loop
 write-small-requires c κs =
-    let d = c .before in (
-      omega (arith, d .wide2 .ensures .1),
-      omega (arith, room₂ d, length-take-le (length (Out₂ d) - O₂ d) (drop (O₂ d) (Out₂ d)) (omega (arith, length-drop (O₂ d) (Out₂ d)))),
-    )
+    let d = c .before in
+    (omega (arith, d .wide2 .ensures .1), last-fits codePoint819 (λ b h. h) (S₂ d) (bytes₂ d) (I₂ d) (w₂ d) (there d) (d .wide2 .result) (d .wide2 .ensures .0))
 
 -- where it is written
 module _ (c : tie.After-write-small Inv-loop μ-loop) where
   abbrev at₂ : tie.After-wide2 Inv-loop μ-loop
   at₂ = c .before .before
 
-  w₃ : Writing (byteText codePoint819 (S₂ at₂)) (now (at₂ .before .before .before .before .before .before .args .out)) (byteText codePoint819 (drop (I₂ at₂ + 1) (S₂ at₂)))
+  w₃ : Writing (byteText codePoint819 (S₂ at₂)) (now (at₂ .before .before .before .before .before .before .args .out)) []
       (take (O₂ at₂) (Out₂ at₂) ++ (c .write-small .last .1 .0 ++ drop (length (Out₂ at₂) - O₂ at₂) (drop (O₂ at₂) (Out₂ at₂)))) (O₂ at₂ + c .write-small .result)
-  w₃ = loose-rest (w₂ at₂) (utf8 (at₂ .wide2 .result)) _ (text₂ at₂) (omega (arith, small-length (at₂ .wide2 .result) (at₂ .wide2 .ensures .1))) (c .write-small .last .1 .0) (c .write-small .ensures .1) (c .write-small .result) (c .write-small .ensures .0)
-
-  done : byteText codePoint819 (drop (I₂ at₂ + 1) (S₂ at₂)) ≡ []
-  done = byte-end codePoint819 (S₂ at₂) (I₂ at₂ + 1) (omega (arith, there at₂))
+  w₃ = last-turn codePoint819 (λ b h. h) (S₂ at₂) (bytes₂ at₂) (I₂ at₂) (w₂ at₂) (there at₂) (at₂ .wide2 .result) (at₂ .wide2 .ensures .0) (c .write-small .last .1 .0) (c .write-small .ensures .1) (c .write-small .result) (c .write-small .ensures .0)
 
 add-result : tie.Need-add-result Inv-loop μ-loop
 add-result c =
@@ -181,7 +167,7 @@ same-length c = as-long (w₃ (c .before .before))
 returns : tie.Need-returns Inv-loop μ-loop
 returns c =
     let d = c .before .before in
-    (all (w₃ d) (done d), end (w₃ d) (done d))
+    (all (w₃ d) refl, end (w₃ d) refl)
 
 pub latin1-dense-spec : {M : Type 1} → statement M
 latin1-dense-spec =

@@ -4,7 +4,7 @@ use native.Mathlib.Omega.{arith}
 use lib.ListN.{length}
 use lib.Seq.{length-take-le}
 use denote.Ref.{now}
-use Rattle.piece.proofs.ItemLaws.{got-within, got-text}
+use Rattle.piece.proofs.ItemLaws.{got-within, got-text, got-plain}
 use borrow.Author.Needs.{needs}
 use Rattle.piece.proofs.other_length.Statement.{statement}
 use Rattle.piece.proofs.other_length.Tie as tie
@@ -22,7 +22,7 @@ item-len-requires : tie.Need-item-len-requires
 item-len-requires c κs = (omega (arith, length-take-le (c .before .before .column-need .result) (now (c .before .before .before .before .args .rest)) (omega (arith, c .before .before .column-need .ensures .0, c .before .before .before .before .pre .0)), c .before .before .column-need .ensures .0, c .before .before .before .before .pre .0, c .before .before .before .before .pre .1), got-within (c .before .decode-column-value .result) (c .before .before .before .before .args .column) (now (c .before .before .before .before .args .rest)) (c .before .decode-column-value .ensures) (c .before .before .column-need .result) (c .before .before .column-need .ensures .0))
 
 returns : tie.Need-returns
-returns c = (c .before .before .before .column-need .ensures .0, c .item-len .ensures ∙ ap length (got-text (c .before .before .decode-column-value .result) (c .before .before .before .before .before .args .column) (now (c .before .before .before .before .before .args .rest)) (c .before .before .decode-column-value .ensures) (c .before .before .before .column-need .result) (c .before .before .before .column-need .ensures .0)))
+returns c = (c .before .before .before .column-need .ensures .0, (c .item-len .ensures .0 ∙ ap length (got-text (c .before .before .decode-column-value .result) (c .before .before .before .before .before .args .column) (now (c .before .before .before .before .before .args .rest)) (c .before .before .decode-column-value .ensures) (c .before .before .before .column-need .result) (c .before .before .before .column-need .ensures .0)), λ h. got-plain (c .before .before .decode-column-value .result) (c .before .before .before .before .before .args .column) (now (c .before .before .before .before .before .args .rest)) (c .before .before .decode-column-value .ensures) (c .before .before .before .column-need .result) (c .before .before .before .column-need .ensures .0) (c .item-len .ensures .1 h)))
 
 pub other-length-spec : {M : Type 1} → statement M
 other-length-spec =

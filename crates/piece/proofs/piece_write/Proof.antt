@@ -9,6 +9,7 @@ use Rattle.buffer.specs.Buffer.{written}
 use Rattle.rules.specs.Walk.{Piece}
 use Rattle.rules.specs.Row.{pieceValue}
 use Rattle.rules.specs.Conversions.{ported}
+use Rattle.piece.specs.Piece.{PlainPiece}
 use Rattle.piece.proofs.PieceLaws.{leadOf, all-after, null-takes, null-absent, absent-text, lead-within, value-takes, value-stands, value-reads}
 use borrow.Author.Needs.{needs}
 use Rattle.piece.proofs.piece_write.Statement.{statement}
@@ -40,7 +41,7 @@ add-value-write : tie.Need-add-value-write
 add-value-write c = search needs
 
 value-write-requires : tie.Need-value-write-requires
-value-write-requires c κs = rw (all-after (c .before .before .lead .result) (now (c .before .before .before .before .before .before .before .args .rest)), c .before .before .lead .ensures .0) (omega (arith, value-takes (c .before .before .before .before .before .before .before .args .column) (now (c .before .before .before .before .before .before .before .args .rest)) (sym (c .before .before .before .before .is-null .ensures) ∙ c .before .before .before .if1 .left), length-drop (leadOf (c .before .before .before .before .before .before .before .args .column)) (now (c .before .before .before .before .before .before .before .args .rest)), c .before .before .before .before .before .before .before .pre .0), (omega (arith, length-drop (leadOf (c .before .before .before .before .before .before .before .args .column)) (now (c .before .before .before .before .before .before .before .args .rest)), lead-within (c .before .before .before .before .before .before .before .args .column) (now (c .before .before .before .before .before .before .before .args .rest)) (sym (c .before .before .before .before .is-null .ensures) ∙ c .before .before .before .if1 .left), c .before .before .before .before .before .before .before .pre .1 .0), subst (λ (t : List ℕ). length t ≤ length (now (c .before .before .before .before .before .before .before .args .out))) (value-reads (c .before .before .before .before .before .before .before .args .column) (now (c .before .before .before .before .before .before .before .args .rest)) (sym (c .before .before .before .before .is-null .ensures) ∙ c .before .before .before .if1 .left)) (c .before .before .before .before .before .before .before .pre .1 .1)))
+value-write-requires c κs = rw (all-after (c .before .before .lead .result) (now (c .before .before .before .before .before .before .before .args .rest)), c .before .before .lead .ensures .0) (omega (arith, value-takes (c .before .before .before .before .before .before .before .args .column) (now (c .before .before .before .before .before .before .before .args .rest)) (sym (c .before .before .before .before .is-null .ensures) ∙ c .before .before .before .if1 .left), length-drop (leadOf (c .before .before .before .before .before .before .before .args .column)) (now (c .before .before .before .before .before .before .before .args .rest)), c .before .before .before .before .before .before .before .pre .0), (omega (arith, length-drop (leadOf (c .before .before .before .before .before .before .before .args .column)) (now (c .before .before .before .before .before .before .before .args .rest)), lead-within (c .before .before .before .before .before .before .before .args .column) (now (c .before .before .before .before .before .before .before .args .rest)) (sym (c .before .before .before .before .is-null .ensures) ∙ c .before .before .before .if1 .left), c .before .before .before .before .before .before .before .pre .1 .0), (subst (λ (t : List ℕ). length t ≤ length (now (c .before .before .before .before .before .before .before .args .out))) (value-reads (c .before .before .before .before .before .before .before .args .column) (now (c .before .before .before .before .before .before .before .args .rest)) (sym (c .before .before .before .before .is-null .ensures) ∙ c .before .before .before .if1 .left)) (c .before .before .before .before .before .before .before .pre .1 .1 .0), (c .before .before .before .before .before .before .before .pre .1 .1 .1 .0, λ t. subst PlainPiece (value-stands (c .before .before .before .before .before .before .before .args .column) (now (c .before .before .before .before .before .before .before .args .rest)) (sym (c .before .before .before .before .is-null .ensures) ∙ c .before .before .before .if1 .left) (c .before .before .before .before .before .before .before .args .at)) (c .before .before .before .before .before .before .before .pre .1 .1 .1 .1 t)))))
 
 add-used : tie.Need-add-used
 add-used c = let u = rw (all-after (c .before .before .before .before .before .before .before .lead .result) (now (c .before .before .before .before .before .before .before .before .before .before .before .before .args .rest)), c .before .before .before .before .before .before .before .lead .ensures .0) at (c .before .before .before .before .value-write .ensures .1 .0) in record { fits = omega (arith, u, c .before .before .before .before .before .before .before .lead .ensures .0, value-takes (c .before .before .before .before .before .before .before .before .before .before .before .before .args .column) (now (c .before .before .before .before .before .before .before .before .before .before .before .before .args .rest)) (sym (c .before .before .before .before .before .before .before .before .before .is-null .ensures) ∙ c .before .before .before .before .before .before .before .before .if1 .left), c .before .before .before .before .before .before .before .before .before .before .before .before .pre .0, c .before .before .before .before .before .before .before .before .before .before .before .before .pre .1 .0) }

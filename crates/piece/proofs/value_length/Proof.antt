@@ -1,4 +1,6 @@
 -- `piece::value_length` meets its contract: by the type of numbers, or by other_length. Assumes nothing.
+use mathlib.Core.Path.{sym}
+use mathlib.Core.Bool.{true≢false}
 use denote.Ref.{now}
 use Rattle.piece.proofs.NumberLaws.{numbers-need, numbers-text}
 use borrow.Author.Needs.{needs}
@@ -9,7 +11,7 @@ number-bytes-requires : tie.Need-number-bytes-requires
 number-bytes-requires c κs = search needs
 
 returns : tie.Need-returns
-returns c = (numbers-need (c .before .before .before .args .column) (c .before .number-bytes .result) (c .before .number-bytes .ensures .0) (c .if1 .taken) (now (c .before .before .before .args .rest)), numbers-text (c .before .before .before .args .column) (c .before .number-bytes .result) (c .before .number-bytes .ensures .0) (c .if1 .taken) (now (c .before .before .before .args .rest)))
+returns c = (numbers-need (c .before .before .before .args .column) (c .before .number-bytes .result) (c .before .number-bytes .ensures .0) (c .if1 .taken) (now (c .before .before .before .args .rest)), (numbers-text (c .before .before .before .args .column) (c .before .number-bytes .result) (c .before .number-bytes .ensures .0) (c .if1 .taken) (now (c .before .before .before .args .rest)), λ h. absurd (true≢false (sym h))))
 
 other-length-requires : tie.Need-other-length-requires
 other-length-requires c κs = search needs

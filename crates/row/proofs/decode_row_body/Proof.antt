@@ -1,9 +1,9 @@
 -- `row::decode_row_body` meets its contract: a law for the start, a turn and the end of each of the two loops. Assumes nothing.
 use borrow.Author.Needs.{needs}
 use native.Mathlib.Omega.{arith}
-use Prim.Native.Nat.{_+_, _*_, _≤_, _<_, _-_}
-use mathlib.Core.Path.{_≡_, refl, ap, sym, _∙_}
-use mathlib.Core.List.{_∷_}
+use Prim.Native.Nat.{ℕ, _+_, _*_, _≤_, _<_, _-_}
+use mathlib.Core.Path.{_≡_, refl, ap, sym, subst, _∙_}
+use mathlib.Core.List.{List, _∷_}
 use mathlib.Core.Logic.{⊎-elim}
 use denote.Ref.{now}
 use lib.ListN.{length, getD, take, drop, length-map, length-drop}
@@ -14,7 +14,9 @@ use Rattle.rules.specs.Row.{covered, rowTexts, answerOf, textAfter}
 use Rattle.rules.specs.Conversions.{ported}
 use Rattle.rules.proofs.Walks.{piecesOf}
 use Rattle.rules.proofs.Progress.{Walking, walking-start, walking-step, walking-short, walking-end, placing-there, placing-room, placing-within, covered-at, rest-is}
+use Rattle.piece.specs.Marks.{markAt, PlainMarks}
 use Rattle.piece.specs.Texts.{textsOf}
+use Rattle.piece.proofs.MarkLaws.{plain-none, plain-here}
 use Rattle.piece.proofs.Texts.{texts-are, needed-more, needed-fits}
 use Rattle.row.specs.Whole.{Whole}
 use Rattle.row.proofs.Wholes.{whole-is, decided-short, decided-lacking, decided-accepted}
@@ -31,11 +33,11 @@ abbrev μ-loop : tie.MeasureT-loop
 μ-loop «data» start text columns count end₀ j₀ end j = count - j
 
 abbrev Inv-loop2 : tie.InvT-loop2
-Inv-loop2 «data» start text₀ columns count end j room places₀ at₀ next₀ k₀ text places at next k =
+Inv-loop2 «data» start text₀ columns count end j room marks places₀ at₀ next₀ k₀ text places at next k =
     (k ≤ columns .count) × Filling (covered columns) start «data» end text₀ places k at next text
 
 abbrev μ-loop2 : tie.MeasureT-loop2
-μ-loop2 «data» start text₀ columns count end j room places₀ at₀ next₀ k₀ text places at next k = count - k
+μ-loop2 «data» start text₀ columns count end j room marks places₀ at₀ next₀ k₀ text places at next k = count - k
 
 -- what is known from the start
 module _ (c : tie.Start Inv-loop μ-loop Inv-loop2 μ-loop2) where
@@ -76,8 +78,15 @@ module _ (c : tie.Joined2 Inv-loop μ-loop Inv-loop2 μ-loop2) where
   fits : length (rowTexts ported (piecesOf (walkBody (covered (c .before .before .before .before .before .args .t3)) (c .before .before .before .before .before .args .start) (now (c .before .before .before .before .before .args .«data»))))) ≤ length (now (c .before .before .before .before .before .args .text))
   fits =
       ⊎-elim
-      (λ w. let k : length (textsOf (walkBody (covered (c .before .before .before .before .before .args .t3)) (c .before .before .before .before .before .args .start) (now (c .before .before .before .before .before .args .«data»)))) ≤ length (now (c .before .before .before .before .before .args .text)) = needed-fits (length (now (c .before .before .before .before .before .args .text))) (w .1 .result) (textsOf (walkBody (covered (c .before .before .before .before .before .args .t3)) (c .before .before .before .before .before .args .start) (now (c .before .before .before .before .before .args .«data»)))) (w .1 .ensures) (w .2 .left) in omega (arith, k, texts-is (c .before)))
-      (λ w. omega (arith, bound (c .before), w .left))
+      (λ w. let k : length (textsOf (walkBody (covered (c .before .before .before .before .before .args .t3)) (c .before .before .before .before .before .args .start) (now (c .before .before .before .before .before .args .«data»)))) ≤ length (now (c .before .before .before .before .before .args .text)) = needed-fits (length (now (c .before .before .before .before .before .args .text))) (w .2 .result) (textsOf (walkBody (covered (c .before .before .before .before .before .args .t3)) (c .before .before .before .before .before .args .start) (now (c .before .before .before .before .before .args .«data»)))) (w .2 .ensures .0) (w .3 .left) in omega (arith, k, texts-is (c .before)))
+      (λ w. omega (arith, bound (c .before), w .0 .left))
+      (c .if2 .came)
+
+  marked : PlainMarks (c .if2 .marks) (walkBody (covered (c .before .before .before .before .before .args .t3)) (c .before .before .before .before .before .args .start) (now (c .before .before .before .before .before .args .«data»)))
+  marked =
+      ⊎-elim
+      (λ w. subst (λ (m : List ℕ). PlainMarks m (walkBody (covered (c .before .before .before .before .before .args .t3)) (c .before .before .before .before .before .args .start) (now (c .before .before .before .before .before .args .«data»)))) (sym (w .4)) (w .2 .ensures .1))
+      (λ w. subst (λ (m : List ℕ). PlainMarks m (walkBody (covered (c .before .before .before .before .before .args .t3)) (c .before .before .before .before .before .args .start) (now (c .before .before .before .before .before .args .«data»)))) (sym (w .1)) (plain-none (walkBody (covered (c .before .before .before .before .before .args .t3)) (c .before .before .before .before .before .args .start) (now (c .before .before .before .before .before .args .«data»)))))
       (c .if2 .came)
 
 -- a turn of the second loop
@@ -155,7 +164,7 @@ add-if2 : tie.Need-add-if2 Inv-loop μ-loop Inv-loop2 μ-loop2
 add-if2 c = omega (arith, c .before .loop .inv .1 .within, c .before .before .before .before .pre .1 .1, c .before .before .before .before .pre .0)
 
 text-needed-requires : tie.Need-text-needed-requires Inv-loop μ-loop Inv-loop2 μ-loop2
-text-needed-requires c κs = (c .before .before .before .before .before .pre .0, (c .before .before .before .before .before .pre .1 .0, (c .before .before .before .before .before .pre .1 .1, whole (c .before))))
+text-needed-requires c κs = (c .before .before .before .before .before .before .pre .0, (c .before .before .before .before .before .before .pre .1 .0, (c .before .before .before .before .before .before .pre .1 .1, (whole (c .before .before), plain-none (walkBody (covered (c .before .before .before .before .before .before .args .t3)) (c .before .before .before .before .before .before .args .start) (now (c .before .before .before .before .before .before .args .«data»)))))))
 
 refused-requires-2 : tie.Need-refused-requires-2 Inv-loop μ-loop Inv-loop2 μ-loop2
 refused-requires-2 c κs = search needs
@@ -163,10 +172,10 @@ refused-requires-2 c κs = search needs
 returns-2 : tie.Need-returns-2 Inv-loop μ-loop Inv-loop2 μ-loop2
 unfolding answerOf textAfter
 returns-2 c =
-    let t = c .before .before .before .before in
-    let m = needed-more (length (now (c .before .before .before .before .before .before .before .before .args .text))) (c .before .before .text-needed .result) (textsOf (walkBody (covered (c .before .before .before .before .before .before .before .before .args .t3)) (c .before .before .before .before .before .before .before .before .args .start) (now (c .before .before .before .before .before .before .before .before .args .«data»)))) (c .before .before .text-needed .ensures) (c .before .if3 .taken) in
+    let t = c .before .before .before .before .before in
+    let m = needed-more (length (now (c .before .before .before .before .before .before .before .before .before .args .text))) (c .before .before .text-needed .result) (textsOf (walkBody (covered (c .before .before .before .before .before .before .before .before .before .args .t3)) (c .before .before .before .before .before .before .before .before .before .args .start) (now (c .before .before .before .before .before .before .before .before .before .args .«data»)))) (c .before .before .text-needed .ensures .0) (c .before .if3 .taken) in
     let n = c .before .before .text-needed .result in
-    let d = now (c .before .before .before .before .before .before .before .before .args .text) in
+    let d = now (c .before .before .before .before .before .before .before .before .before .args .text) in
     let h : length d < n = omega (arith, m .0, m .1) in
     rw (decided-lacking _ _ _ d (done-is t) (m .1 ∙ texts-is t) h) (c .refused2 .ensures, refl)
 
@@ -192,56 +201,59 @@ part-piece-write-end : tie.Need-part-piece-write-end Inv-loop μ-loop Inv-loop2 
 part-piece-write-end c = search needs
 
 sub-piece-write-2 : tie.Need-sub-piece-write-2 Inv-loop μ-loop Inv-loop2 μ-loop2
-sub-piece-write-2 c = next-within (c .before .before .before .loop2 .inv .1 .placing .texts)
+sub-piece-write-2 c = next-within (c .before .before .before .before .loop2 .inv .1 .placing .texts)
 
 part-piece-write-start-2 : tie.Need-part-piece-write-start-2 Inv-loop μ-loop Inv-loop2 μ-loop2
-part-piece-write-start-2 c = next-within (c .before .before .before .loop2 .inv .1 .placing .texts)
+part-piece-write-start-2 c = next-within (c .before .before .before .before .loop2 .inv .1 .placing .texts)
 
 part-piece-write-end-2 : tie.Need-part-piece-write-end-2 Inv-loop μ-loop Inv-loop2 μ-loop2
 part-piece-write-end-2 c = search needs
 
 piece-write-requires : tie.Need-piece-write-requires Inv-loop μ-loop Inv-loop2 μ-loop2
 piece-write-requires c κs =
-    let t = c .before .before .before in
+    let t = c .before .before .before .before in
     let p = t .before .loop2 .inv .1 .placing in (
       placing-there ported _ _ _ _ _ _ p _ (here2 t _) _ (rest2 t),
       (
-        omega (arith, ap length (rest2 t), length-drop (t .before .loop2 .at) (c .before .before .before .before .before .before .before .before .before .before .before .args .«data» .now), p .going .within, c .before .before .before .before .before .before .before .before .before .before .before .pre .1 .1),
-        placing-room ported _ _ _ _ _ _ p _ (here2 t _) _ (rest2 t),
+        omega (arith, ap length (rest2 t), length-drop (t .before .loop2 .at) (c .before .before .before .before .before .before .before .before .before .before .before .before .args .«data» .now), p .going .within, c .before .before .before .before .before .before .before .before .before .before .before .before .pre .1 .1),
+        (
+          placing-room ported _ _ _ _ _ _ p _ (here2 t _) _ (rest2 t),
+          (omega (arith, c .before .before .before .before .before .before .before .before .before .before .before .before .pre .0), λ h. plain-here _ _ _ _ _ (done-is (c .before .before .before .before .before .before .before .before)) (p .going) _ (here2 t _) _ (rest2 t) (omega (arith, all-covered (c .before .before .before .before .before .before .before .before .before .before .before .before))) _ (marked (c .before .before .before .before .before .before .before)) (omega (arith, c .before .before .before .before .before .before .before .before .before .before .before .before .pre .0)) (markAt (c .before .before .before .before .before .before .before .if2 .marks) (t .before .loop2 .k)) refl h),
+        ),
       ),
     )
 
 mul-places : tie.Need-mul-places Inv-loop μ-loop Inv-loop2 μ-loop2
-mul-places c = omega (arith, c .before .before .before .before .before .before .before .before .before .before .before .before .before .before .before .pre .0)
+mul-places c = omega (arith, c .before .before .before .before .before .before .before .before .before .before .before .before .before .before .before .before .pre .0)
 
 array-set-from-places : tie.Need-array-set-from-places Inv-loop μ-loop Inv-loop2 μ-loop2
-array-set-from-places c = omega (arith, c .before .before .before .before .before .before .before .before .before .before .before .before .before .before .before .pre .0)
+array-set-from-places c = omega (arith, c .before .before .before .before .before .before .before .before .before .before .before .before .before .before .before .before .pre .0)
 
 add-at : tie.Need-add-at Inv-loop μ-loop Inv-loop2 μ-loop2
 add-at c =
-    let t = c .before .before .before .before .before .before .before .before in
+    let t = c .before .before .before .before .before .before .before .before .before in
     let w = c .before .before .before .before .piece-write .ensures in
-    let f = filling-step _ _ _ _ _ (t .before .loop2 .inv .1) _ (here2 t _) _ (rest2 t) (omega (arith, c .before .before .before .before .before .before .before .before .before .before .before .before .before .before .before .before .pre .0)) _ (w .0) _ _ (w .1 .0) (w .1 .1 .0) _ (w .1 .1 .1) in
-    omega (arith, f .placing .going .within, c .before .before .before .before .before .before .before .before .before .before .before .before .before .before .before .before .pre .1 .1)
+    let f = filling-step _ _ _ _ _ (t .before .loop2 .inv .1) _ (here2 t _) _ (rest2 t) (omega (arith, c .before .before .before .before .before .before .before .before .before .before .before .before .before .before .before .before .before .pre .0)) _ (w .0) _ _ (w .1 .0) (w .1 .1 .0) _ (w .1 .1 .1) in
+    omega (arith, f .placing .going .within, c .before .before .before .before .before .before .before .before .before .before .before .before .before .before .before .before .before .pre .1 .1)
 
 add-next : tie.Need-add-next Inv-loop μ-loop Inv-loop2 μ-loop2
 add-next c =
-    let t = c .before .before .before .before .before .before .before .before .before in
+    let t = c .before .before .before .before .before .before .before .before .before .before in
     let p = t .before .loop2 .inv .1 .placing in
     let h = placing-within ported _ _ _ _ _ _ p _ (here2 t _) _ (rest2 t) _ (c .before .before .before .before .before .piece-write .ensures .1 .1 .0) in
-    omega (arith, h, c .before .before .before .before .before .before .before .before .before .before .before .before .before .before .before .before .before .good .1 .1 .1 .0 .0)
+    omega (arith, h, c .before .before .before .before .before .before .before .before .before .before .before .before .before .before .before .before .before .before .good .1 .1 .1 .0 .0)
 
 add-k : tie.Need-add-k Inv-loop μ-loop Inv-loop2 μ-loop2
-add-k c = omega (arith, c .before .before .before .before .before .before .before .before .before .before .before .before .before .before .before .before .before .pre .0)
+add-k c = omega (arith, c .before .before .before .before .before .before .before .before .before .before .before .before .before .before .before .before .before .before .pre .0)
 
 loop2-less : tie.Need-loop2-less Inv-loop μ-loop Inv-loop2 μ-loop2
 loop2-less c = omega arith
 
 loop2-again : tie.Need-loop2-again Inv-loop μ-loop Inv-loop2 μ-loop2
 loop2-again c =
-    let t = c .before .before .before .before .before .before .before .before .before in
+    let t = c .before .before .before .before .before .before .before .before .before .before in
     let w = c .before .before .before .before .before .piece-write .ensures in
-    (omega arith, filling-step _ _ _ _ _ (t .before .loop2 .inv .1) _ (here2 t _) _ (rest2 t) (omega (arith, c .before .before .before .before .before .before .before .before .before .before .before .before .before .before .before .before .before .pre .0)) _ (w .0) _ _ (w .1 .0) (w .1 .1 .0) _ (w .1 .1 .1))
+    (omega arith, filling-step _ _ _ _ _ (t .before .loop2 .inv .1) _ (here2 t _) _ (rest2 t) (omega (arith, c .before .before .before .before .before .before .before .before .before .before .before .before .before .before .before .before .before .before .pre .0)) _ (w .0) _ _ (w .1 .0) (w .1 .1 .0) _ (w .1 .1 .1))
 
 same-length : tie.Need-same-length Inv-loop μ-loop Inv-loop2 μ-loop2
 same-length c = as-long (c .before .loop2 .inv .1 .placing .texts)

@@ -14,6 +14,8 @@ use Rattle.rules.specs.Conversions.{ported}
 use Rattle.rules.proofs.Walks.{piecesOf}
 use Rattle.rules.proofs.Progress.{Measuring, measuring-start, measuring-there, measuring-bound, measuring-step, measuring-end, end-within, covered-at, rest-is}
 use Rattle.piece.proofs.Bound.{Bytes}
+use Rattle.piece.proofs.MarkLaws.{plain-more}
+use Rattle.piece.specs.Marks.{PlainMarks}
 use Rattle.piece.specs.Texts.{textsOf}
 use Rattle.piece.proofs.Texts.{texts-are, needed-none, needed-some}
 use Rattle.row.proofs.Wholes.{whole-is}
@@ -22,16 +24,16 @@ use Rattle.row.proofs.text_needed.Statement.{statement}
 use Rattle.row.proofs.text_needed.Tie as tie
 
 abbrev Inv-loop : tie.InvT-loop
-Inv-loop «data» start end room columns count at₀ total₀ i₀ at total i =
-    (i ≤ columns .count) × Measuring ported (covered columns) start «data» (piecesOf (walkBody (covered columns) start «data»)) end i at total
+Inv-loop «data» start end room marks₀ columns count at₀ total₀ i₀ marks at total i =
+    (i ≤ columns .count) × (Measuring ported (covered columns) start «data» (piecesOf (walkBody (covered columns) start «data»)) end i at total × PlainMarks marks (walkBody (covered columns) start «data»))
 
 abbrev μ-loop : tie.MeasureT-loop
-μ-loop «data» start end room columns count at₀ total₀ i₀ at total i = count - i
+μ-loop «data» start end room marks₀ columns count at₀ total₀ i₀ marks at total i = count - i
 
 -- what is known from the start
 module _ (c : tie.Start Inv-loop μ-loop) where
   whole : walkBody (covered (c .args .t4)) (c .args .start) (now (c .args .«data»)) ≡ done (piecesOf (walkBody (covered (c .args .t4)) (c .args .start) (now (c .args .«data»)))) (c .args .end)
-  whole = whole-is (c .pre .1 .1 .1)
+  whole = whole-is (c .pre .1 .1 .1 .0)
 
   ends : (c .args .start ≤ c .args .end) × (c .args .end ≤ length (now (c .args .«data»)))
   ends = end-within (covered (c .args .t4)) (c .args .start) (now (c .args .«data»)) _ (c .args .end) (c .pre .1 .0) whole
@@ -46,7 +48,7 @@ module _ (c : tie.Start Inv-loop μ-loop) where
   all-texts = ap length (texts-are (walkBody (covered (c .args .t4)) (c .args .start) (now (c .args .«data»))))
 
   bound : Bytes (now (c .args .«data»)) → length (rowTexts ported (piecesOf (walkBody (covered (c .args .t4)) (c .args .start) (now (c .args .«data»))))) ≤ 3 * (c .args .end - c .args .start) + 258 * c .args .t4 .count
-  bound bytes = covered-bound (c .args .t4) enough (owned-scaled (c .args .t4 .columns) _ (c .good .1 .1 .1 .0 .1 .1 .0 .1 .1)) (c .args .start) (c .args .end) (now (c .args .«data»)) bytes (c .pre .1 .0) (c .pre .1 .1 .1)
+  bound bytes = covered-bound (c .args .t4) enough (owned-scaled (c .args .t4 .columns) _ (c .good .1 .1 .1 .0 .1 .1 .0 .1 .1)) (c .args .start) (c .args .end) (now (c .args .«data»)) bytes (c .pre .1 .0) (c .pre .1 .1 .1 .0)
 
 -- a turn: the column, and what is lent of the input
 module _ (c : tie.In-loop Inv-loop μ-loop) where
@@ -57,7 +59,7 @@ module _ (c : tie.In-loop Inv-loop μ-loop) where
   rest = rest-is (c .before .before .before .args .«data» .now) (c .before .loop .at)
 
 loop-holds : tie.Need-loop-holds Inv-loop μ-loop
-loop-holds c = (omega arith, measuring-start ported _ _ _ _ _ (c .before .pre .1 .0) (whole (c .before)))
+loop-holds c = (omega arith, (measuring-start ported _ _ _ _ _ (c .before .pre .1 .0) (whole (c .before)), c .before .pre .1 .1 .1 .1))
 
 mul-column : tie.Need-mul-column Inv-loop μ-loop
 mul-column c = omega (arith, c .before .before .before .pre .0)
@@ -66,53 +68,61 @@ element-copy-out-column : tie.Need-element-copy-out-column Inv-loop μ-loop
 element-copy-out-column c = omega (arith, c .before .before .before .pre .0)
 
 sub-piece-length : tie.Need-sub-piece-length Inv-loop μ-loop
-sub-piece-length c = c .before .before .loop .inv .1 .going .within
+sub-piece-length c = c .before .before .loop .inv .1 .0 .going .within
 
 part-piece-length-start : tie.Need-part-piece-length-start Inv-loop μ-loop
-part-piece-length-start c = c .before .before .loop .inv .1 .going .within
+part-piece-length-start c = c .before .before .loop .inv .1 .0 .going .within
 
 part-piece-length-end : tie.Need-part-piece-length-end Inv-loop μ-loop
 part-piece-length-end c = search needs
 
 piece-length-requires : tie.Need-piece-length-requires Inv-loop μ-loop
 piece-length-requires c κs = (
-  measuring-there ported _ _ _ _ _ (c .before .before .before .loop .inv .1) _ (here (c .before .before) _) _ (rest (c .before .before)),
+  measuring-there ported _ _ _ _ _ (c .before .before .before .loop .inv .1 .0) _ (here (c .before .before) _) _ (rest (c .before .before)),
   omega (arith, ap length (rest (c .before .before)), length-drop (c .before .before .before .loop .at) (c .before .before .before .before .before .args .«data» .now), c .before .before .before .before .before .pre .1 .1 .0),
 )
 
+mark-requires : tie.Need-mark-requires Inv-loop μ-loop
+mark-requires c κs = omega (arith, c .before .before .before .before .before .before .before .pre .0, c .before .before .before .before .loop-test .taken)
+
 add-at : tie.Need-add-at Inv-loop μ-loop
 add-at c =
-    let t = c .before .before .before .before in
-    let m = measuring-step ported _ _ _ _ _ (t .before .loop .inv .1) _ (here t _) _ (rest t) _ _ (c .before .piece-length .ensures .0) (c .before .piece-length .ensures .1) in
+    let t = c .before .before .before .before .before .before in
+    let m = measuring-step ported _ _ _ _ _ (t .before .loop .inv .1 .0) _ (here t _) _ (rest t) _ _ (c .before .before .before .piece-length .ensures .0) (c .before .before .before .piece-length .ensures .1 .0) in
     omega (arith, m .going .within, t .before .before .before .pre .1 .1 .0)
 
 add-total : tie.Need-add-total Inv-loop μ-loop
 add-total c =
-    let t = c .before .before .before .before .before in
-    let m = measuring-bound ported _ _ _ _ _ (t .before .loop .inv .1) _ (here t _) _ (rest t) _ (c .before .before .piece-length .ensures .1) in
+    let t = c .before .before .before .before .before .before .before in
+    let m = measuring-bound ported _ _ _ _ _ (t .before .loop .inv .1 .0) _ (here t _) _ (rest t) _ (c .before .before .before .before .piece-length .ensures .1 .0) in
     omega (arith, bound (t .before .before .before) (λ i. omega (arith, t .before .before .shared-slice-known .given i)), ends (t .before .before .before), t .before .before .before .pre .1 .1 .0, t .before .before .before .pre .0)
 
 add-i : tie.Need-add-i Inv-loop μ-loop
-add-i c = omega (arith, c .before .before .before .before .before .before .before .before .pre .0)
+add-i c = omega (arith, c .before .before .before .before .before .before .before .before .before .before .pre .0)
 
 loop-less : tie.Need-loop-less Inv-loop μ-loop
 loop-less c = omega arith
 
 loop-again : tie.Need-loop-again Inv-loop μ-loop
 loop-again c =
-    let t = c .before .before .before .before .before in
-    (omega arith, measuring-step ported _ _ _ _ _ (t .before .loop .inv .1) _ (here t _) _ (rest t) _ _ (c .before .before .piece-length .ensures .0) (c .before .before .piece-length .ensures .1))
+    let t = c .before .before .before .before .before .before .before in (
+      omega arith,
+      (
+        measuring-step ported _ _ _ _ _ (t .before .loop .inv .1 .0) _ (here t _) _ (rest t) _ _ (c .before .before .before .before .piece-length .ensures .0) (c .before .before .before .before .piece-length .ensures .1 .0),
+        plain-more _ _ _ _ _ (whole (c .before .before .before .before .before .before .before .before .before .before)) (t .before .loop .inv .1 .0 .going) _ (here t _) _ (rest t) (omega (arith, all-covered (c .before .before .before .before .before .before .before .before .before .before))) _ _ (t .before .loop .inv .1 .1) _ (c .before .before .mark .ensures) (c .before .before .before .before .piece-length .ensures .1 .1 (t .before .loop .at)),
+      ),
+    )
 
 -- all texts are measured
 module _ (c : tie.After-loop Inv-loop μ-loop) where
   total-is : c .before .loop .total ≡ length (textsOf (walkBody (covered (c .before .before .before .args .t4)) (c .before .before .before .args .start) (now (c .before .before .before .args .«data»))))
-  total-is = measuring-end ported _ _ _ _ _ (c .before .loop .inv .1) (omega (arith, all-covered (c .before .before .before))) ∙ sym (all-texts (c .before .before .before))
+  total-is = measuring-end ported _ _ _ _ _ (c .before .loop .inv .1 .0) (omega (arith, all-covered (c .before .before .before))) ∙ sym (all-texts (c .before .before .before))
 
 returns : tie.Need-returns Inv-loop μ-loop
-returns c = needed-none _ _ (textsOf (walkBody (covered (c .before .before .before .before .args .t4)) (c .before .before .before .before .args .start) (now (c .before .before .before .before .args .«data»)))) (total-is (c .before)) (c .if1 .taken)
+returns c = (needed-none _ _ (textsOf (walkBody (covered (c .before .before .before .before .args .t4)) (c .before .before .before .before .args .start) (now (c .before .before .before .before .args .«data»)))) (total-is (c .before)) (c .if1 .taken), c .before .before .loop .inv .1 .1)
 
 returns-2 : tie.Need-returns-2 Inv-loop μ-loop
-returns-2 c = needed-some _ _ (textsOf (walkBody (covered (c .before .before .before .before .args .t4)) (c .before .before .before .before .args .start) (now (c .before .before .before .before .args .«data»)))) (total-is (c .before)) (c .if1 .left)
+returns-2 c = (needed-some _ _ (textsOf (walkBody (covered (c .before .before .before .before .args .t4)) (c .before .before .before .before .args .start) (now (c .before .before .before .before .args .«data»)))) (total-is (c .before)) (c .if1 .left), c .before .before .loop .inv .1 .1)
 
 pub text-needed-spec : {M : Type 1} → statement M
 text-needed-spec =
@@ -127,6 +137,7 @@ text-needed-spec =
     part-piece-length-start
     part-piece-length-end
     piece-length-requires
+    mark-requires
     add-at
     add-total
     add-i

@@ -1,4 +1,9 @@
 -- `piece::items::reading_len` meets its contract: in each arm the reading is known. Assumes nothing.
+use mathlib.Core.Path.{sym, ap, _∙_}
+use mathlib.Core.Bool.{true≢false}
+use denote.Ref.{now}
+use Rattle.conversion.specs.declared.Conversion.{Conversion}
+use Rattle.conversion.specs.Conversion.{textIn}
 use borrow.Author.Needs.{needs}
 use Rattle.piece.proofs.items.reading_len.Statement.{statement}
 use Rattle.piece.proofs.items.reading_len.Tie as tie
@@ -9,6 +14,9 @@ enum-known-reading c = search needs
 text-measure-requires : tie.Need-text-measure-requires
 text-measure-requires c κs = search needs
 
+is-plain-requires : tie.Need-is-plain-requires
+is-plain-requires c κs = search needs
+
 enum-known-reading-2 : tie.Need-enum-known-reading-2
 enum-known-reading-2 c = search needs
 
@@ -16,10 +24,13 @@ decimal-len-requires : tie.Need-decimal-len-requires
 decimal-len-requires c κs = rw (c .before .reading2 .given .1) at (c .before .before .before .before .pre .1)
 
 returns : tie.Need-returns
-returns c = rw (c .before .before .reading .given .1) (c .text-measure .ensures .counts)
+unfolding textIn
+returns c =
+    rw (c .before .before .before .reading .given .1)
+    (c .before .text-measure .ensures .counts, λ h. sym (c .before .text-measure .ensures .alike) ∙ ap (λ (k : Conversion). textIn k (now (c .before .before .before .before .before .before .args .s))) (c .is-plain .ensures h))
 
 returns-2 : tie.Need-returns-2
-returns-2 c = rw (c .before .before .reading2 .given .1) (c .decimal-len .ensures)
+returns-2 c = rw (c .before .before .reading2 .given .1) (c .decimal-len .ensures, λ h. absurd (true≢false (sym h)))
 
 pub reading-len-spec : {M : Type 1} → statement M
 reading-len-spec =
@@ -27,6 +38,7 @@ reading-len-spec =
     (tie.spec
     enum-known-reading
     text-measure-requires
+    is-plain-requires
     enum-known-reading-2
     decimal-len-requires
     returns

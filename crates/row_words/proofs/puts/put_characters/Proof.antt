@@ -6,7 +6,7 @@ use lib.ListN.{length}
 use denote.Ref.{now}
 use Rattle.buffer.specs.Buffer.{written}
 use Rattle.row_words.specs.Passes.{wordsSet}
-use Rattle.row_words.proofs.Characters.{part-reads}
+use Rattle.row_words.proofs.Characters.{part-reads, part-plain}
 use borrow.Author.Needs.{needs}
 use Rattle.row_words.proofs.puts.put_characters.Statement.{statement}
 use Rattle.row_words.proofs.puts.put_characters.Tie as tie
@@ -20,14 +20,11 @@ part-bytes-start c = search needs
 part-bytes-end : tie.Need-part-bytes-end
 part-bytes-end c = search needs
 
-cast-character-conversion : tie.Need-cast-character-conversion
-cast-character-conversion c = search needs
-
-character-conversion-requires : tie.Need-character-conversion-requires
-character-conversion-requires c κs = search needs
+conversion-of-requires : tie.Need-conversion-of-requires
+conversion-of-requires c κs = (c .before .before .before .before .pre .1 .1 .1 .1 .0, λ t. part-plain (c .before .before .before .before .args .second) (c .before .before .before .before .args .from) (c .before .before .before .before .args .used) (now (c .before .before .before .before .args .rest)) (c .before .before .before .before .pre .1 .1 .1 .1 .1 t))
 
 text-write-requires : tie.Need-text-write-requires
-text-write-requires c κs = rw (part-reads (c .before .before .before .before .before .before .args .second) (c .before .before .before .before .before .before .args .from) (c .before .before .before .before .before .before .args .used) (now (c .before .before .before .before .before .before .args .rest)) _ (c .before .character-conversion .ensures)) (c .before .before .before .before .before .before .pre .1 .1 .0)
+text-write-requires c κs = rw (part-reads (c .before .before .before .before .before .before .args .second) (c .before .before .before .before .before .before .args .from) (c .before .before .before .before .before .before .args .used) (now (c .before .before .before .before .before .before .args .rest)) _ (c .before .conversion-of .ensures)) (c .before .before .before .before .before .before .pre .1 .1 .0)
 
 put-words-requires : tie.Need-put-words-requires
 put-words-requires c κs = search needs
@@ -39,7 +36,7 @@ same-length-2 : tie.Need-same-length-2
 same-length-2 c = search needs
 
 returns : tie.Need-returns
-returns c = let e = part-reads (c .before .before .before .before .before .before .before .before .before .before .before .before .before .args .second) (c .before .before .before .before .before .before .before .before .before .before .before .before .before .args .from) (c .before .before .before .before .before .before .before .before .before .before .before .before .before .args .used) (now (c .before .before .before .before .before .before .before .before .before .before .before .before .before .args .rest)) _ (c .before .before .before .before .before .before .before .before .character-conversion .ensures) in
+returns c = let e = part-reads (c .before .before .before .before .before .before .before .before .before .before .before .before .before .args .second) (c .before .before .before .before .before .before .before .before .before .before .before .before .before .args .from) (c .before .before .before .before .before .before .before .before .before .before .before .before .before .args .used) (now (c .before .before .before .before .before .before .before .before .before .before .before .before .before .args .rest)) _ (c .before .before .before .before .before .before .before .before .conversion-of .ensures) in
     (refl, (c .before .before .before .before .before .before .text-write .ensures .0 ∙ ap length e, (c .before .before .before .before .before .before .text-write .ensures .1 ∙ rw e, c .before .before .put-words .ensures ∙ rw (c .before .before .before .before .before .before .text-write .ensures .0 ∙ ap length e))))
 
 pub put-characters-spec : {M : Type 1} → statement M
@@ -49,8 +46,7 @@ put-characters-spec =
     sub-bytes
     part-bytes-start
     part-bytes-end
-    cast-character-conversion
-    character-conversion-requires
+    conversion-of-requires
     text-write-requires
     put-words-requires
     same-length

@@ -10,6 +10,7 @@ use Rattle.rules.specs.Walk.{Piece}
 use Rattle.rules.specs.Row.{pieceValue}
 use Rattle.rules.specs.Conversions.{ported}
 use Rattle.words.specs.Reading.{columnNamed}
+use Rattle.piece.specs.Piece.{PlainPiece}
 use Rattle.piece.proofs.PieceLaws.{leadOf, all-after, null-takes, null-absent, absent-text, lead-within, value-takes, value-stands, value-reads}
 use Rattle.row_words.specs.Passes.{threeSet}
 use Rattle.row_words.proofs.Indicators.{absent-words, null-named, lead-named, plain-takes, plain-stands, plain-reads}
@@ -24,7 +25,7 @@ number-width-requires c κs = search needs
 
 put-number-requires : tie.Need-put-number-requires
 put-number-requires c κs = let t = width-tag (c .before .before .before .before .before .before .args .first) (rw (c .before .before .number-width .ensures) at (c .before .if1 .taken)) in
-    (t .1 .0, (at-most (number-need (c .before .before .before .before .before .before .args .first) (c .before .before .before .before .before .before .args .second) (t .1 .0) (now (c .before .before .before .before .before .before .args .rest)) ∙ plain-takes (c .before .before .before .before .before .before .args .first) (c .before .before .before .before .before .before .args .second) (t .0) (now (c .before .before .before .before .before .before .args .rest))) (c .before .before .before .before .before .before .pre .0), c .before .before .before .before .before .before .pre .1 .1 .1))
+    (t .1 .0, (at-most (number-need (c .before .before .before .before .before .before .args .first) (c .before .before .before .before .before .before .args .second) (t .1 .0) (now (c .before .before .before .before .before .before .args .rest)) ∙ plain-takes (c .before .before .before .before .before .before .args .first) (c .before .before .before .before .before .before .args .second) (t .0) (now (c .before .before .before .before .before .before .args .rest))) (c .before .before .before .before .before .before .pre .0), c .before .before .before .before .before .before .pre .1 .1 .1 .0))
 
 same-length : tie.Need-same-length
 same-length c = search needs
@@ -72,7 +73,7 @@ put-there-requires : tie.Need-put-there-requires
 put-there-requires c κs = let h = null-named (c .before .before .before .before .before .before .before .before .before .before .before .before .args .first) (c .before .before .before .before .before .before .before .before .before .before .before .before .args .second) _ (c .before .before .before .before .before .before .is-nullable .ensures) (now (c .before .before .before .before .before .before .before .before .before .before .before .before .args .rest)) _ _ (c .before .before .before .before .before .is-null .ensures) (c .before .before .before .before .if2 .left) in
     let n = lead-named (c .before .before .before .before .before .before .before .before .before .before .before .before .args .first) (c .before .before .before .before .before .before .before .before .before .before .before .before .args .second) _ (c .before .before .before .before .before .before .is-nullable .ensures) _ (c .before .before .before .lead .ensures .0) in
     let d = columnNamed (c .before .before .before .before .before .before .before .before .before .before .before .before .args .first) (c .before .before .before .before .before .before .before .before .before .before .before .before .args .second) in
-    rw (all-after (c .before .before .before .lead .result) (now (c .before .before .before .before .before .before .before .before .before .before .before .before .args .rest)), n) (omega (arith, value-takes d (now (c .before .before .before .before .before .before .before .before .before .before .before .before .args .rest)) h, length-drop (leadOf d) (now (c .before .before .before .before .before .before .before .before .before .before .before .before .args .rest)), c .before .before .before .before .before .before .before .before .before .before .before .before .pre .0), (omega (arith, length-drop (leadOf d) (now (c .before .before .before .before .before .before .before .before .before .before .before .before .args .rest)), lead-within d (now (c .before .before .before .before .before .before .before .before .before .before .before .before .args .rest)) h, c .before .before .before .before .before .before .before .before .before .before .before .before .pre .1 .0), (subst (λ (t : List ℕ). length t ≤ length (now (c .before .before .before .before .before .before .before .before .before .before .before .before .args .out))) (value-reads d (now (c .before .before .before .before .before .before .before .before .before .before .before .before .args .rest)) h) (c .before .before .before .before .before .before .before .before .before .before .before .before .pre .1 .1 .0), c .before .before .before .before .before .before .before .before .before .before .before .before .pre .1 .1 .1)))
+    rw (all-after (c .before .before .before .lead .result) (now (c .before .before .before .before .before .before .before .before .before .before .before .before .args .rest)), n) (omega (arith, value-takes d (now (c .before .before .before .before .before .before .before .before .before .before .before .before .args .rest)) h, length-drop (leadOf d) (now (c .before .before .before .before .before .before .before .before .before .before .before .before .args .rest)), c .before .before .before .before .before .before .before .before .before .before .before .before .pre .0), (omega (arith, length-drop (leadOf d) (now (c .before .before .before .before .before .before .before .before .before .before .before .before .args .rest)), lead-within d (now (c .before .before .before .before .before .before .before .before .before .before .before .before .args .rest)) h, c .before .before .before .before .before .before .before .before .before .before .before .before .pre .1 .0), (subst (λ (t : List ℕ). length t ≤ length (now (c .before .before .before .before .before .before .before .before .before .before .before .before .args .out))) (value-reads d (now (c .before .before .before .before .before .before .before .before .before .before .before .before .args .rest)) h) (c .before .before .before .before .before .before .before .before .before .before .before .before .pre .1 .1 .0), (c .before .before .before .before .before .before .before .before .before .before .before .before .pre .1 .1 .1 .0, (c .before .before .before .before .before .before .before .before .before .before .before .before .pre .1 .1 .1 .1 .0, λ t. subst PlainPiece (value-stands d (now (c .before .before .before .before .before .before .before .before .before .before .before .before .args .rest)) h (c .before .before .before .before .before .before .before .before .before .before .before .before .args .at)) (c .before .before .before .before .before .before .before .before .before .before .before .before .pre .1 .1 .1 .1 .1 t))))))
 
 add-used : tie.Need-add-used
 add-used c = let h = null-named (c .before .before .before .before .before .before .before .before .before .before .before .before .before .before .before .before .before .before .args .first) (c .before .before .before .before .before .before .before .before .before .before .before .before .before .before .before .before .before .before .args .second) _ (c .before .before .before .before .before .before .before .before .before .before .before .before .is-nullable .ensures) (now (c .before .before .before .before .before .before .before .before .before .before .before .before .before .before .before .before .before .before .args .rest)) _ _ (c .before .before .before .before .before .before .before .before .before .before .before .is-null .ensures) (c .before .before .before .before .before .before .before .before .before .before .if2 .left) in

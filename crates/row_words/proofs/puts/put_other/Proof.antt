@@ -12,7 +12,7 @@ column-named-requires : tie.Need-column-named-requires
 column-named-requires c κs = search needs
 
 value-write-requires : tie.Need-value-write-requires
-value-write-requires c κs = rw (c .before .column-named .ensures) (c .before .before .before .before .before .pre .0, (c .before .before .before .before .before .pre .1 .0, c .before .before .before .before .before .pre .1 .1 .0))
+value-write-requires c κs = rw (c .before .column-named .ensures) (c .before .before .before .before .before .pre .0, (c .before .before .before .before .before .pre .1 .0, (c .before .before .before .before .before .pre .1 .1 .0, c .before .before .before .before .before .pre .1 .1 .1 .1)))
 
 put-value-requires : tie.Need-put-value-requires
 put-value-requires c κs = search needs

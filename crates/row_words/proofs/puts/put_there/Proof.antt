@@ -4,7 +4,7 @@ use native.Mathlib.Omega.{arith}
 use lib.ListN.{length}
 use denote.Ref.{now}
 use Rattle.row_words.proofs.Numbers.{number-need, number-text}
-use Rattle.row_words.proofs.Characters.{at-most, char-reads, date-reads, time-reads, timestamp-reads}
+use Rattle.row_words.proofs.Characters.{at-most, copied, char-reads, date-reads, time-reads, timestamp-reads}
 use borrow.Author.Needs.{needs}
 use Rattle.row_words.proofs.puts.put_there.Statement.{statement}
 use Rattle.row_words.proofs.puts.put_there.Tie as tie
@@ -17,28 +17,28 @@ char-bytes-requires c κs = search needs
 
 put-characters-requires : tie.Need-put-characters-requires
 put-characters-requires c κs = let e = char-reads (c .before .before .before .before .before .before .before .args .first) (c .before .before .before .before .before .before .before .args .second) (now (c .before .before .before .before .before .before .before .args .rest)) (c .before .before .before .match .keys2) in
-    (omega arith, (at-most (c .before .before .char-bytes .ensures ∙ e .takes) (c .before .before .before .before .before .before .before .pre .0), (rw (c .before .before .char-bytes .ensures, e .reads) (c .before .before .before .before .before .before .before .pre .1 .1 .0), c .before .before .before .before .before .before .before .pre .1 .1 .1)))
+    (omega arith, (at-most (c .before .before .char-bytes .ensures ∙ e .takes) (c .before .before .before .before .before .before .before .pre .0), (rw (c .before .before .char-bytes .ensures, e .reads) (c .before .before .before .before .before .before .before .pre .1 .1 .0), (c .before .before .before .before .before .before .before .pre .1 .1 .1 .0, (c .before .before .before .before .before .before .before .pre .1 .1 .1 .1 .0, λ t. rw (c .before .before .char-bytes .ensures) (copied (c .before .before .before .before .before .before .before .args .first) (c .before .before .before .before .before .before .before .args .second) (now (c .before .before .before .before .before .before .before .args .rest)) e (c .before .before .before .before .before .before .before .args .at) (c .before .before .before .before .before .before .before .pre .1 .1 .1 .1 .1 t)))))))
 
 put-varchar-requires : tie.Need-put-varchar-requires
 put-varchar-requires c κs = search needs
 
 put-characters-requires-2 : tie.Need-put-characters-requires-2
 put-characters-requires-2 c κs = let e = date-reads (c .before .before .before .before .before .before .args .first) (c .before .before .before .before .before .before .args .second) (now (c .before .before .before .before .before .before .args .rest)) (c .before .before .match .keys4) in
-    (omega arith, (at-most (e .takes) (c .before .before .before .before .before .before .pre .0), (rw (e .reads) (c .before .before .before .before .before .before .pre .1 .1 .0), c .before .before .before .before .before .before .pre .1 .1 .1)))
+    (omega arith, (at-most (e .takes) (c .before .before .before .before .before .before .pre .0), (rw (e .reads) (c .before .before .before .before .before .before .pre .1 .1 .0), (c .before .before .before .before .before .before .pre .1 .1 .1 .0, (c .before .before .before .before .before .before .pre .1 .1 .1 .1 .0, λ t. copied (c .before .before .before .before .before .before .args .first) (c .before .before .before .before .before .before .args .second) (now (c .before .before .before .before .before .before .args .rest)) e (c .before .before .before .before .before .before .args .at) (c .before .before .before .before .before .before .pre .1 .1 .1 .1 .1 t))))))
 
 put-characters-requires-3 : tie.Need-put-characters-requires-3
 put-characters-requires-3 c κs = let e = time-reads (c .before .before .before .before .before .before .args .first) (c .before .before .before .before .before .before .args .second) (now (c .before .before .before .before .before .before .args .rest)) (c .before .before .match .keys5) in
-    (omega arith, (at-most (e .takes) (c .before .before .before .before .before .before .pre .0), (rw (e .reads) (c .before .before .before .before .before .before .pre .1 .1 .0), c .before .before .before .before .before .before .pre .1 .1 .1)))
+    (omega arith, (at-most (e .takes) (c .before .before .before .before .before .before .pre .0), (rw (e .reads) (c .before .before .before .before .before .before .pre .1 .1 .0), (c .before .before .before .before .before .before .pre .1 .1 .1 .0, (c .before .before .before .before .before .before .pre .1 .1 .1 .1 .0, λ t. copied (c .before .before .before .before .before .before .args .first) (c .before .before .before .before .before .before .args .second) (now (c .before .before .before .before .before .before .args .rest)) e (c .before .before .before .before .before .before .args .at) (c .before .before .before .before .before .before .pre .1 .1 .1 .1 .1 t))))))
 
 timestamp-bytes-requires : tie.Need-timestamp-bytes-requires
 timestamp-bytes-requires c κs = search needs
 
 put-characters-requires-4 : tie.Need-put-characters-requires-4
 put-characters-requires-4 c κs = let e = timestamp-reads (c .before .before .before .before .before .before .before .args .first) (c .before .before .before .before .before .before .before .args .second) (now (c .before .before .before .before .before .before .before .args .rest)) (c .before .before .before .match .keys6) in
-    (omega arith, (at-most (c .before .before .timestamp-bytes .ensures .0 ∙ e .takes) (c .before .before .before .before .before .before .before .pre .0), (rw (c .before .before .timestamp-bytes .ensures .0, e .reads) (c .before .before .before .before .before .before .before .pre .1 .1 .0), c .before .before .before .before .before .before .before .pre .1 .1 .1)))
+    (omega arith, (at-most (c .before .before .timestamp-bytes .ensures .0 ∙ e .takes) (c .before .before .before .before .before .before .before .pre .0), (rw (c .before .before .timestamp-bytes .ensures .0, e .reads) (c .before .before .before .before .before .before .before .pre .1 .1 .0), (c .before .before .before .before .before .before .before .pre .1 .1 .1 .0, (c .before .before .before .before .before .before .before .pre .1 .1 .1 .1 .0, λ t. rw (c .before .before .timestamp-bytes .ensures .0) (copied (c .before .before .before .before .before .before .before .args .first) (c .before .before .before .before .before .before .before .args .second) (now (c .before .before .before .before .before .before .before .args .rest)) e (c .before .before .before .before .before .before .before .args .at) (c .before .before .before .before .before .before .before .pre .1 .1 .1 .1 .1 t)))))))
 
 put-number-requires : tie.Need-put-number-requires
-put-number-requires c κs = (omega (arith, c .before .if1 .taken), (at-most (number-need (c .before .before .before .before .before .before .args .first) (c .before .before .before .before .before .before .args .second) (omega (arith, c .before .if1 .taken)) (now (c .before .before .before .before .before .before .args .rest))) (c .before .before .before .before .before .before .pre .0), c .before .before .before .before .before .before .pre .1 .1 .1))
+put-number-requires c κs = (omega (arith, c .before .if1 .taken), (at-most (number-need (c .before .before .before .before .before .before .args .first) (c .before .before .before .before .before .before .args .second) (omega (arith, c .before .if1 .taken)) (now (c .before .before .before .before .before .before .args .rest))) (c .before .before .before .before .before .before .pre .0), c .before .before .before .before .before .before .pre .1 .1 .1 .0))
 
 put-other-requires : tie.Need-put-other-requires
 put-other-requires c κs = search needs

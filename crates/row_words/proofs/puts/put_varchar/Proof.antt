@@ -2,7 +2,7 @@
 use mathlib.Core.Path.{refl, sym, ap, _∙_}
 use lib.ListN.{length}
 use denote.Ref.{now}
-use Rattle.row_words.proofs.Characters.{at-most, varchar-reads}
+use Rattle.row_words.proofs.Characters.{at-most, copied, varchar-reads}
 use borrow.Author.Needs.{needs}
 use Rattle.row_words.proofs.puts.put_varchar.Statement.{statement}
 use Rattle.row_words.proofs.puts.put_varchar.Tie as tie
@@ -27,7 +27,7 @@ counted-bytes-requires c κs = (c .before .before .before .before .before .pre .
 
 put-characters-requires : tie.Need-put-characters-requires
 put-characters-requires c κs = let e = varchar-reads (c .before .before .before .before .before .before .before .before .args .first) (c .before .before .before .before .before .before .before .before .args .second) (now (c .before .before .before .before .before .before .before .before .args .rest)) (c .before .before .before .before .before .before .before .before .pre .0) (sym (c .before .before .before .before .is-header .ensures) ∙ c .before .before .before .if1 .left) _ (c .before .before .counted-bytes .ensures .0 (c .before .before .before .before .before .before .before .before .args .second)) in
-    (c .before .before .counted-bytes .ensures .1 .0, (at-most (e .takes) (c .before .before .before .before .before .before .before .before .pre .1 .0), (rw (e .reads) (c .before .before .before .before .before .before .before .before .pre .1 .1 .1 .0), c .before .before .before .before .before .before .before .before .pre .1 .1 .1 .1)))
+    (c .before .before .counted-bytes .ensures .1 .0, (at-most (e .takes) (c .before .before .before .before .before .before .before .before .pre .1 .0), (rw (e .reads) (c .before .before .before .before .before .before .before .before .pre .1 .1 .1 .0), (c .before .before .before .before .before .before .before .before .pre .1 .1 .1 .1 .0, (c .before .before .before .before .before .before .before .before .pre .1 .1 .1 .1 .1 .0, λ t. copied (c .before .before .before .before .before .before .before .before .args .first) (c .before .before .before .before .before .before .before .before .args .second) (now (c .before .before .before .before .before .before .before .before .args .rest)) e (c .before .before .before .before .before .before .before .before .args .at) (c .before .before .before .before .before .before .before .before .pre .1 .1 .1 .1 .1 .1 t))))))
 
 same-length-3 : tie.Need-same-length-3
 same-length-3 c = search needs

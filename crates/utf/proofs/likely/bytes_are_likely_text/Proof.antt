@@ -1,29 +1,32 @@
--- `utf::likely::bytes_are_likely_text` meets its contract. The loop's invariant: the answer from e on is the answer. Assumes nothing.
-use Prim.Native.Nat.{ℕ, _+_, _-_, _<_, _≤_}
-use mathlib.Core.Path.{_≡_, refl, sym, _∙_}
+-- `utf::likely::bytes_are_likely_text` meets its contract. The loop's invariant: the pieces before e are such as a likely text may have. Assumes nothing.
+use Prim.Native.Nat.{_-_}
+use mathlib.Core.Path.{sym, _∙_}
 use native.Mathlib.Omega.{arith}
 use borrow.Author.Needs.{needs}
-use denote.Ref.{now}
-use lib.ListN.{length, drop}
-use Rattle.unicode.specs.Likely.{likelyText}
+use lib.ListN.{length}
+use Rattle.utf.specs.LikelyCode.{LikelyRun}
 use Rattle.utf.proofs.LikelyLaws.{likely-end}
+use Rattle.utf.proofs.LikelyBlockLaws.{likely-next-piece}
 use Rattle.utf.proofs.likely.bytes_are_likely_text.Statement.{statement}
 use Rattle.utf.proofs.likely.bytes_are_likely_text.Tie as tie
 
 abbrev Inv-loop : tie.InvT-loop
-Inv-loop s e₀ e = (e ≤ length s) × (likelyText s ≡ likelyText (drop e s))
+Inv-loop s e₀ e = LikelyRun e s
 
 abbrev μ-loop : tie.MeasureT-loop
 μ-loop s e₀ e = length s - e
 
+likely-start-requires : tie.Need-likely-start-requires Inv-loop μ-loop
+likely-start-requires c κs = search needs
+
 loop-holds : tie.Need-loop-holds Inv-loop μ-loop
-loop-holds c = (omega arith, refl)
+loop-holds c = c .likely-start .ensures
 
 likely-at-requires : tie.Need-likely-at-requires Inv-loop μ-loop
 likely-at-requires c κs = omega arith
 
 returns : tie.Need-returns Inv-loop μ-loop
-returns c = sym (c .before .before .before .loop .inv .1 ∙ c .before .likely-at .ensures .none (c .if1 .taken))
+returns c = sym (c .before .before .before .loop .inv .same ∙ c .before .likely-at .ensures .none (c .if1 .taken))
 
 add-e : tie.Need-add-e Inv-loop μ-loop
 add-e c = omega (arith, c .before .likely-at .ensures .fits)
@@ -32,10 +35,22 @@ loop-less : tie.Need-loop-less Inv-loop μ-loop
 loop-less c = omega (arith, c .before .likely-at .ensures .fits, c .if1 .left)
 
 loop-again : tie.Need-loop-again Inv-loop μ-loop
-loop-again c = (c .before .likely-at .ensures .fits, c .before .before .before .loop .inv .1 ∙ c .before .likely-at .ensures .some (omega (arith, c .if1 .left)))
+loop-again c = likely-next-piece _ _ _ (c .before .before .before .loop .inv) (c .before .likely-at .ensures) (omega (arith, c .if1 .left))
 
 returns-2 : tie.Need-returns-2 Inv-loop μ-loop
-returns-2 c = likely-end _ _ (c .loop-test .left) ∙ sym (c .before .loop .inv .1)
+returns-2 c = likely-end _ _ (c .loop-test .left) ∙ sym (c .before .loop .inv .same)
 
 pub bytes-are-likely-text-spec : {M : Type 1} → statement M
-bytes-are-likely-text-spec = tie.close (tie.spec Inv-loop μ-loop loop-holds likely-at-requires returns add-e loop-less loop-again returns-2)
+bytes-are-likely-text-spec =
+    tie.close
+    (tie.spec
+    Inv-loop
+    μ-loop
+    likely-start-requires
+    loop-holds
+    likely-at-requires
+    returns
+    add-e
+    loop-less
+    loop-again
+    returns-2)

@@ -1,36 +1,41 @@
 -- `utf::utf16::utf16_lossy_write` meets its contract. The loop's invariant: what is not yet written is the text from i on. Assumes nothing.
 use Prim.Native.Nat.{ℕ, _+_, _-_, _≤_}
 use mathlib.Core.List.{List, _++_}
-use mathlib.Core.Path.{_≡_, refl}
+use mathlib.Core.Path.{_≡_, refl, ap, _∙_}
 use denote.Ref.{now}
 use lib.ListN.{length, take, drop}
 use Rattle.buffer.specs.Buffer.{written}
+use Rattle.buffer.specs.Filling.{Filling}
 use Rattle.unicode.specs.Unicode.{utf8, utf16Text}
 use Rattle.utf.specs.Utf16Code.{Utf16Next}
-use Rattle.buffer.proofs.Writing.{Writing, start, wrote-rest, fits, fits-rest, as-long, all, end}
+use Rattle.buffer.proofs.Filling.{again, wrote-text, fits, fits-rest, all, end}
 use Rattle.utf.proofs.AsciiLaws.{rest-length}
 use Rattle.utf.proofs.Utf16Laws.{below-surrogates, utf16-end}
 use native.Mathlib.Omega.{arith}
+use borrow.Author.Needs.{needs}
 use Rattle.utf.proofs.utf16.utf16_lossy_write.Statement.{statement}
 use Rattle.utf.proofs.utf16.utf16_lossy_write.Tie as tie
 
 abbrev Inv-loop : tie.InvT-loop
-Inv-loop s out₀ o₀ i₀ out o i = (i ≤ length s) × Writing (utf16Text s) out₀ (utf16Text (drop i s)) out o
+Inv-loop s out₀ o₀ i₀ out o i = (i ≤ length s) × Filling (utf16Text s) out₀ (utf16Text (drop i s)) out o
 
 abbrev μ-loop : tie.MeasureT-loop
 μ-loop s out₀ o₀ i₀ out o i = length s - i
 
 -- the scalar value v, of n bytes, stands at i, and is written at o
-module _ {s d out : List ℕ} {i o v n : ℕ} (w : Writing (utf16Text s) d (utf16Text (drop i s)) out o) (t : Utf16Next s i v n) where
+module _ {s d out : List ℕ} {i o v n : ℕ} (w : Filling (utf16Text s) d (utf16Text (drop i s)) out o) (t : Utf16Next s i v n) where
   room : length (utf8 v) ≤ length (take (length out - o) (drop o out))
   room = fits-rest w (utf8 v) (utf16Text (drop (i + n) s)) (t .here) refl
 
   wrote-scalar : (ys : List ℕ) → ys ≡ written (utf8 v) (take (length out - o) (drop o out)) → (m : ℕ) → m ≡ length (utf8 v)
-      → Writing (utf16Text s) d (utf16Text (drop (i + n) s)) (take o out ++ (ys ++ drop (length out - o) (drop o out))) (o + m)
-  wrote-scalar ys q m e = wrote-rest w (utf8 v) (utf16Text (drop (i + n) s)) (t .here) ys q m e
+      → Filling (utf16Text s) d (utf16Text (drop (i + n) s)) (take o out ++ (ys ++ drop (length out - o) (drop o out))) (o + m)
+  wrote-scalar ys q m e = wrote-text w (utf8 v) (utf16Text (drop (i + n) s)) (t .here) ys q m e
+
+write-varied-requires : tie.Need-write-varied-requires Inv-loop μ-loop
+write-varied-requires c κs = search needs
 
 loop-holds : tie.Need-loop-holds Inv-loop μ-loop
-loop-holds c = (omega arith, start _ _ (c .before .before .pre))
+loop-holds c = (c .before .before .write-varied .ensures .1, again (c .before .before .write-varied .ensures .0))
 
 add-loop : tie.Need-add-loop Inv-loop μ-loop
 add-loop c = omega arith
@@ -39,7 +44,7 @@ unit-at-requires : tie.Need-unit-at-requires Inv-loop μ-loop
 unit-at-requires c κs = omega arith
 
 -- a unit below the surrogates
-next : (c : tie.Then1 Inv-loop μ-loop) → Utf16Next (now (c .before .before .before .before .before .before .args .s)) (c .before .before .before .loop .i) (c .before .unit-at .result) 2
+next : (c : tie.Then1 Inv-loop μ-loop) → Utf16Next (now (c .before .before .before .before .before .before .before .before .before .before .args .s)) (c .before .before .before .loop .i) (c .before .unit-at .result) 2
 next c = below-surrogates _ _ (c .before .before .loop-test .taken) _ (c .before .unit-at .ensures .0) (c .if1 .taken)
 
 sub-write-scalar : tie.Need-sub-write-scalar Inv-loop μ-loop
@@ -55,7 +60,7 @@ write-scalar-requires : tie.Need-write-scalar-requires Inv-loop μ-loop
 write-scalar-requires c κs = (next (c .before) .scalar, room (c .before .before .before .before .loop .inv .1) (next (c .before)))
 
 add-o : tie.Need-add-o Inv-loop μ-loop
-add-o c = omega (arith, room (c .before .before .before .before .before .before .before .loop .inv .1) (next (c .before .before .before .before)), rest-length (c .before .before .before .before .before .before .before .loop .out) (c .before .before .before .before .before .before .before .loop .o), as-long (c .before .before .before .before .before .before .before .loop .inv .1), c .before .before .write-scalar .ensures .0)
+add-o c = omega (arith, room (c .before .before .before .before .before .before .before .loop .inv .1) (next (c .before .before .before .before)), rest-length (c .before .before .before .before .before .before .before .loop .out) (c .before .before .before .before .before .before .before .loop .o), c .before .before .before .before .before .before .before .loop .inv .1 .long, c .before .before .write-scalar .ensures .0)
 
 add-i : tie.Need-add-i Inv-loop μ-loop
 add-i c = omega (arith, next (c .before .before .before .before) .fits)
@@ -82,7 +87,7 @@ write-scalar-requires-2 : tie.Need-write-scalar-requires-2 Inv-loop μ-loop
 write-scalar-requires-2 c κs = (c .before .above-at .ensures .scalar, room (c .before .before .before .before .before .loop .inv .1) (c .before .above-at .ensures))
 
 add-o-2 : tie.Need-add-o-2 Inv-loop μ-loop
-add-o-2 c = omega (arith, room (c .before .before .before .before .before .before .before .before .loop .inv .1) (c .before .before .before .before .above-at .ensures), rest-length (c .before .before .before .before .before .before .before .before .loop .out) (c .before .before .before .before .before .before .before .before .loop .o), as-long (c .before .before .before .before .before .before .before .before .loop .inv .1), c .before .before .write-scalar2 .ensures .0)
+add-o-2 c = omega (arith, room (c .before .before .before .before .before .before .before .before .loop .inv .1) (c .before .before .before .before .above-at .ensures), rest-length (c .before .before .before .before .before .before .before .before .loop .out) (c .before .before .before .before .before .before .before .before .loop .o), c .before .before .before .before .before .before .before .before .loop .inv .1 .long, c .before .before .write-scalar2 .ensures .0)
 
 add-i-2 : tie.Need-add-i-2 Inv-loop μ-loop
 add-i-2 c = omega (arith, c .before .before .before .before .before .above-at .ensures .fits)
@@ -94,12 +99,12 @@ loop-again-2 : tie.Need-loop-again-2 Inv-loop μ-loop
 loop-again-2 c = (c .before .before .before .before .before .above-at .ensures .fits, wrote-scalar (c .before .before .before .before .before .before .before .before .before .loop .inv .1) (c .before .before .before .before .before .above-at .ensures) (c .before .before .before .write-scalar2 .last .1 .0) (c .before .before .before .write-scalar2 .ensures .1) (c .before .before .before .write-scalar2 .result) (c .before .before .before .write-scalar2 .ensures .0))
 
 same-length : tie.Need-same-length Inv-loop μ-loop
-same-length c = as-long (c .before .loop .inv .1)
+same-length c = c .before .loop .inv .1 .long ∙ c .before .before .before .before .write-varied .ensures .0 .long
 
 returns : tie.Need-returns Inv-loop μ-loop
 returns c =
     let done = utf16-end _ _ (c .loop-test .left) in
-    (all (c .before .loop .inv .1) done, end (c .before .loop .inv .1) done)
+    (all (c .before .loop .inv .1) done, end (c .before .loop .inv .1) done ∙ ap (λ (x : List ℕ). utf16Text (now (c .before .before .before .before .before .before .before .before .args .s)) ++ x) (c .before .before .before .before .write-varied .ensures .0 .back))
 
 pub utf16-lossy-write-spec : {M : Type 1} → statement M
 utf16-lossy-write-spec =
@@ -107,6 +112,7 @@ utf16-lossy-write-spec =
     (tie.spec
     Inv-loop
     μ-loop
+    write-varied-requires
     loop-holds
     add-loop
     unit-at-requires

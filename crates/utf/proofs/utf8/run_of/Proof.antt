@@ -4,7 +4,7 @@ use mathlib.Core.Path.{sym}
 use denote.Ref.{now}
 use lib.ListN.{length}
 use Rattle.utf.specs.Utf8Code.{Good}
-use Rattle.utf.proofs.Utf8Runs.{ascii-good, good-more, good-at, stop-at, stop-end, ascii-good-at}
+use Rattle.utf.proofs.Utf8Runs.{good-more, good-at, stop-at, stop-end, ascii-good-at}
 use borrow.Author.Needs.{needs}
 use native.Mathlib.Omega.{arith}
 use Rattle.utf.proofs.utf8.run_of.Statement.{statement}
@@ -16,11 +16,11 @@ Inv-loop s e₀ e = Good e s
 abbrev μ-loop : tie.MeasureT-loop
 μ-loop s e₀ e = length s - e
 
-ascii-long-blocks-requires : tie.Need-ascii-long-blocks-requires Inv-loop μ-loop
-ascii-long-blocks-requires c κs = search needs
+good-start-requires : tie.Need-good-start-requires Inv-loop μ-loop
+good-start-requires c κs = search needs
 
 loop-holds : tie.Need-loop-holds Inv-loop μ-loop
-loop-holds c = ascii-good _ _ (c .ascii-long-blocks .ensures)
+loop-holds c = c .good-start .ensures
 
 sub-ascii-run : tie.Need-sub-ascii-run Inv-loop μ-loop
 sub-ascii-run c = omega (arith, c .loop .inv .fits)
@@ -73,7 +73,7 @@ run-of-spec =
     (tie.spec
     Inv-loop
     μ-loop
-    ascii-long-blocks-requires
+    good-start-requires
     loop-holds
     sub-ascii-run
     part-ascii-run-start

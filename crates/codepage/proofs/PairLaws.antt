@@ -11,7 +11,7 @@ use lib.Seq.{take-suc, take-suc-set, take-all}
 use Rattle.unicode.specs.Unicode.{utf8}
 use Rattle.unicode.proofs.ScalarBytes.{utf8-one, utf8-two}
 use Rattle.codepage.specs.CodePage.{table037, codePoint037}
-use Rattle.codepage.specs.Pairs.{pairOf, pairs037}
+use Rattle.codepage.specs.Pairs.{utf8Pair, pairs037}
 use native.Mathlib.Numerals.{add-one}
 
 map-at : (f : ℕ → ℕ) (l : List ℕ) (k : ℕ) → k < length l → getD (map f l) k 0 ≡ f (getD l k 0)
@@ -27,13 +27,13 @@ pairs-size : length pairs037 ≡ 256
 unfolding table037 pairs037
 pairs-size = refl
 
-pub pair-at : (b : ℕ) → b < 256 → getD pairs037 b 0 ≡ pairOf (codePoint037 b)
+pub pair-at : (b : ℕ) → b < 256 → getD pairs037 b 0 ≡ utf8Pair (codePoint037 b)
 unfolding pairs037 codePoint037
-pair-at b h = map-at pairOf table037 b (omega (arith, table-size))
+pair-at b h = map-at utf8Pair table037 b (omega (arith, table-size))
 
 -- A table that is made from its first entry on: one entry more, and the whole
 module _ (l : List ℕ) (size : length l ≡ 256) (i : ℕ) (made : take i l ≡ take i pairs037) where
-  pub made-next : i < 256 → (t : ℕ) → t ≡ pairOf (codePoint037 i) → take (i + 1) (set l i t) ≡ take (i + 1) pairs037
+  pub made-next : i < 256 → (t : ℕ) → t ≡ utf8Pair (codePoint037 i) → take (i + 1) (set l i t) ≡ take (i + 1) pairs037
   made-next h t e =
       let k : i < length l = omega arith in
       let m : i < length pairs037 = omega (arith, pairs-size) in
@@ -43,13 +43,13 @@ module _ (l : List ℕ) (size : length l ≡ 256) (i : ℕ) (made : take i l ≡
   made-all h = rw (take-all i l (omega arith), take-all i pairs037 (omega (arith, pairs-size))) at made
 
 -- the pair t of a code point v
-module _ (v : ℕ) (h : v < 0x100) (t : ℕ) (e : t ≡ pairOf v) where
+module _ (v : ℕ) (h : v < 0x100) (t : ℕ) (e : t ≡ utf8Pair v) where
   one : v < 0x80 → t ≡ v
-  unfolding pairOf
+  unfolding utf8Pair
   one k = e ∙ rw (lt-ltb v 0x80 k)
 
   two : 0x80 ≤ v → t ≡ 0xC0 + v / 64 + 256 * (0x80 + v % 64)
-  unfolding pairOf
+  unfolding utf8Pair
   two k = e ∙ rw (le-ltb v 0x80 k)
 
   pub pair-first : t % 256 ≡ getD (utf8 v) 0 0

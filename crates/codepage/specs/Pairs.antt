@@ -6,8 +6,8 @@ use lib.Dec.{ltb}
 use Rattle.codepage.specs.CodePage.{table037}
 
 -- the one byte, or the first and 256 times the second
-unfoldable pub pairOf : ℕ → ℕ
-pairOf v = cond (ltb v 0x80) v (0xC0 + v / 64 + 256 * (0x80 + v % 64))
+unfoldable pub utf8Pair : ℕ → ℕ
+utf8Pair v = cond (ltb v 0x80) v (0xC0 + v / 64 + 256 * (0x80 + v % 64))
 
 unfoldable pub pairs037 : List ℕ
-pairs037 = map pairOf table037
+pairs037 = map utf8Pair table037

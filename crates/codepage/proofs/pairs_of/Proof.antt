@@ -5,7 +5,7 @@ use native.Mathlib.Omega.{arith}
 use borrow.Author.Needs.{needs}
 use lib.ListN.{length, take, length-set}
 use Rattle.codepage.specs.CodePage.{codePoint037}
-use Rattle.codepage.specs.Pairs.{pairOf, pairs037}
+use Rattle.codepage.specs.Pairs.{utf8Pair, pairs037}
 use Rattle.codepage.proofs.CodePage037.{code-point-small}
 use Rattle.codepage.proofs.PairLaws.{made-next, made-all}
 use Rattle.codepage.proofs.pairs_of.Statement.{statement}
@@ -43,7 +43,7 @@ loop-less : tie.Need-loop-less Inv-loop μ-loop
 loop-less c = search needs
 
 -- the entry that is stored
-entry : (c : tie.After-pair-of Inv-loop μ-loop) → c .pair-of .result ≡ pairOf (codePoint037 (c .before .before .before .loop .i))
+entry : (c : tie.After-pair-of Inv-loop μ-loop) → c .pair-of .result ≡ utf8Pair (codePoint037 (c .before .before .before .loop .i))
 unfolding codePoint037
 entry c = rw (c .before .before .before .before .pre) at (c .pair-of .ensures)
 

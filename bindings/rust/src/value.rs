@@ -81,11 +81,14 @@ impl<'a> Value<'a> {
         }
     }
 
-    /// The number of a Real or Double.
+    /// The number of a Real, Double, SmallInt, Integer or BigInt. A BigInt that no `f64` holds is rounded to the nearest one.
     pub fn as_f64(self) -> Option<f64> {
         match self {
             Value::Real(x) => Some(x.into()),
             Value::Double(x) => Some(x),
+            Value::SmallInt(n) => Some(n.into()),
+            Value::Integer(n) => Some(n.into()),
+            Value::BigInt(n) => Some(n as f64),
             _ => None,
         }
     }

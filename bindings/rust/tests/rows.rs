@@ -125,6 +125,26 @@ fn values_of_every_sort() {
     assert!(matches!(row.value(4), Value::Double(x) if x.is_sign_negative()));
 }
 
+/// `as_i64` and `as_f64` take the values that the published Rust's take, of each sort.
+#[test]
+fn numbers_of_every_sort() {
+    for value in VALUES {
+        let float = match value {
+            Value::SmallInt(n) => Some(f64::from(n)),
+            Value::Integer(n) => Some(f64::from(n)),
+            Value::BigInt(n) => Some(n as f64),
+            Value::Real(x) => Some(f64::from(x)),
+            Value::Double(x) => Some(x),
+            _ => None,
+        };
+        assert_eq!(value.as_f64(), float);
+        assert_eq!(value.as_i64().is_some(), matches!(value, Value::SmallInt(_) | Value::Integer(_) | Value::BigInt(_)));
+    }
+    assert_eq!(Value::SmallInt(-2).as_f64(), Some(-2.0));
+    assert_eq!(Value::BigInt(i64::MAX).as_f64(), Some(9_223_372_036_854_775_808.0));
+    assert_eq!(Value::Boolean(true).as_f64(), None);
+}
+
 /// Of each sort of the words, and of one that there is none of: the part of the row or of the texts, or an empty one.
 #[test]
 fn bytes_of_words() {

@@ -1,12 +1,12 @@
-// Inner. The calls by value, for the benchmarks: each hands one number of its answer to C, so that the answer has to be made. It promises nothing
-// that the calls themselves do not.
+// Inner. For the benchmark alone: the calls by value, each of which hands one number of its answer to C, so that the answer has to be made. It promises
+// nothing that the calls themselves do not.
 use types::MAX_COLUMNS;
 use words::value_words;
 ghost use mathlib.Core.Path.{_≡_};
 ghost use Prim.Native.Nat.{_%_};
 ghost use Rattle.types.specs.Places.{maxColumns};
 ghost use Rattle.qrydsc.specs.Qrydsc.{description};
-ghost use Rattle.rules.specs.Conversions.{rowAnswer};
+ghost use Rattle.rules.specs.Conversions.{rowAnswer, rowText};
 ghost use Rattle.by_value.specs.ByValue.{lengthAt, numberAt};
 
 // The length of the column at a place of the list. The place is not known to the compiler: so every column is written.
@@ -33,8 +33,8 @@ pub extern "C" fn by_value_count_columns(data: &[u8]) -> u64
 }
 
 // The number of the value at a place of a row's answer. The description is read once; the row is decoded once and then `rounds` times again, each time
-// from the input: so what the columns cost is not counted in. decode_row has two callers here, and is not compiled into either. The promise is on the
-// number alone: it says nothing of what is left in `text`.
+// from the input: so what the columns cost is not counted in. decode_row has two callers here, and is not compiled into either. Each round leaves in
+// `text` what the first one left.
 #[no_mangle]
 pub extern "C" fn by_value_decode_row(
     described: &[u8],
@@ -43,7 +43,8 @@ pub extern "C" fn by_value_decode_row(
     rounds: u64,
     index: u64,
 ) -> u64
-    ensures { λ r. ⌜ r ≡ numberAt (rowAnswer (description (now (described .entry)) .columns) (now (row .entry)) (now (text .entry))) (index % maxColumns) ⌝ }
+    ensures number { λ r. ⌜ r ≡ numberAt (rowAnswer (description (now (described .entry)) .columns) (now (row .entry)) (now (text .entry))) (index % maxColumns) ⌝ }
+    ensures text { λ _. ⌜ now (text .exit) ≡ rowText (description (now (described .entry)) .columns) (now (row .entry)) (now (text .entry)) ⌝ }
 {
     let d = qrydsc::parse_qrydsc(described);
     let columns = d.columns;

@@ -1,14 +1,20 @@
-// Program. Runs the cases A to P of document 01, "At the edges", and prints a line for each: its letter, and `same` where the whole outcome is the
-// one in the table, else `differs`. The table is that of the crate `edges`, where the outcomes are proved, written again; here the compiled calls are run on the
-// same bytes: the description's outcome, the row call's outcome with its values, all 128 value places with their flags, the bytes used, every byte of
-// the text buffer, and the bytes of each column's value.
+// Program. Runs the cases A to P of docs/RULES.md, "At the edges", and prints a line for each: its letter, and `same` where the whole outcome is the
+// one in the table, else `differs`. The outcomes are proved in the crate `edges`; here the compiled calls are run on the same bytes: the description's
+// outcome, the row call's outcome with its values, all 128 value places with their flags, the bytes used, every byte of the text buffer, and the bytes
+// of each column's value. What a case is given, and what is expected of it, is written again below: each call of `one`, `two`, `too_short` and
+// `packed_decimal` requires that it is a row of the proved table, and is proved to meet that.
 use check::same;
+use refusal::BUFFER_TOO_SHORT;
 use refusal::Outcome;
 use types::Db2Value;
 use types::MAX_COLUMNS;
 use types::Place;
 use types::RowAnswer;
 use types::ValuePlace;
+ghost use mathlib.Core.Path.{_≡_};
+ghost use mathlib.Core.List.{[], _∷_};
+ghost use Rattle.rules.specs.Row.{place};
+ghost use Rattle.edges.specs.Edges.{Given, values, tooShort, textOutcome, within, external, IsEdge};
 
 // The text buffer that each case is given: 24 bytes, all of them AA.
 const TEXT: usize = 24;
@@ -41,21 +47,27 @@ fn decode(description: &[u8], row: &[u8]) -> Decoded {
 }
 
 // A value within the row, and one that refers to data outside it.
-fn within(value: Db2Value) -> ValuePlace {
+fn within(value: Db2Value) -> ValuePlace
+    ensures { λ r. ⌜ r ≡ within value ⌝ }
+{
     ValuePlace {
         value,
         external: false,
     }
 }
 
-fn external(value: Db2Value) -> ValuePlace {
+fn external(value: Db2Value) -> ValuePlace
+    ensures { λ r. ⌜ r ≡ external value ⌝ }
+{
     ValuePlace {
         value,
         external: true,
     }
 }
 
-fn place(start: usize, len: usize) -> Place {
+fn place(start: usize, len: usize) -> Place
+    ensures { λ r. ⌜ r ≡ place start len ⌝ }
+{
     Place { start, len }
 }
 
@@ -68,7 +80,7 @@ fn is_accepted(outcome: Outcome) -> bool {
 
 // Whether an outcome is the refusal 8 with these two values.
 fn is_too_short(outcome: Outcome, expected: usize, actual: usize) -> bool {
-    if outcome.number() != 8 {
+    if outcome.number() != BUFFER_TOO_SHORT {
         return false;
     }
     if outcome.first_value() != expected {
@@ -213,7 +225,7 @@ fn is_accepted_row(
 }
 
 // A description of one column and a row: its value, the texts, the bytes of the value, the bytes used.
-fn one(
+fn is_one(
     description: &[u8],
     row: &[u8],
     value: ValuePlace,
@@ -230,7 +242,7 @@ fn one(
 }
 
 // A description of two columns, the first a number or Null, and a row.
-fn two(
+fn are_two(
     description: &[u8],
     row: &[u8],
     first: ValuePlace,
@@ -251,7 +263,7 @@ fn two(
 }
 
 // A description of one column and a row that is too short for it: all places are blank, no byte is used or written.
-fn too_short(description: &[u8], row: &[u8], expected: usize, actual: usize) -> bool {
+fn is_short(description: &[u8], row: &[u8], expected: usize, actual: usize) -> bool {
     let d = decode(description, row);
     let parsed = d.description;
     let answer = d.answer;
@@ -280,7 +292,7 @@ fn too_short(description: &[u8], row: &[u8], expected: usize, actual: usize) -> 
 }
 
 // A packed decimal of this scale, and its text.
-fn packed_decimal(data: &[u8], scale: u8, want: &[u8]) -> bool {
+fn is_decimal(data: &[u8], scale: u8, want: &[u8]) -> bool {
     let mut text = [BEFORE; TEXT];
     let a = decimal::decode_packed_decimal(data, PRECISION, scale, &mut text);
     let outcome = a.outcome;
@@ -293,13 +305,61 @@ fn packed_decimal(data: &[u8], scale: u8, want: &[u8]) -> bool {
     has_text(text, want)
 }
 
-fn tell(letter: &[u8], is_same: bool) {
-    io::write_all(libc::STDOUT_FILENO, letter);
+fn tell(letter: u8, is_same: bool) {
+    io::write_all(libc::STDOUT_FILENO, &[letter]);
     if is_same {
         io::write_all(libc::STDOUT_FILENO, b" same\n");
         return;
     }
     io::write_all(libc::STDOUT_FILENO, b" differs\n");
+}
+
+// A case of one column.
+fn one(
+    letter: u8,
+    description: &[u8],
+    row: &[u8],
+    value: ValuePlace,
+    texts: &[u8],
+    bytes: &[u8],
+    used: usize,
+)
+    requires { ⌜ IsEdge letter (Given.row (now description) (now row)) (values (value ∷ []) (now texts) (now bytes ∷ []) used) ⌝ }
+{
+    tell(letter, is_one(description, row, value, texts, bytes, used));
+}
+
+// A case of two columns, of which the first has no bytes to show.
+fn two(
+    letter: u8,
+    description: &[u8],
+    row: &[u8],
+    first: ValuePlace,
+    second: ValuePlace,
+    texts: &[u8],
+    bytes: &[u8],
+    used: usize,
+)
+    requires { ⌜ IsEdge letter (Given.row (now description) (now row)) (values (first ∷ second ∷ []) (now texts) ([] ∷ now bytes ∷ []) used) ⌝ }
+{
+    tell(
+        letter,
+        are_two(description, row, first, second, texts, bytes, used),
+    );
+}
+
+// A case of one column, for which the row is too short.
+fn too_short(letter: u8, description: &[u8], row: &[u8], expected: usize, actual: usize)
+    requires { ⌜ IsEdge letter (Given.row (now description) (now row)) (tooShort 1 expected actual) ⌝ }
+{
+    tell(letter, is_short(description, row, expected, actual));
+}
+
+// A case of a packed decimal.
+fn packed_decimal(letter: u8, data: &[u8], scale: u8, want: &[u8])
+    requires { ⌜ IsEdge letter (Given.decimal (now «data») scale) (textOutcome (now want)) ⌝ }
+{
+    tell(letter, is_decimal(data, scale, want));
 }
 
 // The descriptions that several cases share.
@@ -311,39 +371,80 @@ const HEADER_OF_ONE_BYTE: [u8; 7] = [0x07, 0x70, 0x32, 0x80, 0x01, 0x04, 0xB8];
 
 const CLOB_OF_LENGTH_0: [u8; 6] = [0x06, 0x76, 0xD0, 0xCA, 0x00, 0x00];
 
-fn a() -> bool {
+fn a() {
     let integer = [0x05, 0x70, 0x02, 0x00, 0x04];
     let row = [0x2A, 0x00, 0x00, 0x00];
-    one(&integer, &row, within(Db2Value::Integer(42)), b"", b"", 4)
+    one(
+        b'A',
+        &integer,
+        &row,
+        within(Db2Value::Integer(42)),
+        b"",
+        b"",
+        4,
+    );
 }
 
-fn b() -> bool {
+fn b() {
     let description = SMALL_INT_AND_DECIMAL;
     let row = [0x00, 0x00, 0x2A, 0x00, 0x12, 0x34, 0x5C];
     let first = within(Db2Value::SmallInt(42));
     let second = within(Db2Value::Decimal(place(0, 6)));
-    two(&description, &row, first, second, b"123.45", b"123.45", 7)
+    two(
+        b'B',
+        &description,
+        &row,
+        first,
+        second,
+        b"123.45",
+        b"123.45",
+        7,
+    );
 }
 
-fn c() -> bool {
+fn c() {
     let description = SMALL_INT_AND_DECIMAL;
     let row = [0xFF, 0x00, 0xFF, 0xFF];
     let first = within(Db2Value::Null);
     let second = within(Db2Value::Null);
-    two(&description, &row, first, second, b"", b"", 4)
+    two(b'C', &description, &row, first, second, b"", b"", 4);
 }
 
-fn d() -> bool {
+fn d() {
     let description = NULLABLE_INTEGER;
-    one(&description, &[0xFF], within(Db2Value::Null), b"", b"", 1)
+    one(
+        b'D',
+        &description,
+        &[0xFF],
+        within(Db2Value::Null),
+        b"",
+        b"",
+        1,
+    );
 }
 
-fn e() -> bool {
+fn e() {
     let description = NULLABLE_INTEGER;
-    too_short(&description, &[0xFF, 0xFF], 1, 0)
+    too_short(b'E', &description, &[0xFF, 0xFF], 1, 0);
 }
 
-fn j() -> bool {
+fn f() {
+    packed_decimal(b'F', &[0x00, 0x5C], 2, b"0.05");
+}
+
+fn g() {
+    packed_decimal(b'G', &[0x1C], 3, b"0.001");
+}
+
+fn h() {
+    packed_decimal(b'H', &[0x0D], 0, b"-0");
+}
+
+fn i() {
+    packed_decimal(b'I', &[0x12, 0x3B], 0, b"123");
+}
+
+fn j() {
     let description = [
         0x03,
         0x78,
@@ -365,66 +466,74 @@ fn j() -> bool {
     ];
     let row = [0x00, 0xC1, 0xC2, 0xC3];
     let value = within(Db2Value::Char(place(0, 3)));
-    one(&description, &row, value, b"ABC", b"ABC", 4)
+    one(b'J', &description, &row, value, b"ABC", b"ABC", 4);
 }
 
-fn k() -> bool {
+fn k() {
     let description = [0x05, 0x70, 0xC8, 0x80, 0x00];
     let value = within(Db2Value::Blob(place(0, 0)));
-    one(&description, b"", value, b"", b"", 0)
+    one(b'K', &description, b"", value, b"", b"", 0);
 }
 
-fn l() -> bool {
+fn l() {
     let description = [0x05, 0x70, 0xC8, 0x80, 0x04];
     let row = [0x00, 0x00, 0x00, 0x07];
     let value = external(Db2Value::Blob(place(0, 4)));
-    one(&description, &row, value, b"", &[0x00, 0x00, 0x00, 0x07], 4)
+    one(
+        b'L',
+        &description,
+        &row,
+        value,
+        b"",
+        &[0x00, 0x00, 0x00, 0x07],
+        4,
+    );
 }
 
-fn m() -> bool {
+fn m() {
     let description = HEADER_OF_ONE_BYTE;
     let value = external(Db2Value::Clob(place(0, 16)));
     let text = b"LOB locator 0x80";
-    one(&description, &[0x80], value, text, text, 1)
+    one(b'M', &description, &[0x80], value, text, text, 1);
 }
 
-fn n() -> bool {
+fn n() {
     let description = HEADER_OF_ONE_BYTE;
     let value = external(Db2Value::Clob(place(0, 14)));
     let text = b"LOB locator 0x";
-    one(&description, &[0x80, 0x00], value, text, text, 2)
+    one(b'N', &description, &[0x80, 0x00], value, text, text, 2);
 }
 
-fn o() -> bool {
+fn o() {
     let description = CLOB_OF_LENGTH_0;
     let row = [0x02, 0x00, 0x00, 0x00];
     let value = external(Db2Value::Clob(place(0, 22)));
     let text = b"LOB locator 0x02000000";
-    one(&description, &row, value, text, text, 4)
+    one(b'O', &description, &row, value, text, text, 4);
 }
 
-fn p() -> bool {
+fn p() {
     let description = CLOB_OF_LENGTH_0;
     let row = [0x02, 0x00, 0x00, 0x00, 0x00, 0x00, 0x00, 0x00, 0x00];
     let value = within(Db2Value::Clob(place(0, 0)));
-    one(&description, &row, value, b"", b"", 9)
+    one(b'P', &description, &row, value, b"", b"", 9);
 }
 
 fn main() {
-    tell(b"A", a());
-    tell(b"B", b());
-    tell(b"C", c());
-    tell(b"D", d());
-    tell(b"E", e());
-    tell(b"F", packed_decimal(&[0x00, 0x5C], 2, b"0.05"));
-    tell(b"G", packed_decimal(&[0x1C], 3, b"0.001"));
-    tell(b"H", packed_decimal(&[0x0D], 0, b"-0"));
-    tell(b"I", packed_decimal(&[0x12, 0x3B], 0, b"123"));
-    tell(b"J", j());
-    tell(b"K", k());
-    tell(b"L", l());
-    tell(b"M", m());
-    tell(b"N", n());
-    tell(b"O", o());
-    tell(b"P", p());
+    a();
+    b();
+    c();
+    d();
+    e();
+    f();
+    g();
+    h();
+    i();
+    j();
+    k();
+    l();
+    m();
+    n();
+    o();
+    p();
 }

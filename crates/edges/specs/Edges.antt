@@ -5,7 +5,7 @@ use mathlib.Core.Path.{_≡_}
 use mathlib.Core.Bool.{true, false}
 use mathlib.Core.List.{List, [], _∷_, map}
 use lib.IntN.{pos}
-use lib.ListN.{length, replicate, take}
+use lib.ListN.{length, replicate, take, drop}
 use Rattle.refusal.specs.Refusal.{Told, accepted}
 use Rattle.buffer.specs.Buffer.{TextTold, written}
 use Rattle.types.specs.declared.Db2Value.{Db2Value}
@@ -115,3 +115,8 @@ EdgesHold = map (λ e. outcomeOf (e .given)) edges ≡ map (λ e. e .outcome) ed
 -- the cases bear document 01's letters, in its order
 abbrev pub LettersInOrder : Type 0
 LettersInOrder = map (λ e. code (e .letter)) edges ≡ ascii "ABCDEFGHIJKLMNOP"
+
+-- what is given and its outcome are a row of the table, that of the letter with this code
+abbrev pub IsEdge : ℕ → Given → Outcome → Type 0
+IsEdge letter g o =
+    (k : ℕ) × (map (λ e. code (e .letter)) (take 1 (drop k edges)) ≡ letter ∷ []) × (map (λ e. e .given) (take 1 (drop k edges)) ≡ g ∷ []) × (map (λ e. e .outcome) (take 1 (drop k edges)) ≡ o ∷ [])

@@ -14,7 +14,7 @@ use Rattle.types.specs.declared.ColumnDescriptor.{ColumnDescriptor}
 use Rattle.types.specs.Names.{namedIn}
 use Rattle.types.specs.Places.{maxColumns, filled, blankColumn, columnList}
 use Rattle.rules.specs.Walk.{Piece, skipOf}
-use Rattle.rules.specs.Row.{Decision, refusal, acceptance, rowTexts, anyDecFloat, covered, bodyDecision, rowDecision, textAfter}
+use Rattle.rules.specs.Row.{refusal, acceptance, rowTexts, anyDecFloat, covered, bodyDecision, rowDecision, textAfter}
 use Rattle.rules.specs.Conversions.{ported}
 use Rattle.words.specs.Reading.{readColumns}
 use Rattle.row_words.specs.declared.Checked.{Checked}
@@ -23,7 +23,8 @@ use Rattle.row_words.specs.declared.RowOutcome.the-variants.{Accepted, TooShort
 use Rattle.row_words.specs.Rows.{valuesAfter}
 use Rattle.row_words.specs.Passes.{decFloats, checkedOf, columnsNamed, Says}
 use Rattle.row_words.proofs.Named.{named-length, read-named}
-use Rattle.exported.specs.Rows.{decisionFor, wordsDecision, rowNumber, rowFirst, rowSecond}
+use Rattle.exported.specs.Exported.{tooFewNumber, noColumnNumber}
+use Rattle.exported.specs.Rows.{OnWords, decided, decisionFor, wordsDecision, rowNumber, rowFirst, rowSecond, wordsLeft, textLeft}
 
 -- ---- the columns of a list in its places
 
@@ -65,8 +66,8 @@ found (some cs) k h = record { columns = cs; read = refl; floats = cc }
 found none k h = let z : _≡_ {A = ℕ} 0 1 = cc in absurd (omega arith)
 
 -- what the call hands out: a number, the two numbers beside it, the words of values and the text buffer
-abbrev pub Handed : Decision → List ℕ → List ℕ → ℕ → ℕ → ℕ → List ℕ → List ℕ → Type 0
-Handed e v d r x y words out = (r ≡ rowNumber e) × ((x ≡ rowFirst e) × ((y ≡ rowSecond e) × ((words ≡ valuesAfter e v) × (out ≡ textAfter ported e d))))
+abbrev pub Handed : OnWords → List ℕ → List ℕ → ℕ → ℕ → ℕ → List ℕ → List ℕ → Type 0
+Handed e v d r x y words out = (r ≡ rowNumber e) × ((x ≡ rowFirst e) × ((y ≡ rowSecond e) × ((words ≡ wordsLeft e v) × (out ≡ textLeft e d))))
 
 module _ (w s v d : List ℕ) where
   pub too-many : maxColumns < length w / 2 → Handed (wordsDecision w s v d) v d 3 0 0 v d
@@ -74,7 +75,7 @@ module _ (w s v d : List ℕ) where
   too-many h = rw (lt-ltb maxColumns (length w / 2) h) (refl, (refl, (refl, (refl, refl))))
 
   module _ (few : length w / 2 ≤ maxColumns) where
-    pub too-few : length v < 3 * (length w / 2) → Handed (wordsDecision w s v d) v d 101 (3 * (length w / 2)) 0 v d
+    pub too-few : length v < 3 * (length w / 2) → Handed (wordsDecision w s v d) v d tooFewNumber (3 * (length w / 2)) 0 v d
     unfolding wordsDecision textAfter
     too-few h = rw (le-ltb maxColumns (length w / 2) few, lt-ltb (length v) (3 * (length w / 2)) h) (refl, (refl, (refl, (refl, refl))))
 
@@ -83,7 +84,7 @@ module _ (w s v d : List ℕ) where
       unfolding wordsDecision
       by-columns = rw (le-ltb maxColumns (length w / 2) few, le-ltb (length v) (3 * (length w / 2)) room)
 
-      pub no-column : NoColumn ≡ checkedOf (readColumns w) → Handed (wordsDecision w s v d) v d 102 0 0 v d
+      pub no-column : NoColumn ≡ checkedOf (readColumns w) → Handed (wordsDecision w s v d) v d noColumnNumber 0 0 v d
       unfolding textAfter
       no-column h = rw (by-columns, no-columns (readColumns w) h) (refl, (refl, (refl, (refl, refl))))
 
@@ -94,7 +95,7 @@ module _ (w s v d : List ℕ) where
         named : columnsNamed w ≡ here .columns
         named = read-named w (here .columns) (here .read)
 
-        as-row : wordsDecision w s v d ≡ rowDecision ported (columnList (here .columns)) s d
+        as-row : wordsDecision w s v d ≡ decided (rowDecision ported (columnList (here .columns)) s d)
         as-row = by-columns ∙ ap (λ (x : Option (List ColumnDescriptor)). decisionFor x s d) (here .read)
 
         count-fits : columnList (here .columns) .count ≤ maxColumns
@@ -116,7 +117,7 @@ module _ (w s v d : List ℕ) where
               (refl, (refl, (refl, (refl, refl))))
 
           module _ (l : k ≤ 0) where
-            as-body : wordsDecision w s v d ≡ bodyDecision ported (columnsNamed w) (skipOf s) s d
+            as-body : wordsDecision w s v d ≡ decided (bodyDecision ported (columnsNamed w) (skipOf s) s d)
             unfolding rowDecision
             as-body =
                 let e : anyDecFloat (covered (columnList (here .columns))) ≡ false = rw (covered-list (here .columns)) (none-of (here .columns) (rw (here .floats) at l)) in

@@ -39,7 +39,7 @@ use Rattle.row_words.specs.Rows.{valuesAfter}
 use Rattle.exported.proofs.RowCall.{covered-list}
 use Rattle.rules.specs.Value.{valueBytes, textsTogether}
 use Rattle.rules.proofs.Answers.{filled-together}
-use Rattle.exported.specs.Rows.{decisionFor, wordsDecision, rowNumber, rowFirst, rowSecond, wordsBytes}
+use Rattle.exported.specs.Rows.{OnWords, decided, decisionFor, wordsDecision, rowNumber, rowFirst, rowSecond, wordsLeft, textLeft, wordsBytes}
 use Rattle.exported.proofs.ValueBytes.{three-bytes}
 use Rattle.exported.proofs.ValueRanges.{cons-all, walk-range, AllInRange, values-range, at-range}
 
@@ -78,11 +78,11 @@ module _ (cs : List ColumnDescriptor) (fit : AllFit cs) (few : length cs ≤ max
   half : length (packColumns cs) / 2 ≡ length cs
   half = omega (arith, packed-length cs)
 
-  pub same-decision : wordsDecision (packColumns cs) s v d ≡ rowDecision ported (columnList cs) s d
+  pub same-decision : wordsDecision (packColumns cs) s v d ≡ decided (rowDecision ported (columnList cs) s d)
   unfolding wordsDecision
   same-decision = rw (half, le-ltb maxColumns (length cs) few, le-ltb (length v) (3 * length cs) room, reads-columns cs fit)
 
-  told-number : (e : Decision) → rowNumber e ≡ number (answerOf ported e .outcome)
+  told-number : (e : Decision) → rowNumber (decided e) ≡ number (answerOf ported e .outcome)
   unfolding answerOf
   told-number (refusal n vs) = refl
   told-number (acceptance ps n) = refl
@@ -92,12 +92,12 @@ module _ (cs : List ColumnDescriptor) (fit : AllFit cs) (few : length cs ≤ max
   unfolding rowAnswer
   same-number = rw same-decision (told-number (rowDecision ported (columnList cs) s d))
 
-  told-first : (e : Decision) → rowFirst e ≡ besideAnswer 0 (answerOf ported e .outcome) (answerOf ported e .used)
+  told-first : (e : Decision) → rowFirst (decided e) ≡ besideAnswer 0 (answerOf ported e .outcome) (answerOf ported e .used)
   unfolding answerOf
   told-first (refusal n vs) = refl
   told-first (acceptance ps n) = refl
 
-  told-second : (e : Decision) → rowSecond e ≡ besideAnswer 1 (answerOf ported e .outcome) (textsTogether (answerOf ported e .places))
+  told-second : (e : Decision) → rowSecond (decided e) ≡ besideAnswer 1 (answerOf ported e .outcome) (textsTogether (answerOf ported e .places))
   unfolding answerOf
   told-second (refusal n vs) = refl
   told-second (acceptance ps n) = sym (filled-together ported ps)
@@ -112,12 +112,12 @@ module _ (cs : List ColumnDescriptor) (fit : AllFit cs) (few : length cs ≤ max
   same-second = rw same-decision (told-second (rowDecision ported (columnList cs) s d))
 
   -- the text buffer is left as decode_row leaves it
-  pub same-text : textAfter ported (wordsDecision (packColumns cs) s v d) d ≡ rowText (columnList cs) s d
+  pub same-text : textLeft (wordsDecision (packColumns cs) s v d) d ≡ rowText (columnList cs) s d
   unfolding rowText
   same-text = rw same-decision
 
   -- the words of values are those of the values that decode_row hands out, one for each column
-  pub same-values : valuesAfter (wordsDecision (packColumns cs) s v d) v ≡ valuesBy (rowAnswer (columnList cs) s d .outcome) (take (length cs) (rowAnswer (columnList cs) s d .places)) v
+  pub same-values : wordsLeft (wordsDecision (packColumns cs) s v d) v ≡ valuesBy (rowAnswer (columnList cs) s d .outcome) (take (length cs) (rowAnswer (columnList cs) s d .places)) v
   unfolding rowAnswer answerOf
   same-values = rw same-decision (go (rowDecision ported (columnList cs) s d) refl)
     where
@@ -135,7 +135,7 @@ module _ (cs : List ColumnDescriptor) (fit : AllFit cs) (few : length cs ≤ max
     many = length-take-le (length cs) places (omega (arith, all-places (columnList cs) s d))
 
     from : List ℕ
-    from = drop (3 * k) (valuesAfter (wordsDecision (packColumns cs) s v d) v)
+    from = drop (3 * k) (wordsLeft (wordsDecision (packColumns cs) s v d) v)
 
     behind : List ℕ
     behind = packValues (drop (suc k) (take (length cs) places)) ++ drop (length (packValues (take (length cs) places))) v
@@ -149,7 +149,7 @@ module _ (cs : List ColumnDescriptor) (fit : AllFit cs) (few : length cs ≤ max
 
     -- of them vejupa_value_bytes shows what value_bytes shows of value k of decode_row, whatever the text buffer t
     pub same-bytes : (t : List ℕ)
-        → wordsBytes (drop (3 * k) (valuesAfter (wordsDecision (packColumns cs) s v d) v)) s t ≡ valueBytes (getD (rowAnswer (columnList cs) s d .places) k blankValue .value) s t
+        → wordsBytes (drop (3 * k) (wordsLeft (wordsDecision (packColumns cs) s v d) v)) s t ≡ valueBytes (getD (rowAnswer (columnList cs) s d .places) k blankValue .value) s t
     unfolding from places
     same-bytes t = ap (λ (w : List ℕ). wordsBytes w s t) words-are ∙ three-bytes (getD places k blankValue) behind s t
 
@@ -166,8 +166,8 @@ module _ (cs : List ColumnDescriptor) (fit : AllFit cs) (few : length cs ≤ max
 
     -- of a row of bytes they name value k of decode_row, and whether it is external
     pub same-value : Bytes s
-        → valueNamed (getD (drop (3 * k) (valuesAfter (wordsDecision (packColumns cs) s v d) v)) 0 0) (getD (drop (3 * k) (valuesAfter (wordsDecision (packColumns cs) s v d) v)) 1 0)
-        (getD (drop (3 * k) (valuesAfter (wordsDecision (packColumns cs) s v d) v)) 2 0)
+        → valueNamed (getD (drop (3 * k) (wordsLeft (wordsDecision (packColumns cs) s v d) v)) 0 0) (getD (drop (3 * k) (wordsLeft (wordsDecision (packColumns cs) s v d) v)) 1 0)
+        (getD (drop (3 * k) (wordsLeft (wordsDecision (packColumns cs) s v d) v)) 2 0)
         ≡ getD (rowAnswer (columnList cs) s d .places) k blankValue
     unfolding from places
     same-value bytes = ap (λ (w : List ℕ). valueNamed (getD w 0 0) (getD w 1 0) (getD w 2 0)) words-are ∙ reads-value (getD places k blankValue) (in-range bytes)
@@ -176,7 +176,7 @@ module _ (cs : List ColumnDescriptor) (fit : AllFit cs) (few : length cs ≤ max
 
 module _ (s v d : List ℕ) where
   abbrev Taken : DescriptionTold → Type 0
-  Taken r = r .outcome ≡ accepted → 3 * r .columns .count ≤ length v → wordsDecision (packColumns (covered (r .columns))) s v d ≡ rowDecision ported (r .columns) s d
+  Taken r = r .outcome ≡ accepted → 3 * r .columns .count ≤ length v → wordsDecision (packColumns (covered (r .columns))) s v d ≡ decided (rowDecision ported (r .columns) s d)
 
   listed-taken : (q : List ℕ) → Bytes q → Taken (listed (columnsOf q))
   unfolding listed columnList

@@ -1,5 +1,4 @@
--- What the functions for C and Rust answer for descriptions and types, by what parse_qrydsc and fixed_length answer. 101 and 102 are of these
--- functions alone. Assumes nothing.
+-- What the functions for C and Rust answer for descriptions and types, by what parse_qrydsc and fixed_length answer. Assumes nothing.
 use Prim.Native.Nat.{ℕ, _*_}
 use mathlib.Core.Bool.{Bool, cond}
 use mathlib.Core.List.{List}
@@ -14,15 +13,16 @@ use Rattle.types.specs.Places.{covered}
 use Rattle.types.specs.FixedLength.{fixedLength}
 use Rattle.qrydsc.specs.Qrydsc.{DescriptionTold}
 use Rattle.words.specs.Words.{packColumns}
+use Rattle.exported.specs.Exported.{tooFewNumber, noColumnNumber}
 
 -- the lent words w are fewer than two for each column
 abbrev pub tooFew : Columns → List ℕ → Bool
 tooFew c w = ltb (length w) (2 * c .count)
 
--- document 01's refusal number; else 101 where the lent words are too few, and 0
+-- the refusal's number; else 101 where the lent words are too few, and 0
 abbrev pub numberBy : Told → Bool → ℕ
 numberBy (refused n vs) few = n
-numberBy accepted few = cond few 101 0
+numberBy accepted few = cond few tooFewNumber 0
 
 -- the lent words w after the call, where t are the words of the columns: a refusal and 101 change none
 abbrev pub wordsBy : Told → Bool → List ℕ → List ℕ → List ℕ
@@ -38,7 +38,7 @@ descriptionWords d w = wordsBy (d .outcome) (tooFew (d .columns) w) (packColumns
 -- of the type that a word is read as: 102 where it is none; whether its values have a fixed length, as 1 and 0; and the length, or 0
 abbrev pub typeNumber : Option Db2Type → ℕ
 typeNumber (some t) = 0
-typeNumber none = 102
+typeNumber none = noColumnNumber
 
 abbrev pub flagOf : Option ℕ → ℕ
 flagOf (some n) = 1

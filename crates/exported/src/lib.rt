@@ -4,8 +4,15 @@
 // rules of its own but 101 and 102, of lent words: each promise cites what the call within promises, or what the call that it stands for does.
 use buffer::TextAnswer;
 use qrydsc::MAX_QRYDSC;
+use refusal::BUFFER_TOO_SHORT;
+use refusal::COUNT_TOO_LARGE;
+use refusal::DEC_FLOAT_COLUMN;
 use refusal::INPUT_LIMIT;
+use refusal::INPUT_TOO_LONG;
 use refusal::Outcome;
+use refusal::QRYDSC_TOO_LONG;
+use refusal::TEXT_BUFFER_TOO_SHORT;
+use refusal::TOO_MANY_COLUMNS;
 use row::value_bytes;
 use row_words::Checked;
 use row_words::RowOutcome;
@@ -21,15 +28,12 @@ ghost use Rattle.conversion.specs.Conversion.{characterText, graphicText, locat
 ghost use Rattle.text.specs.Text.{conversionAnswer, conversionBuffer};
 ghost use Rattle.decimal.specs.Decimal.{decimalAnswer, decimalBuffer};
 ghost use Rattle.qrydsc.specs.Qrydsc.{description};
-ghost use Rattle.rules.specs.Row.{textAfter};
-ghost use Rattle.rules.specs.Conversions.{ported};
 ghost use Rattle.words.specs.Words.{readType};
-ghost use Rattle.row_words.specs.Rows.{valuesAfter};
 ghost use Rattle.exported.specs.Exported.{numberTold, lengthTold};
-ghost use Rattle.exported.specs.Rows.{wordsDecision, rowNumber, rowFirst, rowSecond, wordsBytes};
+ghost use Rattle.exported.specs.Rows.{wordsDecision, rowNumber, rowFirst, rowSecond, wordsLeft, textLeft, wordsBytes};
 ghost use Rattle.exported.specs.Descriptions.{descriptionNumber, descriptionWords, typeNumber, lengthOf, flagOf, bytesOf};
 
-// What a function answers beside the refusals: the lent words are too few; a word is no type's; words are no column's.
+// What a function answers beside the refusals (D1): the lent words are too few; a word is no type's; words are no column's.
 const TOO_FEW_WORDS: u32 = 101;
 
 const NO_TYPE_WORD: u32 = 102;
@@ -147,11 +151,11 @@ pub extern "C" fn vejupa_parse_qrydsc(data: &[u8], words: &mut [u64], count: &mu
 {
     *count = 0;
     if MAX_QRYDSC < data.len() {
-        return 1;
+        return QRYDSC_TOO_LONG;
     }
     let n = description_words::count_columns(data);
     if MAX_COLUMNS < n {
-        return 2;
+        return TOO_MANY_COLUMNS;
     }
     *count = n as u64;
     if words.len() < 2 * n {
@@ -197,14 +201,14 @@ pub extern "C" fn vejupa_decode_row(
     ensures number { λ r. ⌜ r ≡ rowNumber (wordsDecision (now (columns .entry)) (now («data» .entry)) (now (values .entry)) (now (text .entry))) ⌝ }
     ensures first { λ _. ⌜ now (first .exit) ≡ rowFirst (wordsDecision (now (columns .entry)) (now («data» .entry)) (now (values .entry)) (now (text .entry))) ⌝ }
     ensures second { λ _. ⌜ now (second .exit) ≡ rowSecond (wordsDecision (now (columns .entry)) (now («data» .entry)) (now (values .entry)) (now (text .entry))) ⌝ }
-    ensures values { λ _. ⌜ now (values .exit) ≡ valuesAfter (wordsDecision (now (columns .entry)) (now («data» .entry)) (now (values .entry)) (now (text .entry))) (now (values .entry)) ⌝ }
-    ensures text { λ _. ⌜ now (text .exit) ≡ textAfter ported (wordsDecision (now (columns .entry)) (now («data» .entry)) (now (values .entry)) (now (text .entry))) (now (text .entry)) ⌝ }
+    ensures values { λ _. ⌜ now (values .exit) ≡ wordsLeft (wordsDecision (now (columns .entry)) (now («data» .entry)) (now (values .entry)) (now (text .entry))) (now (values .entry)) ⌝ }
+    ensures text { λ _. ⌜ now (text .exit) ≡ textLeft (wordsDecision (now (columns .entry)) (now («data» .entry)) (now (values .entry)) (now (text .entry))) (now (text .entry)) ⌝ }
 {
     *first = 0;
     *second = 0;
     let count = columns.len() / 2;
     if MAX_COLUMNS < count {
-        return 3;
+        return COUNT_TOO_LARGE;
     }
     let words = 3 * count;
     if values.len() < words {
@@ -215,10 +219,10 @@ pub extern "C" fn vejupa_decode_row(
         return NO_COLUMN;
     };
     if INPUT_LIMIT < data.len() {
-        return 4;
+        return INPUT_TOO_LONG;
     }
     if 0 < dec_floats {
-        return 5;
+        return DEC_FLOAT_COLUMN;
     }
     match row_words::decode_row(columns, data, values, text) {
         RowOutcome::Accepted { used, written } => {
@@ -229,11 +233,11 @@ pub extern "C" fn vejupa_decode_row(
         RowOutcome::TooShort { expected, actual } => {
             *first = expected as u64;
             *second = actual as u64;
-            8
+            BUFFER_TOO_SHORT
         }
         RowOutcome::TextTooShort { needed } => {
             *first = needed as u64;
-            9
+            TEXT_BUFFER_TOO_SHORT
         }
     }
 }

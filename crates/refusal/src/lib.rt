@@ -7,6 +7,25 @@ ghost use Rattle.refusal.specs.Refusal.{refusalNumber, refusalValues, to
 // The most bytes of a row, and of what is given to a text conversion called alone.
 pub const INPUT_LIMIT: usize = 1048576;
 
+// The numbers of the refusals.
+pub const QRYDSC_TOO_LONG: u32 = 1;
+
+pub const TOO_MANY_COLUMNS: u32 = 2;
+
+pub const COUNT_TOO_LARGE: u32 = 3;
+
+pub const INPUT_TOO_LONG: u32 = 4;
+
+pub const DEC_FLOAT_COLUMN: u32 = 5;
+
+pub const DECIMAL_EMPTY: u32 = 6;
+
+pub const DECIMAL_TOO_LONG: u32 = 7;
+
+pub const BUFFER_TOO_SHORT: u32 = 8;
+
+pub const TEXT_BUFFER_TOO_SHORT: u32 = 9;
+
 // The refusals, in the order in which they are tested.
 pub enum Refusal {
     // 1: a description of more than 65,536 bytes.
@@ -34,18 +53,18 @@ impl Refusal {
         ensures { λ r. ⌜ r ≡ refusalNumber self ⌝ }
     {
         match self {
-            Refusal::QrydscTooLong => 1,
-            Refusal::TooManyColumns => 2,
-            Refusal::CountTooLarge => 3,
-            Refusal::InputTooLong => 4,
-            Refusal::DecFloatColumn => 5,
-            Refusal::DecimalEmpty => 6,
-            Refusal::DecimalTooLong => 7,
+            Refusal::QrydscTooLong => QRYDSC_TOO_LONG,
+            Refusal::TooManyColumns => TOO_MANY_COLUMNS,
+            Refusal::CountTooLarge => COUNT_TOO_LARGE,
+            Refusal::InputTooLong => INPUT_TOO_LONG,
+            Refusal::DecFloatColumn => DEC_FLOAT_COLUMN,
+            Refusal::DecimalEmpty => DECIMAL_EMPTY,
+            Refusal::DecimalTooLong => DECIMAL_TOO_LONG,
             Refusal::BufferTooShort {
                 expected: _,
                 actual: _,
-            } => 8,
-            Refusal::TextBufferTooShort { needed: _ } => 9,
+            } => BUFFER_TOO_SHORT,
+            Refusal::TextBufferTooShort { needed: _ } => TEXT_BUFFER_TOO_SHORT,
         }
     }
 

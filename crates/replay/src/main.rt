@@ -20,6 +20,7 @@ use lines::part_start;
 use lines::place::decimal_at;
 use lines::place::text_at;
 use qrydsc::parse_qrydsc;
+use refusal::TEXT_BUFFER_TOO_SHORT;
 use row::decode_row;
 use types::Columns;
 use types::FixedLength;
@@ -262,7 +263,7 @@ fn lacks_space(columns: Columns, row: &[u8], needed: usize, text: &mut [u8]) -> 
     fill(text, FILL);
     let a = decode_row(row, columns, text);
     let outcome = a.outcome;
-    if outcome.number() != 9 {
+    if outcome.number() != TEXT_BUFFER_TOO_SHORT {
         return false;
     }
     if outcome.first_value() != needed {

@@ -1,7 +1,16 @@
 // A refusal as a line: its number, its meaning, its numbers and, where a column is to blame, which.
 use crate::columns::type_name;
 use printing::Line;
+use refusal::BUFFER_TOO_SHORT;
+use refusal::COUNT_TOO_LARGE;
+use refusal::DEC_FLOAT_COLUMN;
+use refusal::DECIMAL_EMPTY;
+use refusal::DECIMAL_TOO_LONG;
+use refusal::INPUT_TOO_LONG;
 use refusal::Outcome;
+use refusal::QRYDSC_TOO_LONG;
+use refusal::TEXT_BUFFER_TOO_SHORT;
+use refusal::TOO_MANY_COLUMNS;
 use types::Columns;
 use types::Db2Type;
 use types::MAX_COLUMNS;
@@ -33,15 +42,15 @@ fn begin(number: u32) -> Line {
 fn meaning(number: u32) -> Line {
     let line = begin(number);
     match number {
-        1 => line.text(b"the description is longer than 65,536 bytes"),
-        2 => line.text(b"the description has more than 128 columns"),
-        3 => line.text(b"the column count is above 128"),
-        4 => line.text(b"the row is longer than 1,048,576 bytes"),
-        5 => line.text(b"the row has a DecFloat column, which is not read"),
-        6 => line.text(b"the packed decimal has no bytes"),
-        7 => line.text(b"the packed decimal has more than 128 bytes"),
-        8 => line.text(b"the row is too short"),
-        9 => line.text(b"the text buffer is too short"),
+        QRYDSC_TOO_LONG => line.text(b"the description is longer than 65,536 bytes"),
+        TOO_MANY_COLUMNS => line.text(b"the description has more than 128 columns"),
+        COUNT_TOO_LARGE => line.text(b"the column count is above 128"),
+        INPUT_TOO_LONG => line.text(b"the row is longer than 1,048,576 bytes"),
+        DEC_FLOAT_COLUMN => line.text(b"the row has a DecFloat column, which is not read"),
+        DECIMAL_EMPTY => line.text(b"the packed decimal has no bytes"),
+        DECIMAL_TOO_LONG => line.text(b"the packed decimal has more than 128 bytes"),
+        BUFFER_TOO_SHORT => line.text(b"the row is too short"),
+        TEXT_BUFFER_TOO_SHORT => line.text(b"the text buffer is too short"),
         _ => line.text(b"unknown"),
     }
 }
@@ -68,13 +77,13 @@ fn type_at(columns: Columns, i: usize) -> Db2Type {
 fn refused_row(number: u32, first: u64, second: u64, column: usize, t: Db2Type) -> Line {
     let line = meaning(number);
     match number {
-        5 => with_column(line, column, t),
-        8 => with_column(line, column, t)
+        DEC_FLOAT_COLUMN => with_column(line, column, t),
+        BUFFER_TOO_SHORT => with_column(line, column, t)
             .text(b": expected ")
             .decimal(first)
             .text(b" bytes, actual ")
             .decimal(second),
-        9 => line.text(b": needed ").decimal(first).text(b" bytes"),
+        TEXT_BUFFER_TOO_SHORT => line.text(b": needed ").decimal(first).text(b" bytes"),
         _ => line,
     }
 }

@@ -1,8 +1,9 @@
--- `by_value::by_value_decode_row` meets its contract: of a text buffer only its length decides, and the row call keeps it. Assumes nothing.
+-- `by_value::by_value_decode_row` meets its contract: what the row call leaves in the text buffer, it leaves there again. Assumes nothing.
 use Prim.Native.Nat.{ℕ, _%_, _-_}
 use mathlib.Core.Path.{_≡_, refl, sym, ap, _∙_}
 use native.Mathlib.Omega.{arith}
 use denote.Ref.{now}
+use mathlib.Core.List.{List}
 use lib.ListN.{length, List·getD-map}
 use Rattle.types.specs.declared.Columns.{Columns}
 use Rattle.types.specs.Places.{maxColumns}
@@ -11,14 +12,14 @@ use Rattle.rules.specs.Row.{RowTold}
 use Rattle.rules.specs.Conversions.{rowAnswer, rowText}
 use Rattle.rules.proofs.Accepted.{same-length}
 use Rattle.by_value.specs.ByValue.{numberOf, numberAt}
-use Rattle.by_value.proofs.Again.{answered-alike}
+use Rattle.by_value.proofs.Again.{answered-alike, left-again}
 use borrow.Author.Needs.{needs}
 use Rattle.by_value.proofs.by_value_decode_row.Statement.{statement}
 use Rattle.by_value.proofs.by_value_decode_row.Tie as tie
 
 abbrev Inv-loop : tie.InvT-loop
 Inv-loop described row text₀ rounds index columns place number₀ i₀ text number i =
-    (number ≡ numberAt (rowAnswer columns row text) place) × (length text ≡ length text₀)
+    (number ≡ numberAt (rowAnswer columns row text) place) × (text ≡ text₀)
 
 abbrev μ-loop : tie.MeasureT-loop
 μ-loop described row text₀ rounds index columns place number₀ i₀ text number i = rounds - i
@@ -73,8 +74,9 @@ loop-again c =
     let columns = c .before .before .before .before .before .before .before .before .before .before .before .before .before .before .before .parse-qrydsc .result .columns in
     let i = c .before .before .before .before .before .before .before .before .before .before .before .before .before .before .before .before .before .before .before .args .index % maxColumns in
     let a = c .before .before .before .before .decode-row2 in
+    let first = c .before .before .before .before .before .before .before .before .before .before .before .before .decode-row .ensures .1 in
     let same = answered-alike columns s d _ (sym (ap length (a .ensures .1) ∙ same-length columns s d)) in
-    (c .value-words2 .ensures .1 .0 ∙ sym (List·getD-map numberOf (a .result .places) i _) ∙ ap (λ (t : RowTold). numberAt t i) (a .ensures .0 ∙ same), ap length (a .ensures .1) ∙ same-length columns s d ∙ c .before .before .before .before .before .before .before .loop .inv .1)
+    (c .value-words2 .ensures .1 .0 ∙ sym (List·getD-map numberOf (a .result .places) i _) ∙ ap (λ (t : RowTold). numberAt t i) (a .ensures .0 ∙ same), a .ensures .1 ∙ ap (λ (t : List ℕ). rowText columns s t) (c .before .before .before .before .before .before .before .loop .inv .1 ∙ first) ∙ left-again columns s (now (c .before .before .before .before .before .before .before .before .before .before .before .before .before .before .before .before .before .before .before .args .text)) ∙ sym first)
 
 same-length-2 : tie.Need-same-length Inv-loop μ-loop
 same-length-2 c = search needs
@@ -86,7 +88,7 @@ returns c =
     let i = c .before .before .before .before .before .before .before .before .before .before .before .before .before .args .index % maxColumns in
     let q = c .before .before .before .before .before .before .before .before .before .parse-qrydsc in
     let r = c .before .before .before .before .before .before .decode-row in
-    c .before .loop .inv .0 ∙ ap (λ (t : RowTold). numberAt t i) (answered-alike (q .result .columns) s _ d (c .before .loop .inv .1 ∙ ap length (r .ensures .1) ∙ same-length (q .result .columns) s d)) ∙ ap (λ (t : DescriptionTold). numberAt (rowAnswer (t .columns) s d) i) (q .ensures)
+    (c .before .loop .inv .0 ∙ ap (λ (t : RowTold). numberAt t i) (answered-alike (q .result .columns) s _ d (ap length (c .before .loop .inv .1 ∙ r .ensures .1) ∙ same-length (q .result .columns) s d)) ∙ ap (λ (t : DescriptionTold). numberAt (rowAnswer (t .columns) s d) i) (q .ensures), c .before .loop .inv .1 ∙ r .ensures .1 ∙ ap (λ (t : DescriptionTold). rowText (t .columns) s d) (q .ensures))
 
 pub by-value-decode-row-spec : {M : Type 1} → statement M
 by-value-decode-row-spec =

@@ -1,4 +1,4 @@
-// Program. Runs the cases A to P of document 01, "At the edges", and prints a line for each: its letter, and `same` where the whole outcome is the
+// Program. Runs the cases A to P (V2) and prints a line for each: its letter, and `same` where the whole outcome is the
 // one in the table, else `differs`. The table is that of the crate `edges`, where the outcomes are proved, written again; here the compiled calls are run on the
 // same bytes: the description's outcome, the row call's outcome with its values, all 128 value places with their flags, the bytes used, every byte of
 // the text buffer, and the bytes of each column's value.

@@ -19,7 +19,7 @@ use Rattle.words.specs.Words.{packColumns}
 abbrev pub tooFew : Columns → List ℕ → Bool
 tooFew c w = ltb (length w) (2 * c .count)
 
--- document 01's refusal number; else 101 where the lent words are too few, and 0
+-- the refusal's number; else 101 where the lent words are too few, and 0
 abbrev pub numberBy : Told → Bool → ℕ
 numberBy (refused n vs) few = n
 numberBy accepted few = cond few 101 0

@@ -5,7 +5,7 @@ use lib.ListN.{getD}
 use Rattle.refusal.specs.Refusal.{Told, accepted, refused, number}
 use Rattle.buffer.specs.Buffer.{TextTold}
 
--- document 01's refusal number, and 0 where the call accepted
+-- the refusal's number, and 0 where the call accepted
 abbrev pub numberTold : TextTold → ℕ
 numberTold a = number (a .outcome)
 

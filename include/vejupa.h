@@ -36,7 +36,7 @@ extern "C" {
 #define VEJUPA_QRYDSC_TOO_LONG 1       /* a description of more than 65,536 bytes */
 #define VEJUPA_TOO_MANY_COLUMNS 2      /* a description of more than 128 columns */
 #define VEJUPA_COUNT_TOO_LARGE 3       /* more than 128 columns handed to the row call */
-#define VEJUPA_INPUT_TOO_LONG 4        /* a row, or bytes given to a text conversion, of more than 1,048,576 bytes */
+#define VEJUPA_INPUT_TOO_LONG 4        /* more than 1,048,576 bytes, of a row or for a text conversion */
 #define VEJUPA_DEC_FLOAT_COLUMN 5      /* a column of type DecFloat handed to the row call */
 #define VEJUPA_DECIMAL_EMPTY 6         /* a packed decimal of no bytes */
 #define VEJUPA_DECIMAL_TOO_LONG 7      /* a packed decimal of more than 128 bytes */
@@ -152,7 +152,7 @@ struct vejupa_bytes {
     size_t length;
 };
 
-/* The bytes of a value, as a part of the row or of the text buffer. `value` points at its three words (values + 3 * k; words after
+/* The bytes of a value, in the row or in the text buffer. `value` points at its three words (values + 3 * k; words after
  * them are not looked at), `data` and `text` are those of the call that wrote them. For a text, Binary or Blob *bytes is then its part. It is
  * empty for any other value, for a sort that there is none of, for a place that does not fit, and where value_len is below 3. Nothing is refused
  * and nothing copied. *bytes is a slice before the call too: {data, 0} will do. */

@@ -1,4 +1,4 @@
--- A text written into a lent buffer, and what a call that writes one answers (document 01, "What the call hands back": rules H1, H2). Assumes nothing.
+-- A text written into a lent buffer, and what a call that writes one answers: H1, H2, refusal 9. Assumes nothing.
 use Prim.Native.Nat.{ℕ}
 use mathlib.Core.Bool.{cond}
 use mathlib.Core.List.{List, [], _∷_, _++_}
@@ -11,7 +11,7 @@ use Rattle.buffer.specs.declared.TextAnswer.{TextAnswer}
 abbrev pub written : List ℕ → List ℕ → List ℕ
 written t d = t ++ drop (length t) d
 
--- an answer by document 01's numbers: what is said of the input, and how many bytes were written
+-- an answer by the rules' numbers: what is said of the input, and how many bytes were written
 pub record TextTold : Type 0 where
   pub outcome : Told
   pub written : ℕ

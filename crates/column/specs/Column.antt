@@ -1,4 +1,4 @@
--- The column that an SDA describes (document 01, "Descriptors": "An SDA column ...", rules Q9 to Q11). Assumes nothing.
+-- The column that an SDA describes: Q9 to Q11. Assumes nothing.
 use Prim.Native.Nat.{ℕ, _+_}
 use mathlib.Core.Bool.{Bool, cond}
 use mathlib.Core.List.{List, [], _∷_}
@@ -16,11 +16,11 @@ use Rattle.types.specs.declared.ColumnDescriptor.{ColumnDescriptor}
 use Rattle.numbers.specs.Number.{number}
 use Rattle.column.specs.declared.Numbers.{Numbers}
 
--- the number in the two bytes at a place, big-endian: "A field whose bytes aren't all there is 0"
+-- the number in the two bytes at a place, big-endian; Q9: 0 where one of them is lacking
 unfoldable pub field16 : List ℕ → ℕ → ℕ
 field16 d at = cond (leb (at + 2) (length d)) (number BigEndian (getD d at 0 ∷ getD d (at + 1) 0 ∷ [])) 0
 
--- Q11: "A reference length exists exactly for type codes C8 to CF with length bit 8000: the low 15 bits"
+-- term: Q11
 unfoldable pub referenceLength : ℕ → ℕ → ReferenceLength
 referenceLength c n =
     cond (leb 0xC8 c) (cond (leb c 0xCF) (cond (bit8000 n) (Width (low15 n)) Absent) Absent) Absent
@@ -44,14 +44,14 @@ column c n m nullable t order =
       «extdta_reference_length» = referenceLength c n;
     }
 
--- "CCSID at 3 and 4; base 0C has precision and scale at 3 and 4 and CCSID at 5 and 6"; "precision and scale are there only together"
+-- Q9: precision, scale and CCSID, by the base of the type code
 unfoldable pub sdaNumbers : List ℕ → Numbers
 sdaNumbers d =
     cond (eqb (baseOf (getD d 0 0)) 0x0C)
     (cond (leb 5 (length d)) (numbers (getD d 3 0) (getD d 4 0) (field16 d 5)) (numbers 0 0 (field16 d 5)))
     (numbers 0 0 (field16 d 3))
 
--- "CCSID 0 turns bases 30 and 32 into Binary and VarBinary"
+-- Q9: bases 30 and 32 are characters only where there is a CCSID
 unfoldable pub sdaType : ℕ → ℕ → Numbers → Db2Type
 sdaType c n m =
     let listed = fromDrdaType c n (m .precision) (m .scale) .«db2_type» in
@@ -59,7 +59,7 @@ sdaType c n m =
     (cond (eqb (baseOf c) 0x30) (type.Binary n) (cond (eqb (baseOf c) 0x32) (type.VarBinary n) listed))
     listed
 
--- "An SDA column has its type at data 0, length at 1 and 2"; "Little-endian. Nullable is bit 01 here"
+-- Q9, Q10: the column of the data d of an SDA
 unfoldable pub sdaColumn : List ℕ → ColumnDescriptor
 sdaColumn d =
     let c = getD d 0 0 in

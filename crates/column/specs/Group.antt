@@ -1,4 +1,4 @@
--- The column of a LID of a D0 group, and the environment entries that declare LIDs (document 01, "Descriptors": 70 and 76, rules Q3, Q5 and Q6). Assumes nothing.
+-- The column of a LID of a D0 group, and the environment entries that declare LIDs: Q3, Q5, Q6 and Q10. Assumes nothing.
 use Prim.Native.Nat.{ℕ}
 use mathlib.Core.Bool.{Bool, true, false, cond}
 use mathlib.Core.List.{List, [], _∷_}
@@ -14,7 +14,7 @@ use Rattle.numbers.specs.Number.{number}
 use Rattle.column.specs.declared.EnvEntry.{EnvEntry}
 use Rattle.column.specs.Column.{field16, numbers, column}
 
--- an environment entry: the type that the MDD left, and "CCSID at data 4 and 5 if there are 6 bytes, else 0"
+-- term: Q3. The environment entry of the type that an MDD left and the data d of the SDA after it
 unfoldable pub entryOf : ℕ → List ℕ → EnvEntry
 entryOf mdd d = record { declared = true; «drda_type» = mdd; ccsid = field16 d 4 }
 
@@ -22,11 +22,11 @@ entryOf mdd d = record { declared = true; «drda_type» = mdd; ccsid = field16 d
 unfoldable pub noEntry : EnvEntry
 noEntry = record { declared = false; «drda_type» = 0; ccsid = 0 }
 
--- Q3: "The first entry for a LID counts": the known one where it is declared, else the later one
+-- Q3: the known entry where it is declared, else the later one
 unfoldable pub firstEntry : EnvEntry → EnvEntry → EnvEntry
 firstEntry known later = cond (known .declared) known later
 
--- "0A Double, 0C Real, 36 Graphic, 38 and 3A VarGraphic, CE Clob, others by the table"
+-- Q6: the type of the LID l with the length n, where l is not declared and its base is not 0E
 unfoldable pub groupType : ℕ → ℕ → Db2Type
 groupType l n =
     listedOr (fromDrdaType l n 0 0 .«db2_type»)
@@ -39,15 +39,14 @@ groupType l n =
     ∷ [])
     (baseOf l)
 
--- "CCSID is 1208 for Char, VarChar, LongVarChar, Clob, ClobLocator, DbClobLocator, LobChar, Date, Time, Timestamp and Xml, else 0"
+-- Q6: the types with CCSID 1208
 abbrev pub characterTypes : List Db2Type
 characterTypes = type.Char 0 ∷ type.VarChar 0 ∷ type.LongVarChar ∷ type.Clob ∷ type.ClobLocator ∷ type.DbClobLocator ∷ type.LobChar 0 ∷ type.Date ∷ type.Time ∷ type.Timestamp ∷ type.Xml ∷ []
 
 abbrev pub groupCcsid : Db2Type → ℕ
 groupCcsid t = cond (namedIn characterTypes t) 1208 0
 
--- a LID l that is not declared, with its attribute bytes a and b: "base 0E is Decimal (precision, scale; length its byte count)"; "Nullable
--- is bit 01 here and for undeclared LIDs"
+-- Q6: a LID l that is not declared, with its attribute bytes a and b
 unfoldable pub undeclaredColumn : ℕ → ℕ → ℕ → ColumnDescriptor
 undeclaredColumn l a b =
     let n = number BigEndian (a ∷ b ∷ []) in
@@ -55,8 +54,7 @@ undeclaredColumn l a b =
     cond (eqb (baseOf l) 0x0E) (column l (packedLength a) (numbers a b 0) (nullableBit l) (type.Decimal a b) BigEndian)
     (column l n (numbers 0 0 (groupCcsid t)) (nullableBit l) t BigEndian)
 
--- "A declared LID gives the entry's type and CCSID, the length from the attributes, precision and scale 0"; "declared ones use
--- `from_drda_type`"
+-- Q5: a LID whose entry e is declared, with its attribute bytes a and b
 unfoldable pub declaredColumn : EnvEntry → ℕ → ℕ → ColumnDescriptor
 declaredColumn e a b =
     let n = number BigEndian (a ∷ b ∷ []) in

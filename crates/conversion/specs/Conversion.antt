@@ -1,4 +1,4 @@
--- The text of bytes by CCSID (document 01, "Text leaves"). A CCSID is a 16-bit code page number. Texts are UTF-8 bytes. Assumes nothing.
+-- The text of bytes by CCSID: T1 and T3 to T8. Assumes nothing.
 use Prim.Native.Nat.{ℕ, _%_}
 use mathlib.Core.Bool.{Bool, true, false, cond}
 use mathlib.Core.List.{List, [], _∷_, _++_}
@@ -28,8 +28,7 @@ textIn Utf16 s = utf16Text s
 textIn Locator s = locatorMark ++ hexText s
 textIn RowId s = rowIdMark ++ hexText s
 
--- T3 to T6, `decode_character_bytes`: 1208 is UTF-8; 819 is one code point a byte; 37 and 500 use code page 037; for any other CCSID, bytes all
--- below 80 are taken as ASCII, else as code page 037
+-- T3 to T6 (the Rust: decode_character_bytes)
 unfoldable pub characterConversion : ℕ → List ℕ → Conversion
 characterConversion ccsid s =
     cond (eqb ccsid 1208) Utf8
@@ -38,7 +37,7 @@ characterConversion ccsid s =
     (cond (eqb ccsid 500) Ebcdic037
     (cond (allAscii s) Plain Ebcdic037))))
 
--- T7, `decode_graphic_bytes`: CCSID 1200 or 13488 with an even byte count is big-endian UTF-16; otherwise as characters
+-- T7 (the Rust: decode_graphic_bytes)
 unfoldable pub isUtf16 : ℕ → ℕ → Bool
 isUtf16 ccsid count = cond (cond (eqb ccsid 1200) true (eqb ccsid 13488)) (eqb (count % 2) 0) false
 
@@ -51,7 +50,7 @@ characterText ccsid s = textIn (characterConversion ccsid s) s
 unfoldable pub graphicText : ℕ → List ℕ → List ℕ
 graphicText ccsid s = textIn (graphicConversion ccsid s) s
 
--- T8: a locator text is `LOB locator 0x` and the hex; a row id is `0x` and the hex
+-- term: T8
 abbrev pub locatorText : List ℕ → List ℕ
 locatorText s = textIn Locator s
 

@@ -8,7 +8,7 @@ use Rattle.conversion.specs.Conversion.{textIn, characterConversion, gra
 use Rattle.conversion.specs.declared.Conversion.{Conversion}
 use Rattle.conversion.specs.declared.Conversion.the-variants.{Plain, Ebcdic037}
 
--- bytes all below 80 are taken as ASCII, else as code page 037
+-- T6: ASCII or code page 037, by the bytes
 abbrev pub guess : List ℕ → Conversion
 guess s = cond (allAscii s) Plain Ebcdic037
 

@@ -1,4 +1,4 @@
--- Worked examples of packed decimals through the call's definitions, for every text buffer. Document 01's edges F to I stand in crates/edges. Assumes nothing.
+-- Worked examples of packed decimals through the call's definitions, for every text buffer. The cases F to I stand in crates/edges. Assumes nothing.
 use Prim.Native.Nat.{ℕ}
 use mathlib.Core.List.{List, [], _∷_}
 use mathlib.Core.Path.{_≡_, refl}

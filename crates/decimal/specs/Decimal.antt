@@ -1,4 +1,4 @@
--- What the packed decimal call answers, and what it leaves in the text buffer (document 01, "What the call hands back", refusals 6, 7 and 9). Assumes nothing.
+-- What the packed decimal call answers, and what it leaves in the text buffer: P5, H7, refusals 6, 7 and 9. Assumes nothing.
 use Prim.Native.Nat.{ℕ}
 use mathlib.Core.Bool.{cond}
 use mathlib.Core.List.{List, []}
@@ -8,7 +8,7 @@ use Rattle.buffer.specs.Buffer.{TextTold, refusal, textAnswer, textBuffer}
 use Rattle.packed.specs.Packed.{decimalText, mostBytes}
 
 -- For the bytes s and the text buffer d. Refusal 6: no bytes. Refusal 7: more than 128. Then the text, or refusal 9, as with every text.
--- P5: "Precision takes no part in the text", nor in any refusal.
+-- P5: no precision is asked for.
 unfoldable pub decimalAnswer : ℕ → List ℕ → List ℕ → TextTold
 decimalAnswer scale s d =
     cond (eqb (length s) 0) (refusal 6 []) (cond (ltb mostBytes (length s)) (refusal 7 []) (textAnswer (decimalText scale s) d))

@@ -115,7 +115,7 @@ pub fn count_columns(data: &[u8]) -> usize
                 pending = pending_after(data, kind, start, end);
                 at = end;
             }
-            // Triplets that say nothing are many, or none: the branch is foreseen.
+            // Triplets that describe nothing: a description mostly has many or none, so the processor predicts this branch well.
             _ => {
                 pending = Pending::Nothing;
                 at = end;

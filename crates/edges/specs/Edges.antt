@@ -1,4 +1,4 @@
--- Document 01, "At the edges": the cases A to P, each with the outcome that it gives. Assumes nothing.
+-- The cases A to P, each with its outcome: V1. Assumes nothing.
 use Prim.Native.Nat.{ℕ}
 use Prim.Native.Char.{Char, code}
 use mathlib.Core.Path.{_≡_}
@@ -46,7 +46,7 @@ outcomeOf (decimal s scale) = converted (decimalAnswer scale s before) (decimalB
 abbrev pub values : List ValuePlace → List ℕ → List (List ℕ) → ℕ → Outcome
 values vs texts bytes n = answered accepted (record { outcome = accepted; places = filled blankValue vs; used = n }) (written texts before) bytes
 
--- "too short, 1 and 0"
+-- refusal 8
 abbrev pub tooShort : ℕ → ℕ → ℕ → Outcome
 tooShort columns expected actual = answered accepted (refusedRow 8 (expected ∷ actual ∷ [])) before (replicate columns [])
 
@@ -81,7 +81,7 @@ headerOfOneByte = 0x07 ∷ 0x70 ∷ 0x32 ∷ 0x80 ∷ 0x01 ∷ 0x04 ∷ 0xB8 ∷
 abbrev pub clobOfLength0 : List ℕ
 clobOfLength0 = 0x06 ∷ 0x76 ∷ 0xD0 ∷ 0xCA ∷ 0x00 ∷ 0x00 ∷ []
 
--- The table. Document 01 leaves unsaid that L uses 4 bytes and that M, N and O are external; the Rust says so
+-- The table. That L uses 4 bytes and that M, N and O are external is from the Rust
 unfoldable pub edges : List Edge
 edges =
     edge "A" (row (0x05 ∷ 0x70 ∷ 0x02 ∷ 0x00 ∷ 0x04 ∷ []) (0x2A ∷ 0x00 ∷ 0x00 ∷ 0x00 ∷ [])) (values (within (value.Integer (pos 42)) ∷ []) [] ([] ∷ []) 4)
@@ -108,11 +108,11 @@ edges =
     ∷ edge "P" (row clobOfLength0 (0x02 ∷ replicate 8 0x00)) (values (within (value.Clob (place 0 0)) ∷ []) [] ([] ∷ []) 9)
     ∷ []
 
--- V1: "All of A to P are proved, as rows of one table that a single fact covers": every outcome that the definitions give is the one in the table
+-- V1: every outcome that the definitions give is the one in the table
 abbrev pub EdgesHold : Type 0
 EdgesHold = map (λ e. outcomeOf (e .given)) edges ≡ map (λ e. e .outcome) edges
 
--- the cases bear document 01's letters, in its order
+-- the letters are A to P, in order
 abbrev pub LettersInOrder : Type 0
 LettersInOrder = map (λ e. code (e .letter)) edges ≡ ascii "ABCDEFGHIJKLMNOP"
 

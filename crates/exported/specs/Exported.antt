@@ -5,6 +5,7 @@ use lib.ListN.{getD}
 use Rattle.refusal.specs.Refusal.{Told, accepted, refused, number}
 use Rattle.buffer.specs.Buffer.{TextTold}
 
+<<<<<<< HEAD
 -- D1: the two answers that are no refusals of the rules: lent words that are too few; words that are no column's or no type's
 abbrev pub tooFewNumber : ℕ
 tooFewNumber = 101
@@ -12,6 +13,8 @@ tooFewNumber = 101
 abbrev pub noColumnNumber : ℕ
 noColumnNumber = 102
 
+=======
+>>>>>>> b62e27145ab590023c84eed4bbc2d2440de5dac7
 -- the refusal's number, and 0 where the call accepted
 abbrev pub numberTold : TextTold → ℕ
 numberTold a = number (a .outcome)

@@ -242,8 +242,8 @@ pub extern "C" fn vejupa_decode_row(
     }
 }
 
-// The bytes of the value that three words say: a part of the row or of the text buffer. It is empty for a number, a Boolean, Null and a place that
-// does not fit, and where the words are fewer than three. Nothing is refused. As of value_bytes, the promise is on the bytes.
+// The bytes of the value that three words say, in the row or in the text buffer (H6). There are none for a number, a Boolean, Null and a place that
+// does not fit, nor where the words are fewer than three. Nothing is refused. As of value_bytes, the promise is on the bytes.
 #[no_mangle]
 pub extern "C" fn vejupa_value_bytes<'a>(
     value: &[u64],

@@ -1,4 +1,4 @@
--- Numbers from the bytes of a row (document 01, "Rows"; the Rust: from_be_bytes, from_le_bytes), and the values that hold them. Assumes nothing.
+-- Numbers from the bytes of a row: W3, W5 (the Rust: from_be_bytes, from_le_bytes), and the values that hold them. Assumes nothing.
 use Prim.Native.Nat.{ℕ, _+_, _*_}
 use mathlib.Core.Bool.{cond}
 use mathlib.Core.List.{List, [], _∷_, reverse}
@@ -53,7 +53,7 @@ integerIn order s = integer (toZ w32 (number order s))
 abbrev pub bigIntIn : ByteOrder → List ℕ → Number
 bigIntIn order s = bigInt (toZ w64 (number order s))
 
--- "REAL and DOUBLE values carry the float itself, by its bits"
+-- W5
 abbrev pub realIn : ByteOrder → List ℕ → Number
 realIn order s = realOf (number order s)
 

@@ -83,7 +83,7 @@ ValidDigits vs = (k : ℕ) → k < length vs → getD vs k 0 < 10
 abbrev pub zSign : ℕ → Sign
 zSign n = cond (ltb n 0xA) invalid (cond (eqb n 0xB) minus (cond (eqb n 0xD) minus plus))
 
--- what document 01 takes it for (P1): "D is minus, every other is plus"
+-- what P1 takes it for
 abbrev pub portedSign : ℕ → Sign
 portedSign n = cond (eqb n 0xD) minus plus
 

@@ -1,35 +1,35 @@
--- The text of a packed decimal (document 01, "Packed decimal"; each comment is a sentence of that section, in its order). Assumes nothing.
+-- The text of a packed decimal: P1 to P5. Assumes nothing.
 use Prim.Native.Nat.{ℕ, _+_, _-_, _/_, _%_}
 use mathlib.Core.Bool.{cond}
 use mathlib.Core.List.{List, [], _∷_, _++_, map}
 use lib.Dec.{eqb}
 use lib.ListN.{length, take, drop, getD, replicate}
 
--- P1: "Each byte is two nibbles, high first."
+-- P1: the nibbles of bytes
 unfoldable pub nibbles : List ℕ → List ℕ
 nibbles [] = []
 nibbles (b ∷ bs) = b / 16 ∷ b % 16 ∷ nibbles bs
 
--- P1: "The last nibble is the sign": that nibble
+-- P1: the nibble that is the sign
 abbrev pub signNibble : List ℕ → ℕ
 signNibble s = getD (nibbles s) (length (nibbles s) - 1) 0
 
--- P1: "D is minus, every other is plus": a minus is written, a plus is not
+-- P1: a minus is written, a plus is not
 unfoldable pub sign : List ℕ → List ℕ
 sign s = cond (eqb (signNibble s) 0xD) (0x2D ∷ []) []
 
--- P2: "Each other nibble": all but the last
+-- P2: all nibbles but the sign
 abbrev pub digitNibbles : List ℕ → List ℕ
 digitNibbles s = take (length (nibbles s) - 1) (nibbles s)
 
--- P2: "v becomes the character 30 + v": A to F become `:` to `?`
+-- P2: nibbles A to F become `:` to `?`
 abbrev pub character : ℕ → ℕ
 character v = 0x30 + v
 
 unfoldable pub digits : List ℕ → List ℕ
 digits s = map character (digitNibbles s)
 
--- P3: "Leading zeros of the whole part go, one digit stays."
+-- P3
 unfoldable pub trimmed : List ℕ → List ℕ
 trimmed [] = 0x30 ∷ []
 trimmed (d ∷ ds) = cond (eqb d 0x30) (trimmed ds) (d ∷ ds)
@@ -41,7 +41,7 @@ whole scale ds = take (length ds - scale) ds
 abbrev pub zeros : ℕ → List ℕ
 zeros n = replicate n 0x30
 
--- P4: "With scale s above 0, a point and s fraction digits follow, zeros put in front where digits are lacking."
+-- P4: the point and the fraction digits
 unfoldable pub fraction : ℕ → List ℕ → List ℕ
 fraction scale ds = cond (eqb scale 0) [] (0x2E ∷ (zeros (scale - length ds) ++ drop (length ds - scale) ds))
 
@@ -49,7 +49,6 @@ fraction scale ds = cond (eqb scale 0) [] (0x2E ∷ (zeros (scale - length ds) +
 unfoldable pub decimalText : ℕ → List ℕ → List ℕ
 decimalText scale s = sign s ++ (trimmed (whole scale (digits s)) ++ fraction scale (digits s))
 
--- the most bytes that a packed decimal called alone may have ("What the call hands back", refusal 7). A precision fits 8 bits, so no column
--- has more
+-- the most bytes of a packed decimal called alone: refusal 7 above it. A precision fits 8 bits, so no column has more
 abbrev pub mostBytes : ℕ
 mostBytes = 128

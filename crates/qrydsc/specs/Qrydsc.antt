@@ -1,4 +1,4 @@
--- What parse_qrydsc answers (document 01, "What the call hands back"). Assumes nothing.
+-- What parse_qrydsc answers: H4, H7, refusals 1 and 2. Assumes nothing.
 use Prim.Native.Nat.{ℕ, _+_}
 use mathlib.Core.Bool.{cond}
 use mathlib.Core.List.{List, [], _∷_}
@@ -32,7 +32,7 @@ unfoldable pub numbered : ℕ → List ColumnDescriptor → List ColumnDescripto
 numbered k [] = []
 numbered k (c ∷ cs) = number k c ∷ numbered (k + 1) cs
 
--- an answer by document 01's numbers: what is said of the description, and the column list
+-- an answer by the rules' numbers: what is said of the description, and the column list
 pub record DescriptionTold : Type 0 where
   pub outcome : Told
   pub columns : Columns
@@ -40,16 +40,16 @@ pub record DescriptionTold : Type 0 where
 abbrev pub toldDescription : Description → DescriptionTold
 toldDescription d = record { outcome = told (d .outcome); columns = d .columns }
 
--- H4, H7: "A refusal returns blanks": no column, and every place blank
+-- H4, H7: no column, and every place blank
 abbrev pub refusal : ℕ → List ℕ → DescriptionTold
 refusal n vs = record { outcome = refused n vs; columns = columnList [] }
 
--- the answer to a list of columns: "2. QRYDSC with more than 128 columns", else the list, numbered from 0
+-- the answer to a list of columns: refusal 2, else the list, numbered from 0
 unfoldable pub listed : List ColumnDescriptor → DescriptionTold
 listed cs =
     cond (ltb maxColumns (length cs)) (refusal 2 []) (record { outcome = accepted; columns = columnList (numbered 0 cs) })
 
--- "1. QRYDSC longer than 65,536 bytes"
+-- the most bytes of a description: refusal 1 above it
 abbrev pub maxQrydsc : ℕ
 maxQrydsc = 65536
 

@@ -1,5 +1,4 @@
--- Refusals by document 01's numbers ("What the call hands back"): promises speak of these numbers and values, and not of the code's enum.
--- Assumes nothing.
+-- Refusals by the rules' numbers: promises speak of these numbers and values, and not of the code's enum (G10). Assumes nothing.
 use Prim.Native.Nat.{ℕ}
 use mathlib.Core.List.{List, [], _∷_}
 use lib.ListN.{getD}
@@ -51,6 +50,6 @@ abbrev pub value : Told → ℕ → ℕ
 value accepted place = 0
 value (refused n vs) place = getD vs place 0
 
--- the most bytes of a row, and of what is given to a text conversion called alone: refusal 4 above it
+-- the most bytes of a row, and for a text conversion called alone: refusal 4 above it
 abbrev pub inputLimit : ℕ
 inputLimit = 1048576

@@ -4,7 +4,7 @@ ghost use mathlib.Core.Path.{_≡_};
 ghost use lib.ListN.{getD};
 ghost use Rattle.refusal.specs.Refusal.{refusalNumber, refusalValues, told, number, value};
 
-// The most bytes of a row, and of what is given to a text conversion called alone.
+// The most bytes of a row, and for a text conversion called alone.
 pub const INPUT_LIMIT: usize = 1048576;
 
 // The numbers of the refusals.
@@ -34,7 +34,7 @@ pub enum Refusal {
     TooManyColumns,
     // 3: a column count above what a list holds.
     CountTooLarge,
-    // 4: a row, or bytes given to a text conversion called alone, of more than 1,048,576 bytes.
+    // 4: a row, or the bytes of a text conversion called alone, more than 1,048,576 of them.
     InputTooLong,
     // 5: a DecFloat column handed to the row call.
     DecFloatColumn,
@@ -42,9 +42,9 @@ pub enum Refusal {
     DecimalEmpty,
     // 7: a packed decimal, called alone, of more than 128 bytes.
     DecimalTooLong,
-    // 8: too short, with the two numbers of the Rust's BufferTooShort.
+    // 8: too short; the numbers are those of the Rust's BufferTooShort.
     BufferTooShort { expected: usize, actual: usize },
-    // 9: a text buffer shorter than the texts together, with the length needed.
+    // 9: the texts need a longer text buffer, of `needed` bytes.
     TextBufferTooShort { needed: usize },
 }
 

@@ -183,7 +183,7 @@ fn part<'a>(s: &'a [u8], p: Place) -> &'a [u8]
     &s[start..start + len]
 }
 
-// The bytes of a value: a part of the row or of the text buffer. The promise is on the bytes. It leaves free which of the two the part is of where
+// The bytes of a value, in the row or in the text buffer (H6). The promise is on the bytes. It leaves free which of the two the part is of where
 // both would show the same bytes, and so wherever the part is empty.
 pub fn value_bytes<'a>(value: Db2Value, row: &'a [u8], text: &'a [u8]) -> &'a [u8]
     ensures { λ r. ⌜ now r ≡ valueBytes value (now (row .entry)) (now (text .entry)) ⌝ }

@@ -1,4 +1,4 @@
--- Demand 3 is not empty: case B of document 01 meets every hypothesis, with a longer input, a shorter beginning, the bytes used alone, and another text buffer.
+-- Demand 3 is not empty: case B meets every hypothesis, with a longer input, a shorter beginning, the bytes used alone, and another text buffer.
 -- Assumes nothing.
 use Prim.Native.Nat.{ℕ}
 use mathlib.Core.Path.{_≡_, refl}

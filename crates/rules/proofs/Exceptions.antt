@@ -1,5 +1,4 @@
--- Each exception of document 01's list of columns that carry their own end is needed (specs/Exceptions.antt): one computed test over the table, and a law that
--- turns it into the statement. Assumes nothing.
+-- Each exception of W9 is needed (specs/Exceptions.antt): one computed test over the table, and a law that turns it into the statement. Assumes nothing.
 use Prim.Native.Nat.{ℕ}
 use mathlib.Core.Path.{_≡_, refl, sym, _∙_}
 use mathlib.Core.Bool.{Bool, true, false, not, _&&_, true≢false, false≢true}

@@ -339,7 +339,7 @@ cuts Inline = inline-cuts
 cuts Locator = locator-cuts
 cuts (Materialized n) = materialized-cuts n
 
--- document 01's list of the columns without an end of their own is right
+-- a column that W9 does not list has an extent that ends itself
 header-ends : (b : Bool) (k unit : ℕ) → (b && leb k 1) ≡ false → endsItself (cond b (Header k) (Counted unit)) ≡ true
 unfolding endsItself
 header-ends true k unit e = le-leb 2 k (omega (arith, leb-false k 1 e))

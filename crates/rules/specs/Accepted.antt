@@ -1,5 +1,4 @@
--- What holds of every answer, and of every accepted one (document 01, "What the call hands back"), as statements about a row call, given as in
--- specs/Demand3.antt. Assumes nothing.
+-- What holds of every answer, and of every accepted one: T1, W8, W10, H1, H5. Statements about a row call, given as in specs/Demand3.antt. Assumes nothing.
 use Prim.Native.Nat.{ℕ, _+_, _≤_, _<_}
 use mathlib.Core.Path.{_≡_}
 use mathlib.Core.List.{List}
@@ -45,13 +44,13 @@ module _ (answer : Columns → List ℕ → List ℕ → RowTold) (after : Colum
       (columns : Columns) (s d : List ℕ) → answer columns s d .outcome ≡ accepted
       → (i : ℕ) → Fits (held (getD (answer columns s d .places) i blankValue .value)) s (after columns s d)
 
-  -- "Every accepted value is Null or of a sort that its column's type allows", and Null only where the column is nullable or of type Null
+  -- W10; and Null only where the column is nullable or of type Null
   abbrev pub SortsAllowed : Type 0
   SortsAllowed =
       (columns : Columns) (s d : List ℕ) → answer columns s d .outcome ≡ accepted
       → (i : ℕ) → i < length (covered columns) → Allows (getD (covered columns) i blankColumn) (getD (answer columns s d .places) i blankValue .value)
 
-  -- "Texts come out as UTF-8 bytes": each text of an accepted answer to a row of bytes
+  -- T1: each text of an accepted answer to a row of bytes
   abbrev pub TextsUtf8 : Type 0
   TextsUtf8 =
       (columns : Columns) (s d : List ℕ) → Bytes s → answer columns s d .outcome ≡ accepted

@@ -1,4 +1,4 @@
--- The conversions of the row call (document 01, "Text leaves", "Packed decimal", "Rows"), and the row call with them: what its promise names. Assumes nothing.
+-- The conversions of the row call (T1 to T9, P1 to P5, W5), and the row call with them: what its promise names. Assumes nothing.
 use Prim.Native.Nat.{ℕ}
 use mathlib.Core.List.{List}
 use Rattle.types.specs.declared.Columns.{Columns}

@@ -1,5 +1,5 @@
--- Demand 3: a row stays what it is, whatever bytes follow it (document 01, "Rows"). A statement about a row call, given as its answer and the text buffer after it,
--- each from the columns, the input and the text buffer. proofs/Demand3.antt proves it of the row call. Assumes nothing.
+-- D3: where all columns carry their own end, a row of two bytes or more of which at least one is used stays what it is, whatever bytes follow it. About a row call,
+-- given as its answer and the text buffer after it, from columns, input and text buffer; proofs/Demand3.antt proves it of the row call. Assumes nothing.
 use Prim.Native.Nat.{ℕ, _≤_, _<_}
 use mathlib.Core.Path.{_≡_}
 use mathlib.Core.Bool.{true}
@@ -12,16 +12,15 @@ use Rattle.rules.specs.OwnEnd.{allCarryOwnEnd}
 use Rattle.rules.specs.Value.{valueBytes, textsTogether}
 use Rattle.rules.specs.Row.{RowTold, refusedRow}
 
--- "The same answer is the whole answer: every value place, floats by their bits, texts, Binary and Blob values by place, length and bytes; the external columns;
--- the bytes used." a is the answer to the input s and leaves the text buffer d; b that to t, and leaves e. A float that is no NaN has one pattern of bits
--- (lib.Ieee), and a NaN is held by its bits; a value place has the value and whether it is external.
+-- term: D3. a is the answer to the input s and leaves the text buffer d; b that to t, and leaves e. A float that is no NaN has one pattern of bits (lib.Ieee),
+-- and a NaN is held by its bits; a value place has the value and whether it is external.
 pub record SameAnswer (a : RowTold) (s d : List ℕ) (b : RowTold) (t e : List ℕ) : Type 0 where
   pub outcome : a .outcome ≡ b .outcome
   pub places : a .places ≡ b .places
   pub bytes : (i : ℕ) → valueBytes (getD (a .places) i blankValue .value) s d ≡ valueBytes (getD (b .places) i blankValue .value) t e
   pub used : a .used ≡ b .used
 
--- "A text buffer is large enough when it is at least as long as the accepted row's texts together."
+-- term: D3
 abbrev pub LargeEnough : RowTold → List ℕ → Type 0
 LargeEnough a d = textsTogether (a .places) ≤ length d
 
@@ -31,7 +30,7 @@ module _ (answer : Columns → List ℕ → List ℕ → RowTold) (after : Colum
   Same columns s d t e = SameAnswer (answer columns s d) s (after columns s d) (answer columns t e) t (after columns t e)
 
   -- An input s of at least two bytes is accepted, with at least one byte used. (Where there are fewer, or none is used, bytes that follow can bring the skip about:
-  -- "At the edges", D against E, and K against an input that begins FF)
+  -- case D against E, and K against an input that begins FF)
   pub record AcceptedRow (columns : Columns) (s d : List ℕ) : Type 0 where
     pub two : 2 ≤ length s
     pub accepts : answer columns s d .outcome ≡ accepted
@@ -43,8 +42,7 @@ module _ (answer : Columns → List ℕ → List ℕ → RowTold) (after : Colum
       (t e : List ℕ) → length t ≤ inputLimit → take (answer columns s d .used) t ≡ take (answer columns s d .used) s → LargeEnough (answer columns s d) e
       → Same columns t e s d
 
-  -- "A shorter beginning is the input's first m bytes, m below n; too short is refusal 8": every one of at least two bytes is too short, in every text buffer,
-  -- which keeps what it had
+  -- term: D3. Every shorter beginning of at least two bytes is too short, in every text buffer, which keeps what it had
   abbrev pub Shorter : Columns → List ℕ → List ℕ → Type 0
   Shorter columns s d =
       (m : ℕ) (e : List ℕ) → 2 ≤ m → m < answer columns s d .used
@@ -55,8 +53,8 @@ module _ (answer : Columns → List ℕ → List ℕ → RowTold) (after : Colum
   Alone columns s d =
       (e : List ℕ) → LargeEnough (answer columns s d) e → Same columns (take (answer columns s d .used) s) e s d
 
-  -- "Its columns are those that the count covers." The first two are for columns that all carry their own end; the third is for all
-  -- columns, and for every accepted input, also one of fewer than two bytes and one of which none is used
+  -- The first two are for columns that all carry their own end; the third is for all columns, and for every accepted input, also one of fewer than two bytes and
+  -- one of which none is used
   pub record Demand3 : Type 0 where
     pub longer : (columns : Columns) → allCarryOwnEnd (covered columns) ≡ true → (s d : List ℕ) → AcceptedRow columns s d → Longer columns s d
     pub shorter : (columns : Columns) → allCarryOwnEnd (covered columns) ≡ true → (s d : List ℕ) → AcceptedRow columns s d → Shorter columns s d

@@ -1,4 +1,4 @@
--- Why the columns that document 01 lists have no end of their own: for each exception of specs/OwnEnd.antt a row that a longer input changes. Assumes nothing.
+-- Why the columns that W9 lists have no end of their own: for each exception of specs/OwnEnd.antt a row that a longer input changes. Assumes nothing.
 use Prim.Native.Nat.{ℕ, _≤_}
 use mathlib.Core.Bool.{true, false}
 use mathlib.Core.Path.{_≡_}

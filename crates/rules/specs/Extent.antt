@@ -1,4 +1,4 @@
--- How many bytes a column's value takes, of the bytes of the row that are left (document 01, "Rows": W3; the Rust: decode_column_value). Each type has one of six
+-- How many bytes a column's value takes, of the bytes of the row that are left: W3, W4 (the Rust: decode_column_value). Each type has one of six
 -- kinds of extent, and `need` is the number that the bytes at hand make of it: the value is there where `need` is at most their number. Else it is too short,
 -- with `need` and their number as the Rust's `expected` and `actual`. Assumes nothing.
 use Prim.Native.Nat.{ℕ, _+_, _*_}
@@ -18,7 +18,7 @@ use Rattle.numbers.specs.Number.{number}
 use Rattle.rules.specs.declared.Extent.{Extent}
 use Rattle.rules.specs.declared.Extent.the-variants.{Fixed, Counted, Header, Inline, Locator, Materialized}
 
--- the lengths that stand in a row, in the first two bytes or the first four, are big-endian whatever the column's order
+-- term: W3. The numbers L2 and L4, big-endian whatever the column's order
 abbrev pub be16 : List ℕ → ℕ
 be16 s = number BigEndian (take 2 s)
 
@@ -52,7 +52,7 @@ saysHeader s = leb 2 (length s) && bit8000 (be16 s)
 unfoldable pub lobNeed : ℕ → List ℕ → ℕ
 lobNeed whole s = cond (leb 4 (length s)) (cond (isReference s) 9 whole) 4
 
--- the bytes that a value takes, where s is the rest of the row from its first byte
+-- W3: the bytes that a value takes of the rest s
 unfoldable pub need : Extent → List ℕ → ℕ
 need (Fixed n) s = n
 need (Counted unit) s = cond (leb 2 (length s)) (2 + unit * be16 s) 2
@@ -61,7 +61,7 @@ need Inline s = lobNeed (4 + be32 s) s
 need Locator s = lobNeed 4 s
 need (Materialized n) s = cond (isShortReference n s) (length s) n
 
--- a length of a graphic column counts units of so many bytes
+-- term: W3. The bytes of a unit of a graphic column
 abbrev pub graphicUnit : ColumnDescriptor → ℕ
 graphicUnit c = cond (graphicLengthIsCharacterCount c) 2 1
 
@@ -74,7 +74,7 @@ abbrev pub lobExtent : ReferenceLength → Extent → Extent
 lobExtent (Width w) e = Fixed w
 lobExtent Absent e = e
 
--- W6: "the tests for length 0 of Blob, Clob and DbClob look at the column's length"
+-- W6: of a Blob, Clob or DbClob, by the column's length
 abbrev pub lengthExtent : ℕ → Extent
 lengthExtent n = cond (eqb n 0) Locator Inline
 

@@ -1,4 +1,4 @@
--- What a value's bytes mean: a function of the column and of exactly those bytes, `need` of them (document 01, "Rows": W3; the Rust: decode_column_value,
+-- What a value's bytes mean: a function of the column and of exactly those bytes, `need` of them: W3, W6, W7 (the Rust: decode_column_value,
 -- column_has_extdta_reference). The conversions of single values are a parameter: nothing that is proved of rows rests on which they are.
 -- specs/Conversions.antt has those of the row call. Where the Rust makes a test on the rest of the row, it is made here on the value's own bytes; proofs/Extents.antt
 -- has the laws that the two agree. Assumes nothing.
@@ -71,7 +71,7 @@ lobEmpty xmls = text xml []
 abbrev pub isEmptyReference : List ℕ → Bool
 isEmptyReference s = isReference s && allZero (drop 1 s)
 
--- the Rust: decode_externalized_lob_header. The header is what stands behind the two bytes that say its length, or all
+-- term: W3. The header is what stands behind the two bytes that say its length, or all (the Rust: decode_externalized_lob_header)
 abbrev pub headerBytes : List ℕ → List ℕ
 headerBytes s = cond (saysHeader s) (drop 2 s) s
 
@@ -159,7 +159,7 @@ module _ (L : Conversions) where
 
 -- ---- external columns; the Rust: column_has_extdta_reference
 
--- "A zero-length LOB reference represents an empty value and has no EXTDTA": of the sorts that are LOBs
+-- an empty LOB is not external: the sorts that are LOBs
 abbrev pub isLobText : TextSort → Bool
 isLobText decimal = false
 isLobText char = false
@@ -190,6 +190,6 @@ typeRefers t c s =
     || ((namedIn (type.VarChar 0 ∷ type.VarGraphic 0 ∷ []) t && bit8000 (ownNumbers t))
     || (namedIn (type.LobBytes 0 ∷ type.LobChar 0 ∷ []) t && isShortReference (low15 (ownNumbers t)) s)))
 
--- W7: "the external columns (those that decode_row_body names)", document 01's term: a value that is there refers to data outside the row
+-- term: W7. A value that is there is external where it refers to data outside the row
 unfoldable pub refersIn : Conversions → ColumnDescriptor → List ℕ → Bool
 refersIn L c s = not (isEmptyLob (itemIn L c s)) && typeRefers (c .«db2_type») c s

@@ -1,4 +1,4 @@
--- Which columns carry their own end (document 01, "Rows": rule W9). A length that the type holds counts "also in the list below". Assumes nothing.
+-- Which columns carry their own end: W9. Assumes nothing.
 use mathlib.Core.Bool.{Bool, true, false, not, _&&_, _||_}
 use mathlib.Core.List.{List, [], _∷_}
 use lib.Dec.{leb, eqb}
@@ -7,19 +7,19 @@ use Rattle.types.specs.declared.Db2Type.the-variants as type
 use Rattle.types.specs.declared.ColumnDescriptor.{ColumnDescriptor}
 use Rattle.types.specs.Names.{ownNumbers, bit8000, low15, namedIn, isAbsent}
 
--- "LobBytes or LobChar with the low 15 bits of its length 1,024 or more"
+-- the first exception
 abbrev pub isLongMaterialized : Db2Type → Bool
 isLongMaterialized t = namedIn (type.LobBytes 0 ∷ type.LobChar 0 ∷ []) t && leb 1024 (low15 (ownNumbers t))
 
--- "Blob, Clob or DbClob with no reference length and length 0"
+-- the second
 abbrev pub isLobOfLength0 : Db2Type → ColumnDescriptor → Bool
 isLobOfLength0 t c = namedIn (type.Blob ∷ type.Clob ∷ type.DbClob ∷ []) t && (isAbsent (c .«extdta_reference_length») && eqb (c .length) 0)
 
--- "VarChar or VarGraphic with bit 8000 and low 15 bits 0 or 1"
+-- the third
 abbrev pub isTinyHeader : Db2Type → Bool
 isTinyHeader t = namedIn (type.VarChar 0 ∷ type.VarGraphic 0 ∷ []) t && (bit8000 (ownNumbers t) && leb (low15 (ownNumbers t)) 1)
 
--- "A column carries its own end unless it is" one of these. This is document 01's term
+-- term: W9
 abbrev pub typeCarriesOwnEnd : Db2Type → ColumnDescriptor → Bool
 typeCarriesOwnEnd t c = not (isLongMaterialized t || (isLobOfLength0 t c || isTinyHeader t))
 

@@ -1,4 +1,4 @@
--- The row call (document 01, "Rows" and "What the call hands back"): what it answers, and what it leaves in the text buffer. Assumes nothing.
+-- The row call, what it answers and what it leaves in the text buffer: H1, H5, H7, refusals 3, 4, 5, 8 and 9. Assumes nothing.
 use Prim.Native.Nat.{ℕ, _+_}
 use mathlib.Core.Bool.{Bool, false, cond, _||_}
 use mathlib.Core.List.{List, [], _∷_, _++_}
@@ -20,7 +20,7 @@ use Rattle.numbers.specs.Number.{numberValue}
 use Rattle.rules.specs.Meaning.{ByteSort, binary, blob, TextSort, decimal, char, varChar, clob, rowId, date, time, timestamp, xml, Item, nothing, number, boolean, part, text, Conversions, itemIn, refersIn}
 use Rattle.rules.specs.Walk.{Piece, absent, present, Walk, done, short, skipOf, walkBody}
 
--- ---- an answer by document 01's numbers
+-- ---- an answer by the rules' numbers
 
 pub record RowTold : Type 0 where
   pub outcome : Told
@@ -50,13 +50,11 @@ textValue time p = value.Time p
 textValue timestamp p = value.Timestamp p
 textValue xml p = value.Xml p
 
--- H5: "an empty one names place 0": where a part of n bytes begins that is found at a place
+-- H5: where a part of n bytes begins that is found at a place; an empty one at 0
 unfoldable pub startOf : ℕ → ℕ → ℕ
 startOf n at = cond (eqb n 0) 0 at
 
--- The value of an item whose bytes begin at place `at` of the input. `next` is the next unwritten byte of the text buffer.
--- "Binary and Blob values name a place, counted from the input's first byte, and a length in the row; an empty one names place 0. An empty text names the next
--- unwritten byte."
+-- H5: the value of an item whose bytes begin at place `at` of the input. `next` is the next unwritten byte of the text buffer
 unfoldable pub valueOf : Item → ℕ → ℕ → Db2Value
 valueOf nothing at next = value.Null
 valueOf (number x) at next = numberValue x
@@ -85,7 +83,7 @@ module _ (L : Conversions) where
   rowValues [] next = []
   rowValues (p ∷ ps) next = pieceValue p next ∷ rowValues ps (next + length (textOf (pieceItem p)))
 
-  -- H5: "texts lie in column order"
+  -- H5: the texts, one after the other
   unfoldable pub rowTexts : List Piece → List ℕ
   rowTexts [] = []
   rowTexts (p ∷ ps) = textOf (pieceItem p) ++ rowTexts ps
@@ -98,13 +96,13 @@ pub data Decision : Type 0 where
   -- the row's pieces, and how many bytes of the input they used
   acceptance : List Piece → ℕ → Decision
 
--- refusal 5: "A column of type DecFloat, among those the count covers"
+-- refusal 5
 unfoldable pub anyDecFloat : List ColumnDescriptor → Bool
 anyDecFloat [] = false
 anyDecFloat (c ∷ cs) = isDecFloat c || anyDecFloat cs
 
 module _ (L : Conversions) where
-  -- refusal 8: "Too short, with the two numbers". Refusal 9: "Text buffer shorter than the texts together, with the length needed"
+  -- refusals 8 and 9
   unfoldable pub walkDecision : Walk → List ℕ → Decision
   walkDecision (short expected actual) d = refusal 8 (expected ∷ actual ∷ [])
   walkDecision (done ps n) d = cond (ltb (length d) (length (rowTexts L ps))) (refusal 9 (length (rowTexts L ps) ∷ [])) (acceptance ps n)
@@ -121,7 +119,7 @@ module _ (L : Conversions) where
       (cond (anyDecFloat (covered columns)) (refusal 5 [])
       (bodyDecision (covered columns) (skipOf s) s d)))
 
--- H7: "A refusal returns blanks"
+-- H5, H7
 abbrev pub refusedRow : ℕ → List ℕ → RowTold
 refusedRow n vs = record { outcome = refused n vs; places = filled blankValue []; used = 0 }
 
@@ -130,7 +128,7 @@ module _ (L : Conversions) where
   answerOf (refusal n vs) = refusedRow n vs
   answerOf (acceptance ps n) = record { outcome = accepted; places = filled blankValue (rowValues L ps 0); used = n }
 
-  -- a refusal "changes no buffer"; else "texts lie in column order from the text buffer's first byte; bytes after the last text keep what they had"
+  -- H1, H7
   unfoldable pub textAfter : Decision → List ℕ → List ℕ
   textAfter (refusal n vs) d = d
   textAfter (acceptance ps n) d = written (rowTexts L ps) d

@@ -1,5 +1,5 @@
--- What value_bytes shows of an accepted answer (document 01, "What the call hands back"): of each column the text that its bytes mean, or the part of its bytes that
--- the value is. A statement; proofs/Shown.antt proves it. Assumes nothing.
+-- What value_bytes shows of an accepted answer: H6. Of each column it is the text that its bytes mean, or the part of its bytes that the value is.
+-- A statement; proofs/Shown.antt proves it. Assumes nothing.
 use Prim.Native.Nat.{ℕ}
 use mathlib.Core.Path.{_≡_}
 use mathlib.Core.List.{List, []}

@@ -1,5 +1,4 @@
--- The sorts of value that a column's type allows (document 01, "What the call hands back": "Every accepted value is Null or of a sort that its column's type
--- allows"). The table is that of the Rust's decode_column_value. Assumes nothing.
+-- The sorts of value that a column's type allows: W10. The table is that of the Rust's decode_column_value. Assumes nothing.
 use mathlib.Core.Path.{_≡_}
 use mathlib.Core.Bool.{true}
 use mathlib.Core.List.{List, [], _∷_}

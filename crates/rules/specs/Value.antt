@@ -1,4 +1,4 @@
--- The bytes of a value (document 01, "What the call hands back"). Assumes nothing.
+-- The bytes of a value: H6. Assumes nothing.
 use Prim.Native.Nat.{ℕ, _+_}
 use mathlib.Core.Bool.{cond}
 use mathlib.Core.List.{List, [], _∷_}
@@ -9,7 +9,7 @@ use Rattle.types.specs.declared.Db2Value.{Db2Value}
 use Rattle.types.specs.declared.ValuePlace.{ValuePlace}
 use Rattle.types.specs.Held.{Held, bits, row, textBuffer, held}
 
--- the part of s at a place, and none where the place doesn't fit
+-- the part of s at a place, and none where the place does not fit
 unfoldable pub bytesAt : Place → List ℕ → List ℕ
 bytesAt p s = cond (leb (p .start + p .len) (length s)) (take (p .len) (drop (p .start) s)) []
 
@@ -18,8 +18,7 @@ heldBytes (bits n) s d = []
 heldBytes (row p) s d = bytesAt p s
 heldBytes (textBuffer p) s d = bytesAt p d
 
--- "A further call shows the bytes of a value as a part of the row or of the text buffer; for a number, a Boolean, Null, or a place that doesn't fit, the part
--- is empty": of the value v, the row s and the text buffer d
+-- H6: of the value v, with the row s and the text buffer d
 unfoldable pub valueBytes : Db2Value → List ℕ → List ℕ → List ℕ
 valueBytes v s d = heldBytes (held v) s d
 

@@ -1,5 +1,5 @@
--- The walk of a row (document 01, "Rows"; the Rust: decode_row, decode_row_body): each column is given the rest of the row from its first unread byte, and takes
--- what it needs of it. The walk says which bytes each value has, and never what they mean. Assumes nothing.
+-- The walk of a row: W1 to W4, W8 (the Rust: decode_row, decode_row_body). Each column takes what it needs of the bytes that are left. The walk says which bytes
+-- each value has, and never what they mean. Assumes nothing.
 use Prim.Native.Nat.{ℕ, _+_, _-_}
 use mathlib.Core.Bool.{Bool, true, false, cond, _&&_}
 use mathlib.Core.List.{List, [], _∷_}
@@ -9,11 +9,11 @@ use Rattle.types.specs.declared.ColumnDescriptor.{ColumnDescriptor}
 use Rattle.rules.specs.declared.Extent.{Extent}
 use Rattle.rules.specs.Extent.{need, extentOf}
 
--- W1: "If there are at least two bytes and the first is FF, two are skipped; the second is not looked at."
+-- W1: how many bytes are skipped
 unfoldable pub skipOf : List ℕ → ℕ
 skipOf s = cond (leb 2 (length s) && eqb (getD s 0 0) 0xFF) 2 0
 
--- W2: "A nullable column first takes one indicator byte: FF is Null, any other means a value": the bytes that a column takes of the rest s
+-- W2: the bytes that a nullable column takes of the rest s
 unfoldable pub nullableNeed : Extent → List ℕ → ℕ
 nullableNeed e [] = 1
 nullableNeed e (b ∷ s) = cond (eqb b 0xFF) 1 (1 + need e s)
@@ -52,7 +52,7 @@ cellShort true e offset [] = short (offset + 1) offset
 cellShort true e offset (b ∷ s) = short (need e s) (length s)
 cellShort false e offset s = short (need e s) (length s)
 
--- W3: "Each column is then given the rest of the row, from its first unread byte": s is that rest, `at` the place of its first byte, and `start` that of the body's
+-- W3: s is the rest of the row, `at` the place of its first byte, and `start` that of the body's
 unfoldable pub walk : ℕ → List ColumnDescriptor → ℕ → List ℕ → Walk
 walk start [] at s = done [] at
 walk start (c ∷ cs) at s =
@@ -60,7 +60,7 @@ walk start (c ∷ cs) at s =
     (consPiece (cellPiece (c .nullable) c at (take (columnNeed c s) s)) (walk start cs (at + columnNeed c s) (drop (columnNeed c s) s)))
     (cellShort (c .nullable) (extentOf c) (at - start) s)
 
--- the body that begins at a place of the input
+-- term: W1. The body begins at a place of the input
 unfoldable pub walkBody : List ColumnDescriptor → ℕ → List ℕ → Walk
 walkBody cs start s = walk start cs start (drop start s)
 

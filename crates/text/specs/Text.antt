@@ -1,4 +1,4 @@
--- What a text conversion answers when it is called alone (document 01, "What the call hands back"). Assumes nothing.
+-- What a text conversion answers when it is called alone: H7, refusals 4 and 9. Assumes nothing.
 use Prim.Native.Nat.{ℕ}
 use mathlib.Core.Bool.{cond}
 use mathlib.Core.List.{List, []}

@@ -1,4 +1,4 @@
--- The columns that the triplets of a description describe (document 01, "Descriptors"). Assumes nothing.
+-- The columns that the triplets of a description describe: Q2 to Q8. Assumes nothing.
 use Prim.Native.Nat.{ℕ, _-_}
 use mathlib.Core.Bool.{cond}
 use mathlib.Core.List.{List, [], _∷_, _++_}
@@ -12,15 +12,15 @@ use Rattle.triplets.specs.declared.Pending.{Pending}
 use Rattle.triplets.specs.declared.Pending.the-variants as pending
 use Rattle.triplets.specs.Triplets.{Triplet, reading}
 
--- 78 (Q2): "its last data byte is kept as pending, or nothing where it has no data"
+-- Q2: what an MDD with the data d leaves pending
 unfoldable pub lastOf : List ℕ → Pending
 lastOf d = cond (eqb (length d) 0) pending.Nothing (pending.Type (getD d (length d - 1) 0))
 
--- 70 uses pending up (Q3); "76, 71 and unknown types clear pending" (Q8)
+-- Q2, Q3, Q8: what is pending after a triplet
 unfoldable pub pendingAfter : Triplet → Pending
 pendingAfter t = cond (eqb (t .kind) 0x78) (lastOf (t .body)) pending.Nothing
 
--- Q3: "an array of 256 places, one for each LID"
+-- Q3: the environment in which no LID is declared
 unfoldable pub noEntries : List EnvEntry
 noEntries = replicate 256 noEntry
 
@@ -28,7 +28,7 @@ noEntries = replicate 256 noEntry
 unfoldable pub declare : List EnvEntry → ℕ → EnvEntry → List EnvEntry
 declare env l e = set env l (firstEntry (getD env l noEntry) e)
 
--- 70 (Q3) "with a pending type, .. declares an environment entry: LID .. at data 0"; "empty data declares nothing"
+-- Q3: the environment after a triplet
 unfoldable pub environmentAfter : Pending → List EnvEntry → Triplet → List EnvEntry
 environmentAfter pending.Nothing env t = env
 environmentAfter (pending.Type mdd) env t =
@@ -36,23 +36,23 @@ environmentAfter (pending.Type mdd) env t =
     (cond (eqb (length (t .body)) 0) env (declare env (getD (t .body) 0 0) (entryOf mdd (t .body))))
     env
 
--- an SDA (Q4, Q7) "is a column, or nothing where it has no data"
+-- Q4, Q7: the column of an SDA with the data d, if it has data
 unfoldable pub sdaColumns : List ℕ → List ColumnDescriptor
 sdaColumns d = cond (eqb (length d) 0) [] (sdaColumn d ∷ [])
 
--- 70 (Q4): a column where nothing is pending
+-- Q3, Q4: an SDA that is no inner one is a column where nothing is pending
 unfoldable pub outerSda : Pending → List ℕ → List ColumnDescriptor
 outerSda pending.Nothing d = sdaColumns d
 outerSda (pending.Type mdd) d = []
 
--- 76 whose data begins D0 (Q5): "threes of LID and two attribute bytes follow; a rest below three bytes is ignored"
+-- Q5: the columns of a D0 group, from the bytes after D0
 unfoldable pub lidColumns : List EnvEntry → List ℕ → List ColumnDescriptor
 lidColumns env [] = []
 lidColumns env (l ∷ []) = []
 lidColumns env (l ∷ a ∷ []) = []
 lidColumns env (l ∷ a ∷ b ∷ d) = lidColumn (getD env l noEntry) l a b ∷ lidColumns env d
 
--- other 76 (Q7): "inner 70 is a column"
+-- Q7: the columns of any other group, from its inner triplets
 unfoldable pub innerColumns : List Triplet → List ColumnDescriptor
 innerColumns [] = []
 innerColumns (t ∷ ts) = cond (eqb (t .kind) 0x70) (sdaColumns (t .body)) [] ++ innerColumns ts

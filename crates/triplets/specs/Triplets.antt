@@ -1,11 +1,11 @@
--- Bytes read as triplets (document 01, "Descriptors"). Assumes nothing.
+-- Bytes read as triplets: Q1, Q7. Assumes nothing.
 use Prim.Native.Nat.{ℕ, zero, suc, _-_}
 use mathlib.Core.Bool.{Bool, cond, _&&_}
 use mathlib.Core.List.{List, [], _∷_}
 use lib.Dec.{leb}
 use lib.ListN.{length, getD, take, drop}
 
--- Q1: "A triplet is a length byte (itself included), a type byte and data"
+-- term: Q1. A triplet by its type byte and its data
 pub record Triplet : Type 0 where
   pub kind : ℕ
   pub body : List ℕ
@@ -36,7 +36,6 @@ unfoldable pub readingOf : ℕ → ℕ → List ℕ → Reading
 readingOf least zero s = stopped s
 readingOf least (suc n) s = cond (begins least s) (after (firstTriplet s) (readingOf least n (drop (getD s 0 0) s))) (stopped s)
 
--- Q1: "Reading stops, without refusal, when fewer than two bytes remain, the length is below 2 or it runs past the end": `least` is 2. Inner
--- triplets are read "while at least three bytes remain": `least` is 3. There are never more triplets than bytes
+-- Q1, Q7: `least` is 2, and 3 of inner triplets. There are never more triplets than bytes
 unfoldable pub reading : ℕ → List ℕ → Reading
 reading least s = readingOf least (length s) s

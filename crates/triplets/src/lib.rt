@@ -26,7 +26,8 @@ pub enum Pending {
     Type(u8),
 }
 
-// Where the reading stands: before an outer triplet, among the threes of a D0 group that ends at `end`, or before an inner triplet of such a group.
+// Where the reading stands: before an outer triplet; among the threes of a D0 group (Q5); or before an inner triplet of any other group (Q7). The group
+// ends at `end`.
 pub enum Cursor {
     // The small field first: so no variant's pending shares bytes with another's end.
     Outer { pending: Pending, at: usize },

@@ -1,4 +1,4 @@
--- The byte count of a type's values, where the type alone tells it (document 01, "Types": rule Y3; the Rust: fixed_length). Assumes nothing.
+-- The byte count of a type's values, where the type alone tells it: Y3 (the Rust: fixed_length). Assumes nothing.
 use Prim.Native.Nat.{ℕ, _+_, _*_, _/_}
 use mathlib.Core.Bool.{cond}
 use mathlib.Core.Option.{Option, some, none}
@@ -14,7 +14,7 @@ abbrev pub toldLength : FixedLength → Option ℕ
 toldLength (Bytes n) = some n
 toldLength Varies = none
 
--- a packed decimal (P5): "a column's byte count is (precision + 2) / 2 rounded down"
+-- P5: of a packed decimal
 abbrev pub packedLength : ℕ → ℕ
 packedLength precision = (precision + 2) / 2
 

@@ -43,8 +43,7 @@ nameOf type.Boolean = 26
 nameOf type.Xml = 27
 nameOf type.Null = 28
 
--- W6: "A column's type may hold numbers of its own, as Char, VarChar, LobBytes, Graphic and Decimal do. Those count wherever such a type is read": as
--- one number. Of Decimal the precision is in the low 8 bits and the scale in the high 8; 0 where a type holds none
+-- W6: the numbers that a type holds, as one. Of Decimal the precision is in the low 8 bits and the scale in the high 8; 0 where a type holds none
 abbrev pub ownNumbers : Db2Type → ℕ
 ownNumbers type.SmallInt = 0
 ownNumbers type.Integer = 0
@@ -99,6 +98,6 @@ abbrev pub isLittleEndian : ByteOrder → Bool
 isLittleEndian BigEndian = false
 isLittleEndian LittleEndian = true
 
--- a length of a graphic column counts characters of two bytes; else it counts bytes
+-- term: W3. The units of a graphic column have two bytes, not one
 abbrev pub graphicLengthIsCharacterCount : ColumnDescriptor → Bool
 graphicLengthIsCharacterCount c = isLittleEndian (c .«byte_order») && eqb (c .ccsid) 1200

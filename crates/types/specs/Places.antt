@@ -1,4 +1,4 @@
--- Lists in a fixed number of places, and what an unused place holds (document 01, "What the call hands back"). Assumes nothing.
+-- Lists in a fixed number of places, and what an unused place holds: H4, H5. Assumes nothing.
 use Prim.Native.Nat.{ℕ, _-_}
 use mathlib.Core.Bool.{false}
 use mathlib.Core.List.{List, _++_}
@@ -11,7 +11,7 @@ use Rattle.types.specs.declared.ColumnDescriptor.{ColumnDescriptor}
 use Rattle.types.specs.declared.Columns.{Columns}
 use Rattle.types.specs.declared.ValuePlace.{ValuePlace}
 
--- H4: "A column list has 128 places"
+-- H4: the places of a list
 abbrev pub maxColumns : ℕ
 maxColumns = 128
 
@@ -19,7 +19,7 @@ maxColumns = 128
 unfoldable pub filled : {A : Type 0} → A → List A → List A
 filled blank xs = xs ++ replicate (maxColumns - length xs) blank
 
--- H4: "Unused places hold type Null, every number 0, not nullable, big-endian, no reference length"
+-- H4: an unused place of a column list
 unfoldable pub blankColumn : ColumnDescriptor
 blankColumn =
     record {
@@ -35,7 +35,7 @@ blankColumn =
       «extdta_reference_length» = Absent;
     }
 
--- H5: "unused value places hold Null and are not external"
+-- H5: an unused value place
 unfoldable pub blankValue : ValuePlace
 blankValue = record { value = value.Null; external = false }
 
@@ -43,6 +43,6 @@ blankValue = record { value = value.Null; external = false }
 unfoldable pub columnList : List ColumnDescriptor → Columns
 columnList cs = record { columns = filled blankColumn cs; count = length cs }
 
--- "those that the count covers"
+-- D3, refusal 5: as many of the columns as the count says
 abbrev pub covered : Columns → List ColumnDescriptor
 covered l = take (l .count) (l .columns)

@@ -1,4 +1,4 @@
--- The type that a DRDA type code stands for (document 01, "Types"; the Rust: from_drda_type). Assumes nothing.
+-- The type that a DRDA type code stands for: Y1, Y2 and Y4 (the Rust: from_drda_type). Assumes nothing.
 use Prim.Native.Nat.{ℕ, _-_, _%_}
 use mathlib.Core.Bool.{Bool, true, false, cond}
 use mathlib.Core.List.{List, [], _∷_}
@@ -7,7 +7,7 @@ use Rattle.types.specs.declared.Db2Type.{Db2Type}
 use Rattle.types.specs.declared.Db2Type.the-variants as type
 use Rattle.types.specs.declared.DrdaType.{DrdaType}
 
--- Y1: "The 26 base codes stand in one fixed table": each with its type, in a column of length n, precision p and scale s
+-- Y1: the base codes, each with its type in a column of length n, precision p and scale s. Y4: the digits of a DecFloat
 unfoldable pub baseTypes : ℕ → ℕ → ℕ → List (ℕ × Db2Type)
 baseTypes n p s =
     (0x02, type.Integer)
@@ -43,7 +43,7 @@ unfoldable pub listedOr : Db2Type → List (ℕ × Db2Type) → ℕ → Db2Type
 listedOr t [] c = t
 listedOr t (e ∷ es) c = cond (eqb (e .0) c) (e .1) (listedOr t es c)
 
--- Y2: "bit 01 means nullable": a base code is a type code without that bit
+-- Y2: the bit that says nullable, and the base code, which is the type code without it
 abbrev pub nullableBit : ℕ → Bool
 nullableBit c = eqb (c % 2) 1
 
@@ -53,8 +53,7 @@ baseOf c = c - c % 2
 abbrev pub drdaType : Db2Type → Bool → DrdaType
 drdaType t b = record { «db2_type» = t; nullable = b }
 
--- Y1, Y2: "50 and 51 are tested first: LobBytes and LobChar, not nullable. Otherwise bit 01 means nullable and the rest is looked up; an unlisted
--- code is VarChar of the given length"
+-- Y1, Y2: 50 and 51 come before the table, and VarChar after it
 unfoldable pub fromDrdaType : ℕ → ℕ → ℕ → ℕ → DrdaType
 fromDrdaType c n p s =
     cond (eqb c 0x50) (drdaType (type.LobBytes n) false)

@@ -88,7 +88,7 @@ pub struct Columns {
     pub count: usize,
 }
 
-// A part of the row or of the text buffer.
+// Where bytes lie, in the row or in the text buffer.
 pub struct Place {
     pub start: usize,
     pub len: usize,

@@ -1,4 +1,4 @@
--- ASCII (document 01, "Text leaves": "bytes all below 80", rule T6). Such bytes are their own UTF-8: `ascii-text` of Laws.antt. Assumes nothing.
+-- ASCII: T6. Such bytes are their own UTF-8: `ascii-text` of Laws.antt. Assumes nothing.
 use Prim.Native.Nat.{ℕ}
 use mathlib.Core.Bool.{Bool, true, false, cond}
 use mathlib.Core.List.{List, [], _∷_}

@@ -1,6 +1,6 @@
 -- Text as the Unicode Standard defines it, chapter 3, sections 3.9 "Unicode Encoding Forms" and 3.10 "Unicode Encoding Schemes".
 -- Definitions (D76 ..) and tables (3-4 ..) are cited by the numbers of Version 15.0, from memory. Code points, code units and bytes are numbers.
--- Code units are read as a list of pieces: a scalar value, or a malformed part, which U+FFFD replaces. Laws.antt has what holds of it,
+-- Code units are read as pieces, each of which is a scalar value or malformed; U+FFFD replaces what is malformed. Laws.antt has what holds of it,
 -- Examples.antt the Standard's own examples. Assumes nothing.
 use Prim.Native.Nat.{ℕ, zero, suc, _+_, _*_, _-_, _/_, _%_}
 use mathlib.Core.Bool.{Bool, true, false, cond}
@@ -149,7 +149,7 @@ unfoldable pub bigEndian : List ℕ → List ℕ
 bigEndian [] = []
 bigEndian (u ∷ us) = u / 256 ∷ u % 256 ∷ bigEndian us
 
--- the code units of such bytes; a last byte that is alone makes none (document 01 reads UTF-16 only where the byte count is even)
+-- the code units of such bytes; a last byte that is alone makes none (T7 reads UTF-16 only where the byte count is even)
 unfoldable pub units : List ℕ → List ℕ
 units [] = []
 units (a ∷ []) = []

@@ -1,4 +1,4 @@
-// The text of UTF-8 bytes, with one U+FFFD for each maximal malformed part: how long it is, and its writing.
+// The text of UTF-8 bytes, where U+FFFD replaces what is malformed (T3): how long it is, and its writing.
 use super::ascii::ascii_run;
 use super::ascii::copy_ascii;
 use super::blocks::between;

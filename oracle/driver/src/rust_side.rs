@@ -1,6 +1,6 @@
 //! The answers of the published Rust. It has no limits of its own: those of the port are applied here, before it is asked.
 use crate::leaf::{Answer, Leaf, DECIMAL_LIMIT, TEXT_LIMIT};
-use db2_proto::fdoca::doors;
+use db2_proto::fdoca::exposed;
 use db2_proto::types::decode_packed_decimal;
 
 /// The refusal that the limits give, if any.
@@ -18,18 +18,18 @@ fn refused(leaf: Leaf, data: &[u8]) -> Option<u32> {
 /// The text that the Rust gives, without limits (every leaf but Likely, and no empty packed decimal).
 pub fn text(leaf: Leaf, data: &[u8]) -> String {
     match leaf {
-        Leaf::Character { ccsid } => doors::decode_character_bytes(data, ccsid),
-        Leaf::Graphic { ccsid } => doors::decode_graphic_bytes(data, ccsid),
+        Leaf::Character { ccsid } => exposed::decode_character_bytes(data, ccsid),
+        Leaf::Graphic { ccsid } => exposed::decode_graphic_bytes(data, ccsid),
         Leaf::Decimal { precision, scale } => decode_packed_decimal(data, precision, scale)
             .expect("the Rust refuses no packed decimal that has a byte"),
-        Leaf::Locator => doors::format_lob_locator(data),
-        Leaf::RowId => doors::format_rowid(data),
+        Leaf::Locator => exposed::format_lob_locator(data),
+        Leaf::RowId => exposed::format_rowid(data),
         Leaf::Likely => panic!("bytes_are_likely_text gives no text"),
     }
 }
 
 pub fn likely(data: &[u8]) -> bool {
-    doors::bytes_are_likely_text(data)
+    exposed::bytes_are_likely_text(data)
 }
 
 pub fn answer(leaf: Leaf, data: &[u8]) -> Answer<'static> {
@@ -66,7 +66,7 @@ mod tests {
         assert_eq!(answer(Leaf::decimal(0), &at[..129]), Answer::Refusal(7));
     }
 
-    /// A few of the published rules' own examples: the doors lead where they say.
+    /// A few of the published rules' own examples: the exposed functions pass on to the right ones.
     #[test]
     fn known_answers() {
         assert_eq!(

@@ -1,8 +1,8 @@
-// Shim. The published fdoca.rs, unchanged, and doors to its private functions. A door passes on what it is given and what
-// comes back, and does nothing else.
+// Shim. The published fdoca.rs, unchanged, and for its private functions public ones, which pass on what they are given and what
+// comes back, and do nothing else.
 include!("published.rs");
 
-pub mod doors {
+pub mod exposed {
     pub fn decode_row_body(
         data: &[u8],
         columns: &[super::ColumnDescriptor],

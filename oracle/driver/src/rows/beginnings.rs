@@ -1,4 +1,4 @@
-//! Demand 3, tried on the compiled code (document 01, "Rows"): an accepted row of at least two bytes, of which some are used, stays what
+//! Demand 3 (D3 of docs/RULES.md), tried on the compiled code: an accepted row of at least two bytes, of which some are used, stays what
 //! it is whatever bytes follow it, and its shorter beginnings of at least two bytes are too short, where every column carries its own
 //! end; and for any columns the bytes used, alone, give the same answer.
 use super::compare::Run;
@@ -8,7 +8,7 @@ use crate::run::{Difference, End, Flow};
 use port::column::{Column, Name};
 use std::ops::ControlFlow::{Break, Continue};
 
-/// Document 01's list, read the other way round.
+/// W9: its exceptions, read the other way round.
 pub fn carries_own_end(column: &Column) -> bool {
     let own = column.db2_type.numbers;
     match column.db2_type.name {

@@ -5,7 +5,7 @@ use super::faults::Fault;
 use super::port_side::Library;
 use super::{LARGEST_NUMBER, ROW_LIMIT};
 use crate::descriptions::COLUMN_LIMIT;
-use db2_proto::fdoca::doors;
+use db2_proto::fdoca::exposed;
 use db2_proto::types::decode_packed_decimal;
 use port::column::{Column, Name, Order};
 use port::value::{Sort, Value, VALUE_WORDS};
@@ -298,8 +298,8 @@ impl Model {
                 };
                 let bytes = need(rest, length)?;
                 let shown = match (self.0, column.ccsid) {
-                    (Some(Fault::CharGraphic), 1200) => doors::decode_graphic_bytes(bytes, 1200),
-                    _ => doors::decode_character_bytes(bytes, column.ccsid),
+                    (Some(Fault::CharGraphic), 1200) => exposed::decode_graphic_bytes(bytes, 1200),
+                    _ => exposed::decode_character_bytes(bytes, column.ccsid),
                 };
                 Ok((text(Sort::Char, shown), length))
             }
@@ -312,12 +312,12 @@ impl Model {
                     usize::MAX
                 };
                 let bytes = &bytes[..bytes.len().min(most)];
-                let shown = doors::decode_character_bytes(bytes, column.ccsid);
+                let shown = exposed::decode_character_bytes(bytes, column.ccsid);
                 Ok((text(Sort::VarChar, shown), used))
             }
             Name::LongVarChar => {
                 let (bytes, used) = self.counted(rest, column, 1)?;
-                let shown = doors::decode_character_bytes(bytes, column.ccsid);
+                let shown = exposed::decode_character_bytes(bytes, column.ccsid);
                 let sort = if self.has(Fault::LongIsClob) {
                     Sort::Clob
                 } else {
@@ -370,7 +370,7 @@ impl Model {
             }
             Name::LobBytes | Name::LobChar => self.materialized(rest, column),
             Name::RowId => {
-                let shown = doors::format_rowid(need(rest, plain)?);
+                let shown = exposed::format_rowid(need(rest, plain)?);
                 let lower = self.has(Fault::LowerRowId);
                 let shown = if lower { shown.to_lowercase() } else { shown };
                 Ok((text(Sort::RowId, shown), plain))
@@ -464,7 +464,7 @@ impl Model {
             (Some(Fault::TimeOf10), Sort::Time) => 10,
             _ => length,
         };
-        let shown = doors::decode_character_bytes(need(rest, length)?, column.ccsid);
+        let shown = exposed::decode_character_bytes(need(rest, length)?, column.ccsid);
         Ok((text(sort, shown), length))
     }
 
@@ -486,9 +486,9 @@ impl Model {
                 .chunks(2)
                 .flat_map(|unit| [unit[1], unit[0]])
                 .collect();
-            return doors::decode_graphic_bytes(&turned, column.ccsid);
+            return exposed::decode_graphic_bytes(&turned, column.ccsid);
         }
-        doors::decode_graphic_bytes(bytes, column.ccsid)
+        exposed::decode_graphic_bytes(bytes, column.ccsid)
     }
 
     /// A flagged VarChar or VarGraphic.
@@ -521,7 +521,7 @@ impl Model {
         } else {
             header
         };
-        let shown = doors::format_lob_locator(header);
+        let shown = exposed::format_lob_locator(header);
         Ok((text(Sort::Clob, shown).external(external), total))
     }
 
@@ -536,8 +536,8 @@ impl Model {
                 };
                 part(Sort::Blob, 0, used.min(most))
             }
-            Name::Xml => text(Sort::Xml, doors::format_lob_locator(bytes)),
-            _ => text(Sort::Clob, doors::format_lob_locator(bytes)),
+            Name::Xml => text(Sort::Xml, exposed::format_lob_locator(bytes)),
+            _ => text(Sort::Clob, exposed::format_lob_locator(bytes)),
         }
         .external(true)
     }
@@ -593,7 +593,7 @@ impl Model {
         let total = 4 + length as usize;
         let bytes = &need(rest, total)?[4..];
         let shown = || match self.0 {
-            Some(Fault::InlineByCcsid) => doors::decode_character_bytes(bytes, column.ccsid),
+            Some(Fault::InlineByCcsid) => exposed::decode_character_bytes(bytes, column.ccsid),
             _ => String::from_utf8_lossy(bytes).into_owned(),
         };
         let found = match column.db2_type.name {
@@ -620,12 +620,12 @@ impl Model {
         let likely = !is_bytes
             || match self.0 {
                 Some(Fault::LobBytesAlwaysText) => true,
-                Some(Fault::EmptyLobIsBlob) => length > 0 && doors::bytes_are_likely_text(bytes),
-                _ => doors::bytes_are_likely_text(bytes),
+                Some(Fault::EmptyLobIsBlob) => length > 0 && exposed::bytes_are_likely_text(bytes),
+                _ => exposed::bytes_are_likely_text(bytes),
             };
         let shown = || match self.0 {
             Some(Fault::LikelyAsUtf8) if is_bytes => String::from_utf8_lossy(bytes).into_owned(),
-            _ => doors::decode_character_bytes(bytes, column.ccsid),
+            _ => exposed::decode_character_bytes(bytes, column.ccsid),
         };
         let found = match (likely, is_bytes) {
             (true, true) => text(Sort::VarChar, shown()),
@@ -670,7 +670,7 @@ impl Model {
         };
         let found = match is_bytes {
             true => part(Sort::Blob, 0, used),
-            false => text(Sort::Clob, doors::format_lob_locator(&rest[..used])),
+            false => text(Sort::Clob, exposed::format_lob_locator(&rest[..used])),
         };
         Some((found.external(!self.has(Fault::LobNotExternal)), used))
     }

@@ -3,7 +3,7 @@
 //! found by walking over the columns with `decode_column_value`.
 use super::{Answer, Early, List, Outcome, ROW_LIMIT};
 use crate::descriptions::rust_side::published_type;
-use db2_proto::fdoca::{decode_row, doors, ByteOrder, ColumnDescriptor};
+use db2_proto::fdoca::{decode_row, exposed, ByteOrder, ColumnDescriptor};
 use db2_proto::types::{Db2Type, Db2Value};
 use db2_proto::ProtoError;
 use port::column::{Column, Order};
@@ -60,7 +60,7 @@ pub fn answer_into(list: &List, data: &[u8], answer: &mut Answer) {
     } else {
         0
     };
-    let (body, _) = doors::decode_row_body(&data[skip..], &list.published)
+    let (body, _) = exposed::decode_row_body(&data[skip..], &list.published)
         .expect("decode_row accepts what decode_row_body accepts");
     let mut external = body.extdta_columns.into_iter().peekable();
     let mut walk = Walk {
@@ -146,7 +146,7 @@ impl Walk<'_> {
             self.next += 1;
             self.at = start;
             if !null {
-                let value = doors::decode_column_value(&self.data[start..], descriptor);
+                let value = exposed::decode_column_value(&self.data[start..], descriptor);
                 self.at += value.expect("a column of an accepted row").1;
             }
         }

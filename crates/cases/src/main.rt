@@ -13,8 +13,7 @@ use types::RowAnswer;
 use types::ValuePlace;
 ghost use mathlib.Core.Path.{_≡_};
 ghost use mathlib.Core.List.{[], _∷_};
-ghost use Rattle.rules.specs.Row.{place};
-ghost use Rattle.edges.specs.Edges.{Given, values, tooShort, textOutcome, within, external, IsEdge};
+ghost use Rattle.edges.specs.Edges.{Given, values, tooShort, textOutcome, within, IsEdge};
 
 // The text buffer that each case is given: 24 bytes, all of them AA.
 const TEXT: usize = 24;
@@ -46,29 +45,12 @@ fn decode(description: &[u8], row: &[u8]) -> Decoded {
     }
 }
 
-// A value within the row, and one that refers to data outside it.
-fn within(value: Db2Value) -> ValuePlace
-    ensures { λ r. ⌜ r ≡ within value ⌝ }
-{
+// A value that does not refer to data outside the row.
+fn within(value: Db2Value) -> ValuePlace {
     ValuePlace {
         value,
         external: false,
     }
-}
-
-fn external(value: Db2Value) -> ValuePlace
-    ensures { λ r. ⌜ r ≡ external value ⌝ }
-{
-    ValuePlace {
-        value,
-        external: true,
-    }
-}
-
-fn place(start: usize, len: usize) -> Place
-    ensures { λ r. ⌜ r ≡ place start len ⌝ }
-{
-    Place { start, len }
 }
 
 fn is_accepted(outcome: Outcome) -> bool {
@@ -319,32 +301,36 @@ fn one(
     letter: u8,
     description: &[u8],
     row: &[u8],
-    value: ValuePlace,
+    value: Db2Value,
+    external: bool,
     texts: &[u8],
     bytes: &[u8],
     used: usize,
 )
-    requires { ⌜ IsEdge letter (Given.row (now description) (now row)) (values (value ∷ []) (now texts) (now bytes ∷ []) used) ⌝ }
+    requires { ⌜ IsEdge letter (Given.row (now description) (now row)) (values (record { value = value; external = external } ∷ []) (now texts) (now bytes ∷ []) used) ⌝ }
 {
-    tell(letter, is_one(description, row, value, texts, bytes, used));
+    let place = ValuePlace { value, external };
+    tell(letter, is_one(description, row, place, texts, bytes, used));
 }
 
-// A case of two columns, of which the first has no bytes to show.
+// A case of two columns, neither external, of which the first has no bytes to show.
 fn two(
     letter: u8,
     description: &[u8],
     row: &[u8],
-    first: ValuePlace,
-    second: ValuePlace,
+    first: Db2Value,
+    second: Db2Value,
     texts: &[u8],
     bytes: &[u8],
     used: usize,
 )
-    requires { ⌜ IsEdge letter (Given.row (now description) (now row)) (values (first ∷ second ∷ []) (now texts) ([] ∷ now bytes ∷ []) used) ⌝ }
+    requires { ⌜ IsEdge letter (Given.row (now description) (now row)) (values (within first ∷ within second ∷ []) (now texts) ([] ∷ now bytes ∷ []) used) ⌝ }
 {
+    let place = within(first);
+    let next = within(second);
     tell(
         letter,
-        are_two(description, row, first, second, texts, bytes, used),
+        are_two(description, row, place, next, texts, bytes, used),
     );
 }
 
@@ -378,7 +364,8 @@ fn a() {
         b'A',
         &integer,
         &row,
-        within(Db2Value::Integer(42)),
+        Db2Value::Integer(42),
+        false,
         b"",
         b"",
         4,
@@ -388,8 +375,8 @@ fn a() {
 fn b() {
     let description = SMALL_INT_AND_DECIMAL;
     let row = [0x00, 0x00, 0x2A, 0x00, 0x12, 0x34, 0x5C];
-    let first = within(Db2Value::SmallInt(42));
-    let second = within(Db2Value::Decimal(place(0, 6)));
+    let first = Db2Value::SmallInt(42);
+    let second = Db2Value::Decimal(Place { start: 0, len: 6 });
     two(
         b'B',
         &description,
@@ -405,8 +392,8 @@ fn b() {
 fn c() {
     let description = SMALL_INT_AND_DECIMAL;
     let row = [0xFF, 0x00, 0xFF, 0xFF];
-    let first = within(Db2Value::Null);
-    let second = within(Db2Value::Null);
+    let first = Db2Value::Null;
+    let second = Db2Value::Null;
     two(b'C', &description, &row, first, second, b"", b"", 4);
 }
 
@@ -416,7 +403,8 @@ fn d() {
         b'D',
         &description,
         &[0xFF],
-        within(Db2Value::Null),
+        Db2Value::Null,
+        false,
         b"",
         b"",
         1,
@@ -465,25 +453,26 @@ fn j() {
         0x03,
     ];
     let row = [0x00, 0xC1, 0xC2, 0xC3];
-    let value = within(Db2Value::Char(place(0, 3)));
-    one(b'J', &description, &row, value, b"ABC", b"ABC", 4);
+    let value = Db2Value::Char(Place { start: 0, len: 3 });
+    one(b'J', &description, &row, value, false, b"ABC", b"ABC", 4);
 }
 
 fn k() {
     let description = [0x05, 0x70, 0xC8, 0x80, 0x00];
-    let value = within(Db2Value::Blob(place(0, 0)));
-    one(b'K', &description, b"", value, b"", b"", 0);
+    let value = Db2Value::Blob(Place { start: 0, len: 0 });
+    one(b'K', &description, b"", value, false, b"", b"", 0);
 }
 
 fn l() {
     let description = [0x05, 0x70, 0xC8, 0x80, 0x04];
     let row = [0x00, 0x00, 0x00, 0x07];
-    let value = external(Db2Value::Blob(place(0, 4)));
+    let value = Db2Value::Blob(Place { start: 0, len: 4 });
     one(
         b'L',
         &description,
         &row,
         value,
+        true,
         b"",
         &[0x00, 0x00, 0x00, 0x07],
         4,
@@ -492,31 +481,40 @@ fn l() {
 
 fn m() {
     let description = HEADER_OF_ONE_BYTE;
-    let value = external(Db2Value::Clob(place(0, 16)));
+    let value = Db2Value::Clob(Place { start: 0, len: 16 });
     let text = b"LOB locator 0x80";
-    one(b'M', &description, &[0x80], value, text, text, 1);
+    one(b'M', &description, &[0x80], value, true, text, text, 1);
 }
 
 fn n() {
     let description = HEADER_OF_ONE_BYTE;
-    let value = external(Db2Value::Clob(place(0, 14)));
+    let value = Db2Value::Clob(Place { start: 0, len: 14 });
     let text = b"LOB locator 0x";
-    one(b'N', &description, &[0x80, 0x00], value, text, text, 2);
+    one(
+        b'N',
+        &description,
+        &[0x80, 0x00],
+        value,
+        true,
+        text,
+        text,
+        2,
+    );
 }
 
 fn o() {
     let description = CLOB_OF_LENGTH_0;
     let row = [0x02, 0x00, 0x00, 0x00];
-    let value = external(Db2Value::Clob(place(0, 22)));
+    let value = Db2Value::Clob(Place { start: 0, len: 22 });
     let text = b"LOB locator 0x02000000";
-    one(b'O', &description, &row, value, text, text, 4);
+    one(b'O', &description, &row, value, true, text, text, 4);
 }
 
 fn p() {
     let description = CLOB_OF_LENGTH_0;
     let row = [0x02, 0x00, 0x00, 0x00, 0x00, 0x00, 0x00, 0x00, 0x00];
-    let value = within(Db2Value::Clob(place(0, 0)));
-    one(b'P', &description, &row, value, b"", b"", 9);
+    let value = Db2Value::Clob(Place { start: 0, len: 0 });
+    one(b'P', &description, &row, value, false, b"", b"", 9);
 }
 
 fn main() {

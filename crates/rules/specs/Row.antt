@@ -20,8 +20,6 @@ use Rattle.numbers.specs.Number.{numberValue}
 use Rattle.rules.specs.Meaning.{ByteSort, binary, blob, TextSort, decimal, char, varChar, clob, rowId, date, time, timestamp, xml, Item, nothing, number, boolean, part, text, Conversions, itemIn, refersIn}
 use Rattle.rules.specs.Walk.{Piece, absent, present, Walk, done, short, skipOf, walkBody}
 
--- ---- an answer by the rules' numbers
-
 pub record RowTold : Type 0 where
   pub outcome : Told
   pub places : List ValuePlace

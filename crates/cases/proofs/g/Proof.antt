@@ -1,0 +1,29 @@
+-- `cases::g` is safe and ends, and what it runs is the row G of the proved table. Assumes nothing.
+use mathlib.Core.Path.{refl}
+use borrow.Author.Needs.{needs}
+use Rattle.edges.specs.Ascii.{ascii}
+use Rattle.edges.specs.Edges.{edges}
+use Rattle.cases.proofs.g.Statement.{statement}
+use Rattle.cases.proofs.g.Tie as tie
+
+slice-aggregate-packed-decimal : tie.Need-slice-aggregate-packed-decimal
+slice-aggregate-packed-decimal c = search needs
+
+slice-aggregate-packed-decimal-2 : tie.Need-slice-aggregate-packed-decimal-2
+slice-aggregate-packed-decimal-2 c = search needs
+
+packed-decimal-requires : tie.Need-packed-decimal-requires
+unfolding edges ascii
+packed-decimal-requires c κs = (6, refl, refl, refl)
+
+returns : tie.Need-returns
+returns c = search needs
+
+pub g-spec : {M : Type 1} → statement M
+g-spec =
+    tie.close
+    (tie.spec
+    slice-aggregate-packed-decimal
+    slice-aggregate-packed-decimal-2
+    packed-decimal-requires
+    returns)

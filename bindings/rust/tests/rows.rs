@@ -138,10 +138,19 @@ fn numbers_of_every_sort() {
             _ => None,
         };
         assert_eq!(value.as_f64(), float);
-        assert_eq!(value.as_i64().is_some(), matches!(value, Value::SmallInt(_) | Value::Integer(_) | Value::BigInt(_)));
+        assert_eq!(
+            value.as_i64().is_some(),
+            matches!(
+                value,
+                Value::SmallInt(_) | Value::Integer(_) | Value::BigInt(_)
+            )
+        );
     }
     assert_eq!(Value::SmallInt(-2).as_f64(), Some(-2.0));
-    assert_eq!(Value::BigInt(i64::MAX).as_f64(), Some(9_223_372_036_854_775_808.0));
+    assert_eq!(
+        Value::BigInt(i64::MAX).as_f64(),
+        Some(9_223_372_036_854_775_808.0)
+    );
     assert_eq!(Value::Boolean(true).as_f64(), None);
 }
 

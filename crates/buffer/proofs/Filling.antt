@@ -19,7 +19,7 @@ use native.Mathlib.Omega.{arith}
 use native.Mathlib.Numerals.{add-one}
 use lib.ListN.{length, take, drop, getD, set, length-append, length-drop, length-set, take-append-drop, drop-of-length-le}
 use lib.Seq.{take-append-add, drop-append-add, take-at, drop-at, take-add, drop-drop, take-all, take-length, length-take-le, take-suc-set, take-set-le, drop-set-lt, set-getD, getD-set-same, getD-set-other}
-use Rattle.buffer.specs.Buffer.{written}
+use Rattle.buffer.specs.Buffer.{overwritten}
 use Rattle.buffer.specs.Filling.{Filling}
 use Rattle.buffer.proofs.Writing.{Writing, as-long}
 
@@ -91,7 +91,7 @@ module _ {T d l out : List ℕ} {o : ℕ} (w : Filling T d l out o) (t rest : Li
         back = ap (λ (j : ℕ). drop j (take o out ++ ys)) (sym (left-length w) ∙ ap (λ (j : ℕ). j + length l) (sym p)) ∙ drop-append-add (take o out) ys (length l) ∙ tail ∙ w .back;
       }
 
-  pub wrote-text : (ys : List ℕ) → ys ≡ written t (take (length out - o) (drop o out)) → (n : ℕ) → n ≡ length t
+  pub wrote-text : (ys : List ℕ) → ys ≡ overwritten t (take (length out - o) (drop o out)) → (n : ℕ) → n ≡ length t
       → Filling T d rest (take o out ++ (ys ++ drop (length out - o) (drop o out))) (o + n)
   wrote-text ys q n z =
       let D : List ℕ = take (length out - o) (drop o out) in
@@ -169,7 +169,7 @@ module _ {T d l out : List ℕ} {o : ℕ} (w : Filling T d l out o) (e : l ≡ [
   pub all : o ≡ length T
   all = omega (arith, left-length w, ap length e)
 
-  pub end : out ≡ written T d
+  pub end : out ≡ overwritten T d
   end =
       sym (take-append-drop (length T) out)
       ∙ ap (λ (x : List ℕ). x ++ drop (length T) out) (rw all at (w .front) ∙ take-length T)

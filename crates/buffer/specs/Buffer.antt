@@ -8,8 +8,8 @@ use Rattle.refusal.specs.Refusal.{Told, accepted, refused, told}
 use Rattle.buffer.specs.declared.TextAnswer.{TextAnswer}
 
 -- the buffer d with the text t over its first bytes; bytes after the text keep what they had
-abbrev pub written : List ℕ → List ℕ → List ℕ
-written t d = t ++ drop (length t) d
+abbrev pub overwritten : List ℕ → List ℕ → List ℕ
+overwritten t d = t ++ drop (length t) d
 
 -- an answer by the rules' numbers: what is said of the input, and how many bytes were written
 pub record TextTold : Type 0 where
@@ -20,12 +20,12 @@ abbrev pub toldText : TextAnswer → TextTold
 toldText a = record { outcome = told (a .outcome); written = a .written }
 
 -- a refusal writes nothing
-abbrev pub refusal : ℕ → List ℕ → TextTold
-refusal n vs = record { outcome = refused n vs; written = 0 }
+abbrev pub refusedText : ℕ → List ℕ → TextTold
+refusedText n vs = record { outcome = refused n vs; written = 0 }
 
 -- What a call with the text t answers for the text buffer d, and what it leaves there. Refusal 9: the buffer is shorter than the text
 unfoldable pub textAnswer : List ℕ → List ℕ → TextTold
-textAnswer t d = cond (ltb (length d) (length t)) (refusal 9 (length t ∷ [])) (record { outcome = accepted; written = length t })
+textAnswer t d = cond (ltb (length d) (length t)) (refusedText 9 (length t ∷ [])) (record { outcome = accepted; written = length t })
 
 unfoldable pub textBuffer : List ℕ → List ℕ → List ℕ
-textBuffer t d = cond (ltb (length d) (length t)) d (written t d)
+textBuffer t d = cond (ltb (length d) (length t)) d (overwritten t d)

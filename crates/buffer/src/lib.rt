@@ -5,7 +5,7 @@ ghost use mathlib.Core.Path.{_≡_};
 ghost use Prim.Native.Nat.{_≤_};
 ghost use lib.ListN.{length};
 ghost use Rattle.refusal.specs.Refusal.{refusalNumber, refusalValues};
-ghost use Rattle.buffer.specs.Buffer.{written, toldText, refusal};
+ghost use Rattle.buffer.specs.Buffer.{overwritten, toldText, refusedText};
 
 // What a call that writes one text answers. After a refusal no byte was written.
 pub struct TextAnswer {
@@ -14,7 +14,7 @@ pub struct TextAnswer {
 }
 
 pub fn refused(r: Refusal) -> TextAnswer
-    ensures { λ a. ⌜ toldText a ≡ refusal (refusalNumber r) (refusalValues r) ⌝ }
+    ensures { λ a. ⌜ toldText a ≡ refusedText (refusalNumber r) (refusalValues r) ⌝ }
 {
     TextAnswer {
         outcome: Outcome::Refused(r),
@@ -26,7 +26,7 @@ pub fn refused(r: Refusal) -> TextAnswer
 pub fn copy(src: &[u8], out: &mut [u8]) -> usize
     requires { ⌜ length (now src) ≤ length (now out) ⌝ }
     ensures count { λ r. ⌜ r ≡ length (now (src .entry)) ⌝ }
-    ensures bytes { λ _. ⌜ now (out .exit) ≡ written (now (src .entry)) (now (out .entry)) ⌝ }
+    ensures bytes { λ _. ⌜ now (out .exit) ≡ overwritten (now (src .entry)) (now (out .entry)) ⌝ }
 {
     let mut i = 0;
     while i < src.len() {

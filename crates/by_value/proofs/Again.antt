@@ -8,8 +8,8 @@ use lib.Dec.{ltb}
 use native.Mathlib.Omega.{arith}
 use Rattle.buffer.proofs.Writing.{over}
 use Rattle.types.specs.declared.Columns.{Columns}
-use Rattle.rules.specs.Walk.{Piece, Walk, done, short, walkBody, walkRow, skipOf}
-use Rattle.rules.specs.Row.{Decision, refusal, acceptance, rowTexts, covered, walkDecision, bodyDecision, rowDecision, answerOf, textAfter}
+use Rattle.rules.specs.Walk.{Cell, Walk, done, short, walkBody, walkRow, skipOf}
+use Rattle.rules.specs.Row.{Decision, refuse, accept, rowTexts, covered, walkDecision, bodyDecision, rowDecision, answerOf, textAfter}
 use Rattle.rules.specs.Conversions.{ported, rowAnswer, rowText}
 use Rattle.rules.proofs.Walks.{piecesOf}
 use Rattle.rules.proofs.Demand3.{facts}
@@ -20,7 +20,7 @@ walked-alike : (w : Walk) (d e : List ℕ) → length d ≡ length e → walkDec
 unfolding walkDecision
 walked-alike (short x y) d e h = refl
 walked-alike (done ps n) d e h =
-    ap (λ (k : ℕ). cond (ltb k (length (rowTexts ported ps))) (refusal 9 (length (rowTexts ported ps) ∷ [])) (acceptance ps n)) h
+    ap (λ (k : ℕ). cond (ltb k (length (rowTexts ported ps))) (refuse 9 (length (rowTexts ported ps) ∷ [])) (accept ps n)) h
 
 decided-alike : (columns : Columns) (s d e : List ℕ) → length d ≡ length e → rowDecision ported columns s d ≡ rowDecision ported columns s e
 unfolding rowDecision bodyDecision
@@ -31,7 +31,7 @@ unfolding rowAnswer
 answered-alike columns s d e h = ap (λ (x : Decision). answerOf ported x) (decided-alike columns s d e h)
 
 module _ (columns : Columns) (s d : List ℕ) where
-  room : (ps : List Piece) (n : ℕ) → rowDecision ported columns s d ≡ acceptance ps n → length (rowTexts ported ps) ≤ length d
+  room : (ps : List Cell) (n : ℕ) → rowDecision ported columns s d ≡ accept ps n → length (rowTexts ported ps) ≤ length d
   unfolding answerOf
   room ps n e =
       let f = facts ported columns s d (ap (λ (x : Decision). answerOf ported x .outcome) e) in
@@ -40,8 +40,8 @@ module _ (columns : Columns) (s d : List ℕ) where
 
   left : (x : Decision) → rowDecision ported columns s d ≡ x → textAfter ported x (textAfter ported x d) ≡ textAfter ported x d
   unfolding textAfter
-  left (refusal n vs) e = refl
-  left (acceptance ps n) e = over (rowTexts ported ps) (rowTexts ported ps) d (omega arith) (room ps n e)
+  left (refuse n vs) e = refl
+  left (accept ps n) e = over (rowTexts ported ps) (rowTexts ported ps) d (omega arith) (room ps n e)
 
   pub left-again : rowText columns s (rowText columns s d) ≡ rowText columns s d
   unfolding rowText

@@ -8,12 +8,12 @@ use Rattle.types.specs.declared.ValuePlace.{ValuePlace}
 use Rattle.rules.specs.Row.{RowTold}
 use Rattle.words.specs.Values.{numberWord}
 
-abbrev pub lengthOf : ColumnDescriptor → ℕ
-lengthOf c = c .length
+abbrev pub ownLength : ColumnDescriptor → ℕ
+ownLength c = c .length
 
 -- the length of the column at a place of the list
 abbrev pub lengthAt : Columns → ℕ → ℕ
-lengthAt c i = getD (map lengthOf (c .columns)) i 0
+lengthAt c i = getD (map ownLength (c .columns)) i 0
 
 abbrev pub numberOf : ValuePlace → ℕ
 numberOf p = numberWord (p .value)

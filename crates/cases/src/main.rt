@@ -13,7 +13,7 @@ use types::RowAnswer;
 use types::ValuePlace;
 ghost use mathlib.Core.Path.{_≡_};
 ghost use mathlib.Core.List.{[], _∷_};
-ghost use Rattle.edges.specs.Edges.{Given, values, tooShort, textOutcome, within, IsEdge};
+ghost use Rattle.edges.specs.Edges.{Given, values, tooShort, textFound, withinRow, IsEdge};
 
 // The text buffer that each case is given: 24 bytes, all of them AA.
 const TEXT: usize = 24;
@@ -307,7 +307,7 @@ fn one(
     bytes: &[u8],
     used: usize,
 )
-    requires { ⌜ IsEdge letter (Given.row (now description) (now row)) (values (record { value = value; external = external } ∷ []) (now texts) (now bytes ∷ []) used) ⌝ }
+    requires { ⌜ IsEdge letter (Given.rowCase (now description) (now row)) (values (record { value = value; external = external } ∷ []) (now texts) (now bytes ∷ []) used) ⌝ }
 {
     let place = ValuePlace { value, external };
     tell(letter, is_one(description, row, place, texts, bytes, used));
@@ -324,7 +324,7 @@ fn two(
     bytes: &[u8],
     used: usize,
 )
-    requires { ⌜ IsEdge letter (Given.row (now description) (now row)) (values (within first ∷ within second ∷ []) (now texts) ([] ∷ now bytes ∷ []) used) ⌝ }
+    requires { ⌜ IsEdge letter (Given.rowCase (now description) (now row)) (values (withinRow first ∷ withinRow second ∷ []) (now texts) ([] ∷ now bytes ∷ []) used) ⌝ }
 {
     let place = within(first);
     let next = within(second);
@@ -336,14 +336,14 @@ fn two(
 
 // A case of one column, for which the row is too short.
 fn too_short(letter: u8, description: &[u8], row: &[u8], expected: usize, actual: usize)
-    requires { ⌜ IsEdge letter (Given.row (now description) (now row)) (tooShort 1 expected actual) ⌝ }
+    requires { ⌜ IsEdge letter (Given.rowCase (now description) (now row)) (tooShort 1 expected actual) ⌝ }
 {
     tell(letter, is_short(description, row, expected, actual));
 }
 
 // A case of a packed decimal.
 fn packed_decimal(letter: u8, data: &[u8], scale: u8, want: &[u8])
-    requires { ⌜ IsEdge letter (Given.decimal (now «data») scale) (textOutcome (now want)) ⌝ }
+    requires { ⌜ IsEdge letter (Given.decimalCase (now «data») scale) (textFound (now want)) ⌝ }
 {
     tell(letter, is_decimal(data, scale, want));
 }

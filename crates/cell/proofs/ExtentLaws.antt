@@ -18,10 +18,10 @@ use Rattle.types.specs.declared.ReferenceLength.the-variants.{Absent, Width}
 use Rattle.types.specs.declared.ColumnDescriptor.{ColumnDescriptor}
 use Rattle.rules.specs.declared.Extent.{Extent}
 use Rattle.rules.specs.declared.Extent.the-variants.{Fixed, Counted, Header, Inline, Locator, Materialized}
-use Rattle.numbers.specs.Number.{digits, number}
+use Rattle.numbers.specs.Number.{base256, unsigned}
 use Rattle.types.specs.Names.{bit8000, low15, graphicLengthIsCharacterCount}
 use Rattle.rules.specs.Extent.{be16, be32, isReference, isHexDigit, hexDigits, isShortReference, saysHeader, lobNeed, need, graphicUnit, varyingExtent, lobExtent, lengthExtent, typeExtent}
-use Rattle.cell.specs.Inner.{unitOf, sizeOf, mostSize, mostNeed}
+use Rattle.cell.specs.Inner.{unitSize, sizeOf, mostSize, mostNeed}
 
 pub hex-step : (s : List ℕ) (i : ℕ) (t : Bool) → i < length s → isHexDigit (getD s i 0) ≡ t → hexDigits (drop i s) ≡ cond t 1 0 + hexDigits (drop (i + 1) s)
 unfolding hexDigits
@@ -58,25 +58,25 @@ unit-two c = go (graphicLengthIsCharacterCount c)
     go true = omega arith
     go false = omega arith
 
-varying-small : (n u : ℕ) → u ≤ 2 → unitOf (varyingExtent n u) ≤ 2
+varying-small : (n u : ℕ) → u ≤ 2 → unitSize (varyingExtent n u) ≤ 2
 varying-small n u h = go (bit8000 n)
   where
-    go : (t : Bool) → unitOf (cond t (Header (low15 n)) (Counted u)) ≤ 2
+    go : (t : Bool) → unitSize (cond t (Header (low15 n)) (Counted u)) ≤ 2
     go true = omega arith
     go false = h
 
-lob-small : (r : ReferenceLength) (e : Extent) → unitOf e ≤ 2 → unitOf (lobExtent r e) ≤ 2
+lob-small : (r : ReferenceLength) (e : Extent) → unitSize e ≤ 2 → unitSize (lobExtent r e) ≤ 2
 lob-small (Width w) e h = omega arith
 lob-small Absent e h = h
 
-length-small : (n : ℕ) → unitOf (lengthExtent n) ≤ 2
+length-small : (n : ℕ) → unitSize (lengthExtent n) ≤ 2
 length-small n = go (eqb n 0)
   where
-    go : (t : Bool) → unitOf (cond t Locator Inline) ≤ 2
+    go : (t : Bool) → unitSize (cond t Locator Inline) ≤ 2
     go true = omega arith
     go false = omega arith
 
-pub unit-small : (t : Db2Type) (c : ColumnDescriptor) → unitOf (typeExtent t c) ≤ 2
+pub unit-small : (t : Db2Type) (c : ColumnDescriptor) → unitSize (typeExtent t c) ≤ 2
 unit-small type.SmallInt c = omega arith
 unit-small type.Integer c = omega arith
 unit-small type.BigInt c = omega arith
@@ -121,19 +121,19 @@ length-result e n h = rw h (length-size n)
 
 module _ (s : List ℕ) (b : (i : ℕ) → getD s i 0 < 256) where
   be16-most : be16 s ≤ 65535
-  unfolding number
+  unfolding unsigned
   be16-most = go s b
     where
-      go : (t : List ℕ) → ((i : ℕ) → getD t i 0 < 256) → digits 0 (take 2 t) ≤ 65535
+      go : (t : List ℕ) → ((i : ℕ) → getD t i 0 < 256) → base256 0 (take 2 t) ≤ 65535
       go [] h = omega arith
       go (x ∷ []) h = omega (arith, h 0)
       go (x ∷ y ∷ t) h = omega (arith, h 0, h 1)
 
   be32-most : be32 s ≤ 4294967295
-  unfolding number
+  unfolding unsigned
   be32-most = go s b
     where
-      go : (t : List ℕ) → ((i : ℕ) → getD t i 0 < 256) → digits 0 (take 4 t) ≤ 4294967295
+      go : (t : List ℕ) → ((i : ℕ) → getD t i 0 < 256) → base256 0 (take 4 t) ≤ 4294967295
       go [] h = omega arith
       go (x ∷ []) h = omega (arith, h 0)
       go (x ∷ y ∷ []) h = omega (arith, h 0, h 1)
@@ -149,7 +149,7 @@ module _ (s : List ℕ) (b : (i : ℕ) → getD s i 0 < 256) where
       go true false = h
       go false r = omega arith
 
-  pub need-most : (e : Extent) → unitOf e ≤ 2 → sizeOf e ≤ mostSize → need e s ≤ mostNeed
+  pub need-most : (e : Extent) → unitSize e ≤ 2 → sizeOf e ≤ mostSize → need e s ≤ mostNeed
   unfolding need
   need-most (Fixed n) u h = omega arith
   need-most (Counted unit) u h = go (leb 2 (length s))

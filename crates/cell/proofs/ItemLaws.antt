@@ -108,7 +108,7 @@ module _ (r : ReferenceLength) (s : List ℕ) where
 
 -- a number, of all bytes
 pub number-holds : (f : List ℕ → RowNumber) (n : ℕ) (s : List ℕ) (v : Db2Value) → need (Fixed n) s ≡ length s → v ≡ numberValue (f (take n s))
-    → Holds (cell.Number v) s (Item.number (f s))
+    → Holds (cell.Number v) s (Item.numeric (f s))
 unfolding need
 number-holds f n s v h e = (f s, (refl, e ∙ ap (λ (l : List ℕ). numberValue (f l)) (take-all n s (omega arith))))
 

@@ -54,7 +54,7 @@ Readable (Packed scale) n = (0 < n) × (n ≤ mostBytes)
 -- the code's item says of the value's bytes s what i is: a part lies within s, and a text is that of a part of s
 abbrev pub Holds : CellItem → List ℕ → meaning.Item → Type 0
 Holds Nothing s i = i ≡ meaning.Item.nothing
-Holds (Number v) s i = (x : RowNumber) × ((i ≡ meaning.Item.number x) × (v ≡ numberValue x))
+Holds (Number v) s i = (x : RowNumber) × ((i ≡ meaning.Item.numeric x) × (v ≡ numberValue x))
 Holds (Boolean b) s i = i ≡ meaning.Item.boolean b
 Holds (Part k from len) s i = (i ≡ meaning.Item.part (byteSort k) from len) × (from + len ≤ length s)
 Holds (Text k reading from len) s i = (i ≡ meaning.Item.text (textSort k) (textBy reading (take len (drop from s)))) × ((from + len ≤ length s) × Readable reading len)

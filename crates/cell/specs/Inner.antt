@@ -11,13 +11,13 @@ use Rattle.rules.specs.Extent.{isReference}
 use Rattle.rules.specs.Meaning.{allZero, isEmptyReference}
 
 -- how many bytes the units of an extent have, where it counts units
-abbrev pub unitOf : Extent → ℕ
-unitOf (Fixed n) = 0
-unitOf (Counted unit) = unit
-unitOf (Header n) = 0
-unitOf Inline = 0
-unitOf Locator = 0
-unitOf (Materialized n) = 0
+abbrev pub unitSize : Extent → ℕ
+unitSize (Fixed n) = 0
+unitSize (Counted unit) = unit
+unitSize (Header n) = 0
+unitSize Inline = 0
+unitSize Locator = 0
+unitSize (Materialized n) = 0
 
 -- how many bytes an extent says itself, and the most that one of a column says: a Graphic of 65,535 units of two bytes
 abbrev pub sizeOf : Extent → ℕ

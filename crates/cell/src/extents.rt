@@ -14,7 +14,7 @@ ghost use lib.Dec.{eqb};
 ghost use Rattle.rules.specs.declared.Extent.{Extent};
 ghost use Rattle.rules.specs.Extent.{isReference, isHexDigit, hexDigits, isShortReference, saysHeader, lobNeed, need};
 ghost use Rattle.rules.specs.Extent.{graphicUnit, varyingExtent, lobExtent, lengthExtent, extentOf};
-ghost use Rattle.cell.specs.Inner.{unitOf, sizeOf, mostSize, mostNeed};
+ghost use Rattle.cell.specs.Inner.{unitSize, sizeOf, mostSize, mostNeed};
 
 fn is_hex_digit(b: u8) -> bool
     ensures { λ r. ⌜ r ≡ isHexDigit b ⌝ }
@@ -131,7 +131,7 @@ fn materialized_need(n: usize, s: &[u8]) -> usize
 
 // How many bytes a value of this extent takes, where s is the rest of the row: it is there where that is at most their number.
 fn extent_need(extent: Extent, s: &[u8]) -> usize
-    requires { ⌜ unitOf extent ≤ 2 ⌝ }
+    requires { ⌜ unitSize extent ≤ 2 ⌝ }
     ensures { λ r. ⌜ r ≡ need extent (now (s .entry)) ⌝ }
 {
     match extent {

@@ -8,7 +8,7 @@ use borrow.Author.Tests.{ltb-true, ltb-false}
 use lib.Dec.{ltb}
 use lib.ListN.{length, take, drop, getD, length-append, take-append-drop}
 use lib.Seq.{drop-drop}
-use Rattle.unicode.specs.Unicode.{utf8, textOf, pieceText}
+use Rattle.unicode.specs.Unicode.{utf8, piecesText, pieceText}
 use Rattle.unicode.proofs.ScalarBytes.{utf8-one, utf8-two}
 use Rattle.buffer.proofs.Writing.{next}
 use Rattle.codepage.specs.CodePage.{bytePieces, byteText, codePoint819}
@@ -18,7 +18,7 @@ use Rattle.codepage.proofs.ByteText.{byte-length}
 -- ---- a block, and the text after it
 
 byte-append : (f : ℕ → ℕ) (a b : List ℕ) → byteText f (a ++ b) ≡ byteText f a ++ byteText f b
-unfolding byteText bytePieces textOf pieceText
+unfolding byteText bytePieces piecesText pieceText
 byte-append f [] b = refl
 byte-append f (x ∷ a) b = ap (λ (l : List ℕ). utf8 (f x) ++ l) (byte-append f a b) ∙ sym (append-assoc (utf8 (f x)) (byteText f a) (byteText f b))
 
@@ -50,7 +50,7 @@ small-length v h = go (ltb v 0x80) refl
 
 -- a text's length, of bytes below 100
 pub text-length : (s : List ℕ) → ((i : ℕ) → getD s i 0 < 0x100) → length (byteText codePoint819 s) ≡ length s + highs s
-unfolding byteText bytePieces textOf pieceText highs
+unfolding byteText bytePieces piecesText pieceText highs
 text-length [] h = refl
 text-length (b ∷ s) h =
     length-append (utf8 b) (byteText codePoint819 s) ∙ omega (arith, small-length b (h 0), text-length s (λ i. h (suc i)))
@@ -64,7 +64,7 @@ two-left f small s i h k =
 
 -- where no byte is 80 or above, the bytes are their text
 pub plain-text : (s : List ℕ) → highs s ≡ 0 → byteText codePoint819 s ≡ s
-unfolding byteText bytePieces textOf pieceText highs
+unfolding byteText bytePieces piecesText pieceText highs
 plain-text [] e = refl
 plain-text (b ∷ s) e =
     let k : b < 0x80 = omega arith in

@@ -10,7 +10,7 @@ use borrow.Author.Tests.{ltb-true, ltb-false}
 use lib.Dec.{ltb}
 use lib.ListN.{length, take, drop, getD, set, length-set, length-drop, length-append, drop-of-length-le}
 use lib.Seq.{set-set, set-comm, set-getD, take-set-le, drop-set-lt, drop-drop, take-all, getD-drop, length-take-le}
-use Rattle.buffer.specs.Buffer.{written}
+use Rattle.buffer.specs.Buffer.{overwritten}
 use Rattle.buffer.proofs.Writing.{Writing, stored, fits, as-long, back, wrote-rest}
 use Rattle.unicode.specs.Unicode.{utf8}
 use Rattle.unicode.proofs.ScalarBytes.{utf8-one, utf8-two}
@@ -64,7 +64,7 @@ loose-step {T} {d} {l} {out} {o} w v h rest e n z b q p r S second = go (ltb v 0
 
 -- the last part is written into the rest of the buffer, from o on
 pub loose-rest : {T d l out : List ℕ} {o : ℕ} → Loose T d l out o → (t rest : List ℕ) → l ≡ t ++ rest → 0 < length t
-    → (ys : List ℕ) → ys ≡ written t (take (length out - o) (drop o out)) → (n : ℕ) → n ≡ length t
+    → (ys : List ℕ) → ys ≡ overwritten t (take (length out - o) (drop o out)) → (n : ℕ) → n ≡ length t
     → Writing T d rest (take o out ++ (ys ++ drop (length out - o) (drop o out))) (o + n)
 loose-rest {T} {d} {l} {out} {o} w t rest e h ys q n z =
     let x : ℕ = getD d o 0 in
@@ -77,7 +77,7 @@ loose-rest {T} {d} {l} {out} {o} w t rest e h ys q n z =
     let g : take (length out - o) (drop o (set out o x)) ≡ drop o (set out o x) = take-all (length out - o) (drop o (set out o x)) (omega (arith, length-drop o (set out o x))) in
     let c : drop (length t) (drop o (set out o x)) ≡ drop (length t) (drop o out) =
     drop-drop (length t) o (set out o x) ∙ drop-set-lt (o + length t) out o x (omega arith) ∙ sym (drop-drop (length t) o out) in
-    let y : ys ≡ written t (take (length (set out o x) - o) (drop o (set out o x))) = rw (L, g, c) (q ∙ ap (written t) f) in
+    let y : ys ≡ overwritten t (take (length (set out o x) - o) (drop o (set out o x))) = rw (L, g, c) (q ∙ ap (overwritten t) f) in
     rw (← a, ← b) (rw L at (wrote-rest (w .mended) t rest e ys y n z))
 
 -- A turn of a loop over the bytes of s, which are code points below 100 by f: the text from i on is still to be written, from o on, and v is the code point at i
@@ -115,6 +115,6 @@ module _ (f : ℕ → ℕ) (small : (b : ℕ) → b < 0x100 → f b < 0x100) (s 
         omega (arith, loose-fits w, ap length last-text, length-append (utf8 u) [], length-take-le (length out - o) (drop o out) (omega (arith, length-drop o out)))
 
     -- it was written into the rest of the buffer: ys is what the callee left there
-    pub last-turn : (ys : List ℕ) → ys ≡ written (utf8 u) (take (length out - o) (drop o out)) → (n : ℕ) → n ≡ length (utf8 u)
+    pub last-turn : (ys : List ℕ) → ys ≡ overwritten (utf8 u) (take (length out - o) (drop o out)) → (n : ℕ) → n ≡ length (utf8 u)
         → Writing (byteText f s) d [] (take o out ++ (ys ++ drop (length out - o) (drop o out))) (o + n)
     last-turn ys q n z = loose-rest w (utf8 u) [] last-text last-some ys q n z

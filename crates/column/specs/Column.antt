@@ -13,24 +13,24 @@ use Rattle.types.specs.declared.ByteOrder.the-variants.{BigEndian, LittleEndian
 use Rattle.types.specs.declared.ReferenceLength.{ReferenceLength}
 use Rattle.types.specs.declared.ReferenceLength.the-variants.{Absent, Width}
 use Rattle.types.specs.declared.ColumnDescriptor.{ColumnDescriptor}
-use Rattle.numbers.specs.Number.{number}
+use Rattle.numbers.specs.Number.{unsigned}
 use Rattle.column.specs.declared.Numbers.{Numbers}
 
 -- the number in the two bytes at a place, big-endian; Q9: 0 where one of them is lacking
 unfoldable pub field16 : List ℕ → ℕ → ℕ
-field16 d at = cond (leb (at + 2) (length d)) (number BigEndian (getD d at 0 ∷ getD d (at + 1) 0 ∷ [])) 0
+field16 d at = cond (leb (at + 2) (length d)) (unsigned BigEndian (getD d at 0 ∷ getD d (at + 1) 0 ∷ [])) 0
 
 -- term: Q11
 unfoldable pub referenceLength : ℕ → ℕ → ReferenceLength
 referenceLength c n =
     cond (leb 0xC8 c) (cond (leb c 0xCF) (cond (bit8000 n) (Width (low15 n)) Absent) Absent) Absent
 
-abbrev pub numbers : ℕ → ℕ → ℕ → Numbers
-numbers precision scale ccsid = record { precision = precision; scale = scale; ccsid = ccsid }
+abbrev pub numbersOf : ℕ → ℕ → ℕ → Numbers
+numbersOf precision scale ccsid = record { precision = precision; scale = scale; ccsid = ccsid }
 
 -- a column of type code c and length n, not yet numbered
-abbrev pub column : ℕ → ℕ → Numbers → Bool → Db2Type → ByteOrder → ColumnDescriptor
-column c n m nullable t order =
+abbrev pub unnumbered : ℕ → ℕ → Numbers → Bool → Db2Type → ByteOrder → ColumnDescriptor
+unnumbered c n m nullable t order =
     record {
       «column_index» = 0;
       «drda_type» = c;
@@ -48,8 +48,8 @@ column c n m nullable t order =
 unfoldable pub sdaNumbers : List ℕ → Numbers
 sdaNumbers d =
     cond (eqb (baseOf (getD d 0 0)) 0x0C)
-    (cond (leb 5 (length d)) (numbers (getD d 3 0) (getD d 4 0) (field16 d 5)) (numbers 0 0 (field16 d 5)))
-    (numbers 0 0 (field16 d 3))
+    (cond (leb 5 (length d)) (numbersOf (getD d 3 0) (getD d 4 0) (field16 d 5)) (numbersOf 0 0 (field16 d 5)))
+    (numbersOf 0 0 (field16 d 3))
 
 -- Q9: bases 30 and 32 are characters only where there is a CCSID
 unfoldable pub sdaType : ℕ → ℕ → Numbers → Db2Type
@@ -65,4 +65,4 @@ sdaColumn d =
     let c = getD d 0 0 in
     let n = field16 d 1 in
     let m = sdaNumbers d in
-    column c n m (nullableBit c) (sdaType c n m) LittleEndian
+    unnumbered c n m (nullableBit c) (sdaType c n m) LittleEndian

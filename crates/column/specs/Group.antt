@@ -10,9 +10,9 @@ use Rattle.types.specs.declared.Db2Type.{Db2Type}
 use Rattle.types.specs.declared.Db2Type.the-variants as type
 use Rattle.types.specs.declared.ByteOrder.the-variants.{BigEndian}
 use Rattle.types.specs.declared.ColumnDescriptor.{ColumnDescriptor}
-use Rattle.numbers.specs.Number.{number}
+use Rattle.numbers.specs.Number.{unsigned}
 use Rattle.column.specs.declared.EnvEntry.{EnvEntry}
-use Rattle.column.specs.Column.{field16, numbers, column}
+use Rattle.column.specs.Column.{field16, numbersOf, unnumbered}
 
 -- term: Q3. The environment entry of the type that an MDD left and the data d of the SDA after it
 unfoldable pub entryOf : ℕ → List ℕ → EnvEntry
@@ -49,17 +49,17 @@ groupCcsid t = cond (namedIn characterTypes t) 1208 0
 -- Q6: a LID l that is not declared, with its attribute bytes a and b
 unfoldable pub undeclaredColumn : ℕ → ℕ → ℕ → ColumnDescriptor
 undeclaredColumn l a b =
-    let n = number BigEndian (a ∷ b ∷ []) in
+    let n = unsigned BigEndian (a ∷ b ∷ []) in
     let t = groupType l n in
-    cond (eqb (baseOf l) 0x0E) (column l (packedLength a) (numbers a b 0) (nullableBit l) (type.Decimal a b) BigEndian)
-    (column l n (numbers 0 0 (groupCcsid t)) (nullableBit l) t BigEndian)
+    cond (eqb (baseOf l) 0x0E) (unnumbered l (packedLength a) (numbersOf a b 0) (nullableBit l) (type.Decimal a b) BigEndian)
+    (unnumbered l n (numbersOf 0 0 (groupCcsid t)) (nullableBit l) t BigEndian)
 
 -- Q5: a LID whose entry e is declared, with its attribute bytes a and b
 unfoldable pub declaredColumn : EnvEntry → ℕ → ℕ → ColumnDescriptor
 declaredColumn e a b =
-    let n = number BigEndian (a ∷ b ∷ []) in
+    let n = unsigned BigEndian (a ∷ b ∷ []) in
     let r = fromDrdaType (e .«drda_type») n 0 0 in
-    column (e .«drda_type») n (numbers 0 0 (e .ccsid)) (r .nullable) (r .«db2_type») BigEndian
+    unnumbered (e .«drda_type») n (numbersOf 0 0 (e .ccsid)) (r .nullable) (r .«db2_type») BigEndian
 
 -- the column of a LID, of which e is the environment's entry
 unfoldable pub lidColumn : EnvEntry → ℕ → ℕ → ℕ → ColumnDescriptor

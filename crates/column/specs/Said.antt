@@ -6,14 +6,14 @@ use lib.Dec.{eqb}
 use Rattle.types.specs.Types.{baseOf, fromDrdaType}
 use Rattle.types.specs.declared.ColumnDescriptor.{ColumnDescriptor}
 use Rattle.column.specs.declared.Said.{Said}
-use Rattle.column.specs.Column.{column}
+use Rattle.column.specs.Column.{unnumbered}
 use Rattle.column.specs.Group.{groupType, groupCcsid}
 
 -- the column of what is said: its type is the one that the table has under the code `listed`
 abbrev pub saidColumn : Said → ColumnDescriptor
 saidColumn a =
     let m = a .numbers in
-    column (a .«drda_type») (a .length) m (a .nullable) (fromDrdaType (a .listed) (a .length) (m .precision) (m .scale) .«db2_type») (a .«byte_order»)
+    unnumbered (a .«drda_type») (a .length) m (a .nullable) (fromDrdaType (a .listed) (a .length) (m .precision) (m .scale) .«db2_type») (a .«byte_order»)
 
 -- the code under which the table has the type of an SDA column of code c: 60 is Binary, 62 VarBinary
 unfoldable pub sdaCode : ℕ → ℕ → ℕ

@@ -9,7 +9,7 @@ ghost use Prim.Native.Nat.{_≤_, _<_};
 ghost use mathlib.Core.List.{[], _∷_};
 ghost use lib.ListN.{length};
 ghost use Rattle.types.specs.declared.ByteOrder.the-variants.{BigEndian};
-ghost use Rattle.numbers.specs.Number.{number};
+ghost use Rattle.numbers.specs.Number.{unsigned};
 ghost use Rattle.column.specs.Column.{field16, referenceLength, sdaNumbers, sdaColumn};
 ghost use Rattle.column.specs.Group.{entryOf, firstEntry, undeclaredColumn, declaredColumn, lidColumn};
 ghost use Rattle.column.specs.Said.{saidColumn, sdaCode, ListedFor, CcsidFor, NullableFor};
@@ -72,7 +72,7 @@ const CLOB: u8 = 0xCA;
 
 // Two bytes as a number, big-endian.
 fn be16_of(high: u8, low: u8) -> u16
-    ensures { λ r. ⌜ r ≡ number BigEndian (high ∷ low ∷ []) ⌝ }
+    ensures { λ r. ⌜ r ≡ unsigned BigEndian (high ∷ low ∷ []) ⌝ }
 {
     (high as u16) * 256 + (low as u16)
 }

@@ -8,8 +8,8 @@ use lib.Dec.{ltb}
 use lib.ListN.{length, take, drop}
 use lib.Seq.{length-take-le}
 use Rattle.unicode.specs.Ascii.{allAscii}
-use Rattle.unicode.specs.Laws.{Bytes}
-use Rattle.buffer.specs.Buffer.{written}
+use Rattle.unicode.specs.Laws.{AreBytes}
+use Rattle.buffer.specs.Buffer.{overwritten}
 use Rattle.buffer.proofs.Writing.{Writing}
 use Rattle.codepage.proofs.Bound.{ebcdic-least}
 use Rattle.conversion.specs.declared.Conversion.the-variants.{Ebcdic037}
@@ -44,7 +44,7 @@ module _ (s : List ℕ) where
   as-ebcdic e = rw e
 
   -- the text is no shorter than the bytes
-  pub guess-least : Bytes s → length s ≤ length (guessText s)
+  pub guess-least : AreBytes s → length s ≤ length (guessText s)
   unfolding textIn
   guess-least h = go (allAscii s) refl
     where
@@ -53,5 +53,5 @@ module _ (s : List ℕ) where
       go false e = rw (as-ebcdic e) (ebcdic-least s h)
 
 -- the first i bytes of s were copied
-pub copied : {s d out : List ℕ} {i : ℕ} → Writing s d (drop i s) out i → out ≡ written (take i s) d
+pub copied : {s d out : List ℕ} {i : ℕ} → Writing s d (drop i s) out i → out ≡ overwritten (take i s) d
 copied {s} {d} {out} {i} w = rw (length-take-le i s (w .before)) (w .buffer)

@@ -5,8 +5,8 @@ use mathlib.Core.Path.{_≡_, refl, sym, ap, _∙_}
 use native.Mathlib.Omega.{arith}
 use lib.ListN.{length, length-append}
 use lib.Seq.{take-length, drop-length}
-use Rattle.unicode.specs.Unicode.{textOf, readFrom, utf8Text}
-use Rattle.unicode.specs.Laws.{Bytes}
+use Rattle.unicode.specs.Unicode.{piecesText, readFrom, utf8Text}
+use Rattle.unicode.specs.Laws.{AreBytes}
 use Rattle.utf.specs.Utf8Code.{Good, Stop}
 use Rattle.utf.proofs.Utf8Runs.{good-text}
 use Rattle.utf.proofs.Bound.{utf8-bound, utf16-bound}
@@ -20,7 +20,7 @@ use Rattle.conversion.specs.Measure.{Measures}
 -- ---- UTF-8 without a malformed part
 
 empty : utf8Text [] ≡ []
-unfolding utf8Text readFrom textOf
+unfolding utf8Text readFrom piecesText
 empty = refl
 
 whole : (s : List ℕ) (n bad : ℕ) → Good n s → Stop n bad s → bad ≡ 0 → utf8Text s ≡ s
@@ -50,7 +50,7 @@ row-id-length s = omega (arith, hex-length s, length-append rowIdMark (hexText s
 
 -- ---- the longest text
 
-pub text-bound : (p : Conversion) (s : List ℕ) → Bytes s → length (textIn p s) ≤ 3 * length s + 14
+pub text-bound : (p : Conversion) (s : List ℕ) → AreBytes s → length (textIn p s) ≤ 3 * length s + 14
 unfolding textIn
 text-bound Plain s h = omega arith
 text-bound Utf8 s h = omega (arith, utf8-bound s)

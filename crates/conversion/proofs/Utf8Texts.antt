@@ -9,7 +9,7 @@ use lib.ListN.{length, getD}
 use borrow.Author.Tests.{ltb-true, lt-ltb}
 use Rattle.unicode.specs.Unicode.{utf8}
 use Rattle.unicode.specs.Ascii.{allAscii}
-use Rattle.unicode.specs.Laws.{WellFormed, Bytes}
+use Rattle.unicode.specs.Laws.{WellFormed, AreBytes}
 use Rattle.unicode.proofs.Ranges.{both}
 use Rattle.unicode.proofs.Laws.{texts}
 use Rattle.codepage.proofs.WellFormed.{latin1-well-formed, ebcdic-well-formed}
@@ -20,7 +20,7 @@ use Rattle.conversion.specs.Conversion.{textIn, locatorMark, rowIdMark, 
 
 -- ---- ASCII
 
-ascii-bytes : (s : List ℕ) → allAscii s ≡ true → Bytes s
+ascii-bytes : (s : List ℕ) → allAscii s ≡ true → AreBytes s
 unfolding allAscii
 ascii-bytes [] e i = omega arith
 ascii-bytes (b ∷ s) e zero = omega (arith, ltb-true b 0x80 (both (ltb b 0x80) (allAscii s) e .0))
@@ -46,7 +46,7 @@ digit-ascii n h = go (ltb n 10)
     go true = lt-ltb (0x30 + n) 0x80 (omega arith)
     go false = lt-ltb (0x37 + n) 0x80 (omega arith)
 
-hex-ascii : (s : List ℕ) → Bytes s → allAscii (hexText s) ≡ true
+hex-ascii : (s : List ℕ) → AreBytes s → allAscii (hexText s) ≡ true
 unfolding hexText allAscii
 hex-ascii [] h = refl
 hex-ascii (b ∷ s) h = rw (digit-ascii (b / 16) (omega (arith, h 0)), digit-ascii (b % 16) (omega arith)) (hex-ascii s (λ i. h (suc i)))
@@ -58,7 +58,7 @@ picked : (P : Conversion → Type 0) (b : Bool) (x y : Conversion) → (b ≡ tr
 picked P true x y f g = f refl
 picked P false x y f g = g
 
-module _ (s : List ℕ) (h : Bytes s) where
+module _ (s : List ℕ) (h : AreBytes s) where
   abbrev Fine : Conversion → Type 0
   Fine p = WellFormed utf8 (textIn p s)
 

@@ -19,7 +19,7 @@ ghost use mathlib.Core.Bool.{true};
 ghost use Prim.Native.Nat.{_≤_};
 ghost use lib.ListN.{length, take};
 ghost use Rattle.refusal.specs.Refusal.{inputLimit};
-ghost use Rattle.buffer.specs.Buffer.{written};
+ghost use Rattle.buffer.specs.Buffer.{overwritten};
 ghost use Rattle.utf.specs.Ascii.{AsciiRun};
 ghost use Rattle.conversion.specs.Conversion.{characterConversion, graphicConversion, isUtf16, textIn};
 ghost use Rattle.conversion.specs.Guess.{guessText, Guessed};
@@ -152,7 +152,7 @@ pub fn text_measure(conversion: Conversion, s: &[u8]) -> Measured
 pub fn text_write(conversion: Conversion, s: &[u8], out: &mut [u8]) -> usize
     requires { ⌜ length (textIn conversion (now s)) ≤ length (now out) ⌝ }
     ensures count { λ r. ⌜ r ≡ length (textIn conversion (now (s .entry))) ⌝ }
-    ensures bytes { λ _. ⌜ now (out .exit) ≡ written (textIn conversion (now (s .entry))) (now (out .entry)) ⌝ }
+    ensures bytes { λ _. ⌜ now (out .exit) ≡ overwritten (textIn conversion (now (s .entry))) (now (out .entry)) ⌝ }
 {
     match conversion {
         Conversion::Plain => copy(s, out),
@@ -180,7 +180,7 @@ pub fn is_guessed(ccsid: u16) -> bool
 fn copy_ascii_long(s: &[u8], out: &mut [u8]) -> usize
     requires { ⌜ length (now s) ≤ length (now out) ⌝ }
     ensures run { λ r. ⌜ AsciiRun r (now (s .entry)) ⌝ }
-    ensures bytes { λ r. ⌜ now (out .exit) ≡ written (take r (now (s .entry))) (now (out .entry)) ⌝ }
+    ensures bytes { λ r. ⌜ now (out .exit) ≡ overwritten (take r (now (s .entry))) (now (out .entry)) ⌝ }
 {
     let mut i = 0;
     loop {
@@ -201,7 +201,7 @@ fn copy_ascii_long(s: &[u8], out: &mut [u8]) -> usize
 pub fn guess_write(s: &[u8], out: &mut [u8]) -> usize
     requires { ⌜ length (guessText (now s)) ≤ length (now out) ⌝ }
     ensures count { λ r. ⌜ r ≡ length (guessText (now (s .entry))) ⌝ }
-    ensures bytes { λ _. ⌜ now (out .exit) ≡ written (guessText (now (s .entry))) (now (out .entry)) ⌝ }
+    ensures bytes { λ _. ⌜ now (out .exit) ≡ overwritten (guessText (now (s .entry))) (now (out .entry)) ⌝ }
 {
     let n = copy_ascii_long(s, out);
     if has_high(&s[n..]) {

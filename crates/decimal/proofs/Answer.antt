@@ -5,7 +5,7 @@ use mathlib.Core.Path.{_≡_, refl}
 use borrow.Author.Tests.{lt-ltb, le-ltb, eq-eqb, ne-eqb}
 use lib.ListN.{length}
 use Rattle.refusal.specs.Refusal.{accepted}
-use Rattle.buffer.specs.Buffer.{TextTold, refusal, written, textAnswer, textBuffer}
+use Rattle.buffer.specs.Buffer.{TextTold, refusedText, overwritten, textAnswer, textBuffer}
 use Rattle.packed.specs.Packed.{decimalText, mostBytes}
 use Rattle.decimal.specs.Decimal.{decimalAnswer, decimalBuffer}
 
@@ -14,21 +14,21 @@ abbrev pub Right : ℕ → List ℕ → List ℕ → TextTold → List ℕ → T
 Right scale s d a ys = (a ≡ decimalAnswer scale s d) × (ys ≡ decimalBuffer scale s d)
 
 module _ (scale : ℕ) (s d : List ℕ) where
-  pub no-bytes : length s ≡ 0 → {a : TextTold} → a ≡ refusal 6 [] → Right scale s d a d
+  pub no-bytes : length s ≡ 0 → {a : TextTold} → a ≡ refusedText 6 [] → Right scale s d a d
   unfolding decimalAnswer decimalBuffer
   no-bytes h q = rw (eq-eqb (length s) 0 h) (q, refl)
 
   module _ (z : length s ≡ 0 → ⊥) where
-    pub too-long : mostBytes < length s → {a : TextTold} → a ≡ refusal 7 [] → Right scale s d a d
+    pub too-long : mostBytes < length s → {a : TextTold} → a ≡ refusedText 7 [] → Right scale s d a d
     unfolding decimalAnswer decimalBuffer
     too-long h q = rw (ne-eqb (length s) 0 z, lt-ltb mostBytes (length s) h) (q, refl)
 
     module _ (h : length s ≤ mostBytes) {n : ℕ} (e : n ≡ length (decimalText scale s)) where
-      pub no-room : length d < n → {a : TextTold} → a ≡ refusal 9 (n ∷ []) → Right scale s d a d
+      pub no-room : length d < n → {a : TextTold} → a ≡ refusedText 9 (n ∷ []) → Right scale s d a d
       unfolding decimalAnswer decimalBuffer textAnswer textBuffer
       no-room k q = rw (ne-eqb (length s) 0 z, le-ltb mostBytes (length s) h, ← e, lt-ltb (length d) n k) (q, refl)
 
-      pub fitting : n ≤ length d → {m : ℕ} → m ≡ length (decimalText scale s) → {ys : List ℕ} → ys ≡ written (decimalText scale s) d
+      pub fitting : n ≤ length d → {m : ℕ} → m ≡ length (decimalText scale s) → {ys : List ℕ} → ys ≡ overwritten (decimalText scale s) d
           → Right scale s d (record { outcome = accepted; written = m }) ys
       unfolding decimalAnswer decimalBuffer textAnswer textBuffer
       fitting k w q = rw (w, ne-eqb (length s) 0 z, le-ltb mostBytes (length s) h, le-ltb (length d) (length (decimalText scale s)) (rw e at k)) (refl, q)

@@ -3,7 +3,7 @@ use Prim.Native.Nat.{ℕ}
 use mathlib.Core.List.{List, [], _∷_}
 use mathlib.Core.Path.{_≡_, refl}
 use Rattle.buffer.specs.Buffer.{textAnswer, textBuffer}
-use Rattle.packed.specs.Packed.{nibbles, sign, digits, trimmed, fraction, decimalText}
+use Rattle.packed.specs.Packed.{nibbles, signText, digitText, trimmed, fraction, decimalText}
 use Rattle.decimal.specs.Decimal.{decimalAnswer, decimalBuffer}
 
 -- for every text buffer d the bytes s at a scale give the text t: it is written into d, or d is too short for it
@@ -21,5 +21,5 @@ pub record Examples : Type 0 where
   pub sign-B : Gives 0 (0x12 ∷ 0x3B ∷ []) (0x31 ∷ 0x32 ∷ 0x33 ∷ [])
 
 pub examples : Examples
-unfolding decimalAnswer decimalBuffer decimalText nibbles sign digits trimmed fraction
+unfolding decimalAnswer decimalBuffer decimalText nibbles signText digitText trimmed fraction
 examples = record { fraction-zeros = λ d. (refl, refl); digits-lacking = λ d. (refl, refl); minus-zero = λ d. (refl, refl); sign-B = λ d. (refl, refl) }

@@ -5,7 +5,7 @@ use mathlib.Core.List.{List, [], _∷_, _++_}
 use native.Mathlib.Omega.{arith}
 use lib.Dec.{leb, ltb, eqb}
 use lib.ListN.{length, getD, take, drop, set, replicate}
-use Rattle.unicode.specs.Laws.{Bytes}
+use Rattle.unicode.specs.Laws.{AreBytes}
 use Rattle.unicode.proofs.Bytes.{bytes-drop, bytes-take}
 use Rattle.types.specs.Types.{baseTypes, listedOr, baseOf, nullableBit, drdaType, fromDrdaType}
 use Rattle.types.specs.FixedLength.{packedLength}
@@ -20,29 +20,29 @@ use Rattle.types.specs.declared.ReferenceLength.the-variants.{Absent, Width}
 use Rattle.types.specs.declared.ColumnDescriptor.{ColumnDescriptor}
 use Rattle.column.specs.declared.Numbers.{Numbers}
 use Rattle.column.specs.declared.EnvEntry.{EnvEntry}
-use Rattle.column.specs.Column.{field16, referenceLength, numbers, column, sdaNumbers, sdaType, sdaColumn}
+use Rattle.column.specs.Column.{field16, referenceLength, numbersOf, unnumbered, sdaNumbers, sdaType, sdaColumn}
 use Rattle.column.specs.Group.{entryOf, noEntry, firstEntry, groupType, groupCcsid, undeclaredColumn, declaredColumn, lidColumn}
 use Rattle.triplets.specs.declared.Pending.{Pending}
 use Rattle.triplets.specs.declared.Pending.the-variants as pending
-use Rattle.triplets.specs.Triplets.{Triplet, firstTriplet, begins, Reading, stopped, after, readingOf, reading}
+use Rattle.triplets.specs.Triplets.{Triplet, firstTriplet, begins, Reading, stopped, consTriplet, readingOf, reading}
 use Rattle.triplets.specs.Descriptors.{lastOf, pendingAfter, noEntries, declare, environmentAfter, sdaColumns, outerSda, lidColumns, innerColumns, groupColumns, tripletColumns, columnsFrom, columnsOf}
-use Rattle.numbers.specs.Number.{number as numberOf}
-use Rattle.qrydsc.specs.Qrydsc.{number, numbered}
+use Rattle.numbers.specs.Number.{unsigned}
+use Rattle.qrydsc.specs.Qrydsc.{withIndex, numbered}
 use Rattle.words.proofs.TypeWords.{Fitting}
 use Rattle.words.proofs.Fields.{WidthFits, Fits}
 use Rattle.words.proofs.Columns.{AllFit}
 
 -- ---- bytes
 
-number-fits : (a b : ℕ) → a < 256 → b < 256 → numberOf BigEndian (a ∷ b ∷ []) < 65536
-unfolding numberOf
+number-fits : (a b : ℕ) → a < 256 → b < 256 → unsigned BigEndian (a ∷ b ∷ []) < 65536
+unfolding unsigned
 number-fits a b ha hb = omega arith
 
-field-fits : (d : List ℕ) → Bytes d → (at : ℕ) → field16 d at < 65536
+field-fits : (d : List ℕ) → AreBytes d → (at : ℕ) → field16 d at < 65536
 unfolding field16
 field-fits d h at = go (leb (at + 2) (length d))
   where
-    go : (b : Bool) → cond b (numberOf BigEndian (getD d at 0 ∷ getD d (at + 1) 0 ∷ [])) 0 < 65536
+    go : (b : Bool) → cond b (unsigned BigEndian (getD d at 0 ∷ getD d (at + 1) 0 ∷ [])) 0 < 65536
     go true = number-fits _ _ (h at) (h (at + 1))
     go false = omega arith
 
@@ -107,15 +107,15 @@ reference-fits c n = go (leb 0xC8 c) (leb c 0xCF) (bit8000 n)
 abbrev NumbersFit : Numbers → Type 0
 NumbersFit m = (m .precision < 256) × ((m .scale < 256) × (m .ccsid < 65536))
 
-column-fits : (c n : ℕ) (m : Numbers) (nullable : Bool) (t : Db2Type) (order : ByteOrder) → c < 256 → n < 65536 → NumbersFit m → Fitting t → Fits (column c n m nullable t order)
+column-fits : (c n : ℕ) (m : Numbers) (nullable : Bool) (t : Db2Type) (order : ByteOrder) → c < 256 → n < 65536 → NumbersFit m → Fitting t → Fits (unnumbered c n m nullable t order)
 column-fits c n m nullable t order hc hn hm ht =
     record { kind = ht; code = hc; index = omega arith; long = hn; digits = hm .0; point = hm .1 .0; page = hm .1 .1; width = reference-fits c n }
 
-sda-numbers-fit : (d : List ℕ) → Bytes d → NumbersFit (sdaNumbers d)
+sda-numbers-fit : (d : List ℕ) → AreBytes d → NumbersFit (sdaNumbers d)
 unfolding sdaNumbers
 sda-numbers-fit d h = go (eqb (baseOf (getD d 0 0)) 0x0C) (leb 5 (length d))
   where
-    go : (x y : Bool) → NumbersFit (cond x (cond y (numbers (getD d 3 0) (getD d 4 0) (field16 d 5)) (numbers 0 0 (field16 d 5))) (numbers 0 0 (field16 d 3)))
+    go : (x y : Bool) → NumbersFit (cond x (cond y (numbersOf (getD d 3 0) (getD d 4 0) (field16 d 5)) (numbersOf 0 0 (field16 d 5))) (numbersOf 0 0 (field16 d 3)))
     go true true = (h 3, (h 4, field-fits d h 5))
     go true false = (omega arith, (omega arith, field-fits d h 5))
     go false y = (omega arith, (omega arith, field-fits d h 3))
@@ -130,7 +130,7 @@ sda-type-fits c n m h hm = go (eqb (m .ccsid) 0) (eqb (baseOf c) 0x30) (eqb (bas
     go true false false = drda-fits c n (m .precision) (m .scale) h (hm .0) (hm .1 .0)
     go false y z = drda-fits c n (m .precision) (m .scale) h (hm .0) (hm .1 .0)
 
-sda-fits : (d : List ℕ) → Bytes d → Fits (sdaColumn d)
+sda-fits : (d : List ℕ) → AreBytes d → Fits (sdaColumn d)
 unfolding sdaColumn
 sda-fits d h =
     let c = getD d 0 0 in
@@ -151,15 +151,15 @@ unfolding undeclaredColumn
 undeclared-fits l a b hl ha hb = go (eqb (baseOf l) 0x0E)
   where
     n : ℕ
-    n = numberOf BigEndian (a ∷ b ∷ [])
+    n = unsigned BigEndian (a ∷ b ∷ [])
 
     wide : n < 65536
     wide = number-fits a b ha hb
 
-    go : (x : Bool) → Fits (cond x (column l (packedLength a) (numbers a b 0) (nullableBit l) (type.Decimal a b) BigEndian) (column l n (numbers 0 0 (groupCcsid (groupType l n))) (nullableBit l) (groupType l n) BigEndian))
-    go true = column-fits l (packedLength a) (numbers a b 0) (nullableBit l) (type.Decimal a b) BigEndian hl (omega arith) (ha, (hb, omega arith)) (ha, hb)
+    go : (x : Bool) → Fits (cond x (unnumbered l (packedLength a) (numbersOf a b 0) (nullableBit l) (type.Decimal a b) BigEndian) (unnumbered l n (numbersOf 0 0 (groupCcsid (groupType l n))) (nullableBit l) (groupType l n) BigEndian))
+    go true = column-fits l (packedLength a) (numbersOf a b 0) (nullableBit l) (type.Decimal a b) BigEndian hl (omega arith) (ha, (hb, omega arith)) (ha, hb)
     go false =
-        column-fits l n (numbers 0 0 (groupCcsid (groupType l n))) (nullableBit l) (groupType l n) BigEndian hl wide
+        column-fits l n (numbersOf 0 0 (groupCcsid (groupType l n))) (nullableBit l) (groupType l n) BigEndian hl wide
         (omega arith, (omega arith, ccsid-fits (namedIn (type.Char 0 ∷ type.VarChar 0 ∷ type.LongVarChar ∷ type.Clob ∷ type.ClobLocator ∷ type.DbClobLocator ∷ type.LobChar 0 ∷ type.Date ∷ type.Time ∷ type.Timestamp ∷ type.Xml ∷ []) (groupType l n))))
         (group-type-fits l n wide)
 
@@ -167,10 +167,10 @@ declared-fits : (e : EnvEntry) (a b : ℕ) → EntryFits e → a < 256 → b < 2
 unfolding declaredColumn
 declared-fits e a b he ha hb =
     let c = e .«drda_type» in
-    let n = numberOf BigEndian (a ∷ b ∷ []) in
+    let n = unsigned BigEndian (a ∷ b ∷ []) in
     let r = fromDrdaType c n 0 0 in
     let wide : n < 65536 = number-fits a b ha hb in
-    column-fits c n (numbers 0 0 (e .ccsid)) (r .nullable) (r .«db2_type») BigEndian (he .0) wide (omega arith, (omega arith, he .1)) (drda-fits c n 0 0 wide (omega arith) (omega arith))
+    column-fits c n (numbersOf 0 0 (e .ccsid)) (r .nullable) (r .«db2_type») BigEndian (he .0) wide (omega arith, (omega arith, he .1)) (drda-fits c n 0 0 wide (omega arith) (omega arith))
 
 lid-fits : (e : EnvEntry) (l a b : ℕ) → EntryFits e → l < 256 → a < 256 → b < 256 → Fits (lidColumn e l a b)
 unfolding lidColumn
@@ -216,17 +216,17 @@ first-fits x y hx hy = go (x .declared)
 
 abbrev AllBytes : List Triplet → Type 0
 AllBytes [] = Unit {0}
-AllBytes (t ∷ ts) = Bytes (t .body) × AllBytes ts
+AllBytes (t ∷ ts) = AreBytes (t .body) × AllBytes ts
 
 abbrev ReadBytes : Reading → Type 0
 ReadBytes r = AllBytes (r .triplets)
 
-reading-bytes : (least n : ℕ) (s : List ℕ) → Bytes s → ReadBytes (readingOf least n s)
+reading-bytes : (least n : ℕ) (s : List ℕ) → AreBytes s → ReadBytes (readingOf least n s)
 unfolding readingOf
 reading-bytes least zero s h = tt
 reading-bytes least (suc n) s h = go (begins least s) (reading-bytes least n (drop (getD s 0 0) s) (bytes-drop (getD s 0 0) s h))
   where
-    go : (b : Bool) → ReadBytes (readingOf least n (drop (getD s 0 0) s)) → ReadBytes (cond b (after (firstTriplet s) (readingOf least n (drop (getD s 0 0) s))) (stopped s))
+    go : (b : Bool) → ReadBytes (readingOf least n (drop (getD s 0 0) s)) → ReadBytes (cond b (consTriplet (firstTriplet s) (readingOf least n (drop (getD s 0 0) s))) (stopped s))
     go true r = (bytes-take (getD s 0 0 - 2) (drop 2 s) (bytes-drop 2 s h), r)
     go false r = tt
 
@@ -234,7 +234,7 @@ all-append : (cs ds : List ColumnDescriptor) → AllFit cs → AllFit ds → All
 all-append [] ds h k = k
 all-append (c ∷ cs) ds h k = (h .0, all-append cs ds (h .1) k)
 
-sda-columns-fit : (d : List ℕ) → Bytes d → AllFit (sdaColumns d)
+sda-columns-fit : (d : List ℕ) → AreBytes d → AllFit (sdaColumns d)
 unfolding sdaColumns
 sda-columns-fit d h = go (eqb (length d) 0)
   where
@@ -242,7 +242,7 @@ sda-columns-fit d h = go (eqb (length d) 0)
     go true = tt
     go false = (sda-fits d h, tt)
 
-lid-columns-fit : (env : List EnvEntry) → AllEntries env → (d : List ℕ) → Bytes d → AllFit (lidColumns env d)
+lid-columns-fit : (env : List EnvEntry) → AllEntries env → (d : List ℕ) → AreBytes d → AllFit (lidColumns env d)
 unfolding lidColumns
 lid-columns-fit env he [] h = tt
 lid-columns-fit env he (l ∷ []) h = tt
@@ -259,7 +259,7 @@ inner-columns-fit (t ∷ ts) h = all-append (cond (eqb (t .kind) 0x70) (sdaColum
     go true = sda-columns-fit (t .body) (h .0)
     go false = tt
 
-group-columns-fit : (env : List EnvEntry) → AllEntries env → (d : List ℕ) → Bytes d → AllFit (groupColumns env d)
+group-columns-fit : (env : List EnvEntry) → AllEntries env → (d : List ℕ) → AreBytes d → AllFit (groupColumns env d)
 unfolding groupColumns reading
 group-columns-fit env he d h = go (eqb (getD d 0 0) 0xD0)
   where
@@ -271,12 +271,12 @@ abbrev PendingFits : Pending → Type 0
 PendingFits pending.Nothing = Unit {0}
 PendingFits (pending.Type m) = m < 256
 
-outer-sda-fits : (p : Pending) (d : List ℕ) → Bytes d → AllFit (outerSda p d)
+outer-sda-fits : (p : Pending) (d : List ℕ) → AreBytes d → AllFit (outerSda p d)
 unfolding outerSda
 outer-sda-fits pending.Nothing d h = sda-columns-fit d h
 outer-sda-fits (pending.Type m) d h = tt
 
-triplet-fits : (p : Pending) (env : List EnvEntry) → AllEntries env → (t : Triplet) → Bytes (t .body) → AllFit (tripletColumns p env t)
+triplet-fits : (p : Pending) (env : List EnvEntry) → AllEntries env → (t : Triplet) → AreBytes (t .body) → AllFit (tripletColumns p env t)
 unfolding tripletColumns
 triplet-fits p env he t h = go (eqb (t .kind) 0x70) (eqb (t .kind) 0x76)
   where
@@ -285,7 +285,7 @@ triplet-fits p env he t h = go (eqb (t .kind) 0x70) (eqb (t .kind) 0x76)
     go false true = group-columns-fit env he (t .body) h
     go false false = tt
 
-pending-fits : (t : Triplet) → Bytes (t .body) → PendingFits (pendingAfter t)
+pending-fits : (t : Triplet) → AreBytes (t .body) → PendingFits (pendingAfter t)
 unfolding pendingAfter lastOf
 pending-fits t h = go (eqb (t .kind) 0x78) (eqb (length (t .body)) 0)
   where
@@ -294,7 +294,7 @@ pending-fits t h = go (eqb (t .kind) 0x78) (eqb (length (t .body)) 0)
     go true false = h (length (t .body) - 1)
     go false y = tt
 
-environment-fits : (p : Pending) → PendingFits p → (env : List EnvEntry) → AllEntries env → (t : Triplet) → Bytes (t .body) → AllEntries (environmentAfter p env t)
+environment-fits : (p : Pending) → PendingFits p → (env : List EnvEntry) → AllEntries env → (t : Triplet) → AreBytes (t .body) → AllEntries (environmentAfter p env t)
 unfolding environmentAfter declare entryOf
 environment-fits pending.Nothing hp env he t h = he
 environment-fits (pending.Type m) hp env he t h = go (eqb (t .kind) 0x70) (eqb (length (t .body)) 0)
@@ -322,7 +322,7 @@ numbered-fit k (c ∷ cs) l h =
     let f = h .0 in
     (record { kind = f .kind; code = f .code; index = omega arith; long = f .long; digits = f .digits; point = f .point; page = f .page; width = f .width }, numbered-fit (k + 1) cs (omega arith) (h .1))
 
-pub description-fits : (s : List ℕ) → Bytes s → length (columnsOf s) ≤ 256 → AllFit (numbered 0 (columnsOf s))
+pub description-fits : (s : List ℕ) → AreBytes s → length (columnsOf s) ≤ 256 → AllFit (numbered 0 (columnsOf s))
 unfolding columnsOf reading noEntries
 description-fits s h l =
     numbered-fit 0 (columnsOf s) (omega arith) (columns-fit pending.Nothing tt noEntries (entries-alike 256) (readingOf 2 (length s) s .triplets) (reading-bytes 2 (length s) s h))

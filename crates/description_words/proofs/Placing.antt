@@ -4,7 +4,7 @@ use mathlib.Core.List.{List, [], _∷_}
 use Prim.Native.Nat.{ℕ, suc, _+_, _*_, _≤_, _<_}
 use native.Mathlib.Omega.{arith}
 use lib.ListN.{length, getD, set}
-use Rattle.buffer.specs.Buffer.{written}
+use Rattle.buffer.specs.Buffer.{overwritten}
 use Rattle.buffer.proofs.Writing.{Writing, start, stored, fits, end}
 use Rattle.types.specs.declared.ColumnDescriptor.{ColumnDescriptor}
 use Rattle.types.specs.Places.{maxColumns}
@@ -15,8 +15,8 @@ use Rattle.triplets.specs.declared.Cursor.{Cursor}
 use Rattle.triplets.specs.declared.Cursor.the-variants as cursor
 use Rattle.triplets.specs.declared.Step.the-variants as step
 use Rattle.triplets.specs.Descriptors.{noEntries, declare, columnsOf}
-use Rattle.triplets.specs.Steps.{toCome, Within, Goes, Leads}
-use Rattle.qrydsc.specs.Qrydsc.{number, numbered}
+use Rattle.triplets.specs.Steps.{toCome, CursorWithin, Goes, Leads}
+use Rattle.qrydsc.specs.Qrydsc.{withIndex, numbered}
 use Rattle.qrydsc.proofs.Progress.{all-to-come}
 use Rattle.words.specs.Words.{firstWord, secondWord, packColumns}
 
@@ -31,7 +31,7 @@ length-words k (c ∷ cs) = ap (λ (n : ℕ). suc (suc n)) (length-words (k + 1)
 
 -- k columns are written into the words d, which are now `out`, with an environment, at a cursor
 pub record Placing (s d out : List ℕ) (k : ℕ) (env : List EnvEntry) (c : Cursor) : Type 0 where
-  pub within : Within s c
+  pub within : CursorWithin s c
   pub total : k + length (toCome s env c) ≤ maxColumns
   pub writing : Writing (wordsFrom 0 (columnsOf s)) d (wordsFrom k (toCome s env c)) out (2 * k)
 
@@ -44,7 +44,7 @@ placing-start s d few room =
     }
 
 module _ {s d out : List ℕ} {k : ℕ} {env : List EnvEntry} {c : Cursor} (i : Placing s d out k env c) where
-  pub placing-end : Leads s c step.End → out ≡ written (wordsFrom 0 (columnsOf s)) d
+  pub placing-end : Leads s c step.End → out ≡ overwritten (wordsFrom 0 (columnsOf s)) d
   unfolding packColumns numbered
   placing-end h = end (i .writing) (rw (h env))
 
@@ -56,10 +56,10 @@ module _ {s d out : List ℕ} {k : ℕ} {env : List EnvEntry} {c : Cursor} (i : 
   -- a column more
   module _ {n : Cursor} (x : List EnvEntry → ColumnDescriptor) (g : Goes s c n (λ e. x e ∷ toCome s e n)) where
     first : ℕ
-    first = firstWord (number k (x env))
+    first = firstWord (withIndex k (x env))
 
     second : ℕ
-    second = secondWord (number k (x env))
+    second = secondWord (withIndex k (x env))
 
     split : wordsFrom k (toCome s env c) ≡ first ∷ second ∷ wordsFrom (k + 1) (toCome s env n)
     unfolding packColumns numbered first second
@@ -68,7 +68,7 @@ module _ {s d out : List ℕ} {k : ℕ} {env : List EnvEntry} {c : Cursor} (i : 
     pub placing-room : (k < maxColumns) × (2 * k + 1 < length out)
     placing-room = (omega (arith, i .total, ap length (g .same env)), omega (arith, fits (i .writing), ap length split))
 
-    pub placing-column : Placing s d (set (set out (2 * k) (firstWord (number k (x env)))) (2 * k + 1) (secondWord (number k (x env)))) (k + 1) env n
+    pub placing-column : Placing s d (set (set out (2 * k) (firstWord (withIndex k (x env)))) (2 * k + 1) (secondWord (withIndex k (x env)))) (k + 1) env n
     unfolding first second
     placing-column =
         let w = stored (stored (i .writing) first (second ∷ wordsFrom (k + 1) (toCome s env n)) split) second (wordsFrom (k + 1) (toCome s env n)) refl in
@@ -76,10 +76,10 @@ module _ {s d out : List ℕ} {k : ℕ} {env : List EnvEntry} {c : Cursor} (i : 
         record { within = g .within; total = omega (arith, i .total, ap length (g .same env)); writing = (rw e at w) }
 
 -- no columns have no words
-pub none-written : (s d : List ℕ) → length (columnsOf s) ≡ 0 → d ≡ written (wordsFrom 0 (columnsOf s)) d
+pub none-written : (s d : List ℕ) → length (columnsOf s) ≡ 0 → d ≡ overwritten (wordsFrom 0 (columnsOf s)) d
 unfolding packColumns numbered
 none-written s d h = go (columnsOf s) h
   where
-    go : (cs : List ColumnDescriptor) → length cs ≡ 0 → d ≡ written (wordsFrom 0 cs) d
+    go : (cs : List ColumnDescriptor) → length cs ≡ 0 → d ≡ overwritten (wordsFrom 0 cs) d
     go [] e = refl
     go (c ∷ cs) e = absurd (omega arith)

@@ -11,12 +11,12 @@ use types::MAX_COLUMNS;
 ghost use mathlib.Core.Path.{_≡_};
 ghost use Prim.Native.Nat.{_+_, _-_, _*_, _≤_, _<_};
 ghost use lib.ListN.{length, set};
-ghost use Rattle.buffer.specs.Buffer.{written};
+ghost use Rattle.buffer.specs.Buffer.{overwritten};
 ghost use Rattle.types.specs.Places.{maxColumns};
 ghost use lib.Seq.{slice};
 ghost use Rattle.triplets.specs.Triplets.{triplet, reading};
 ghost use Rattle.triplets.specs.Descriptors.{pendingAfter, innerColumns, groupColumns, tripletColumns, columnsOf};
-ghost use Rattle.qrydsc.specs.Qrydsc.{number, numbered};
+ghost use Rattle.qrydsc.specs.Qrydsc.{withIndex, numbered};
 ghost use Rattle.words.specs.Words.{firstWord, secondWord, packColumns};
 ghost use Rattle.description_words.specs.Counted.{sdaCount, Counts, Counted};
 
@@ -128,7 +128,7 @@ pub fn count_columns(data: &[u8]) -> usize
 // Writes a column with its number into its two words.
 fn put_column(words: &mut [u64], count: usize, column: ColumnDescriptor)
     requires { ⌜ (count < maxColumns) × (2 * count + 1 < length (now words)) ⌝ }
-    ensures { λ _. ⌜ now (words .exit) ≡ set (set (now (words .entry)) (2 * count) (firstWord (number count column))) (2 * count + 1) (secondWord (number count column)) ⌝ }
+    ensures { λ _. ⌜ now (words .exit) ≡ set (set (now (words .entry)) (2 * count) (firstWord (withIndex count column))) (2 * count + 1) (secondWord (withIndex count column)) ⌝ }
 {
     let mut numbered = column;
     numbered.column_index = count as u8;
@@ -141,7 +141,7 @@ fn put_column(words: &mut [u64], count: usize, column: ColumnDescriptor)
 fn write_all(data: &[u8], words: &mut [u64])
     requires { ⌜ length (columnsOf (now «data»)) ≤ maxColumns ⌝ }
     requires { ⌜ 2 * length (columnsOf (now «data»)) ≤ length (now words) ⌝ }
-    ensures { λ _. ⌜ now (words .exit) ≡ written (packColumns (numbered 0 (columnsOf (now («data» .entry))))) (now (words .entry)) ⌝ }
+    ensures { λ _. ⌜ now (words .exit) ≡ overwritten (packColumns (numbered 0 (columnsOf (now («data» .entry))))) (now (words .entry)) ⌝ }
 {
     let mut count: usize = 0;
     let mut environment = [EnvEntry {
@@ -185,7 +185,7 @@ pub fn write_columns(data: &[u8], total: usize, words: &mut [u64])
     requires { ⌜ total ≡ length (columnsOf (now «data»)) ⌝ }
     requires { ⌜ total ≤ maxColumns ⌝ }
     requires { ⌜ 2 * total ≤ length (now words) ⌝ }
-    ensures { λ _. ⌜ now (words .exit) ≡ written (packColumns (numbered 0 (columnsOf (now («data» .entry))))) (now (words .entry)) ⌝ }
+    ensures { λ _. ⌜ now (words .exit) ≡ overwritten (packColumns (numbered 0 (columnsOf (now («data» .entry))))) (now (words .entry)) ⌝ }
 {
     if total == 0 {
         return;

@@ -7,12 +7,12 @@ use mathlib.Core.Bool.{true, false}
 use lib.ListN.{length}
 use borrow.Author.Tests.{lt-ltb, le-ltb}
 use Rattle.refusal.specs.Refusal.{accepted}
-use Rattle.buffer.specs.Buffer.{written}
+use Rattle.buffer.specs.Buffer.{overwritten}
 use Rattle.types.specs.declared.ColumnDescriptor.{ColumnDescriptor}
 use Rattle.types.specs.declared.Columns.{Columns}
 use Rattle.types.specs.Places.{maxColumns, columnList}
 use Rattle.triplets.specs.Descriptors.{columnsOf}
-use Rattle.qrydsc.specs.Qrydsc.{DescriptionTold, numbered, listed, maxQrydsc, description}
+use Rattle.qrydsc.specs.Qrydsc.{DescriptionTold, numbered, listAnswer, maxQrydsc, description}
 use Rattle.qrydsc.proofs.Lists.{length-numbered}
 use Rattle.rules.specs.Row.{covered}
 use Rattle.words.specs.Words.{packColumns}
@@ -42,12 +42,12 @@ module _ (s w : List ℕ) where
 
   module _ (h : length s ≤ maxQrydsc) where
     pub too-many : maxColumns < length (columnsOf s) → Promised (description s) w 2 0 w
-    unfolding description listed columnList
+    unfolding description listAnswer columnList
     too-many k = rw (le-ltb maxQrydsc (length s) h, lt-ltb maxColumns (length (columnsOf s)) k) (refl, (refl, refl))
 
     module _ (n : ℕ) (k : n ≤ maxColumns) (e : n ≡ length (columnsOf s)) where
       told : description s ≡ (record { outcome = accepted; columns = listing (columnsOf s) })
-      unfolding description listed listing
+      unfolding description listAnswer listing
       told = rw (le-ltb maxQrydsc (length s) h, le-ltb maxColumns (length (columnsOf s)) (omega arith))
 
       pub too-few : length w < 2 * n → Promised (description s) w 101 n w
@@ -56,7 +56,7 @@ module _ (s w : List ℕ) where
           let t : tooFew (listing (columnsOf s)) w ≡ true = lt-ltb (length w) (2 * listing (columnsOf s) .count) (omega arith) in
           rw (told, t) (refl, (e ∙ sym c, refl))
 
-      pub all-written : 2 * n ≤ length w → (out : List ℕ) → out ≡ written (packColumns (numbered 0 (columnsOf s))) w → Promised (description s) w 0 n out
+      pub all-written : 2 * n ≤ length w → (out : List ℕ) → out ≡ overwritten (packColumns (numbered 0 (columnsOf s))) w → Promised (description s) w 0 n out
       all-written f out q =
           let c = count-listing (columnsOf s) in
           let t : tooFew (listing (columnsOf s)) w ≡ false = le-ltb (length w) (2 * listing (columnsOf s) .count) (omega arith) in

@@ -13,8 +13,8 @@ use Rattle.types.specs.declared.Db2Type.the-variants as type
 use Rattle.types.specs.declared.ColumnDescriptor.{ColumnDescriptor}
 use Rattle.types.specs.Names.{namedIn}
 use Rattle.types.specs.Places.{maxColumns, filled, blankColumn, columnList}
-use Rattle.rules.specs.Walk.{Piece, skipOf}
-use Rattle.rules.specs.Row.{refusal, acceptance, rowTexts, anyDecFloat, covered, bodyDecision, rowDecision, textAfter}
+use Rattle.rules.specs.Walk.{Cell, skipOf}
+use Rattle.rules.specs.Row.{refuse, accept, rowTexts, anyDecFloat, covered, bodyDecision, rowDecision, textAfter}
 use Rattle.rules.specs.Conversions.{ported}
 use Rattle.words.specs.Reading.{readColumns}
 use Rattle.row_words.specs.declared.Checked.{Checked}

@@ -10,20 +10,20 @@ use borrow.Author.Tests.{le-ltb, ltb-false}
 use lib.Dec.{ltb}
 use lib.ListN.{length, take, drop, getD, replicate}
 use lib.Seq.{take-at, length-take-le, getD-take}
-use Rattle.refusal.specs.Refusal.{Told, accepted, refused, number}
-use Rattle.buffer.specs.Buffer.{written}
+use Rattle.refusal.specs.Refusal.{Told, accepted, refused, toldNumber}
+use Rattle.buffer.specs.Buffer.{overwritten}
 use Rattle.types.specs.declared.ColumnDescriptor.{ColumnDescriptor}
 use Rattle.types.specs.declared.ValuePlace.{ValuePlace}
 use Rattle.types.specs.Places.{maxColumns, filled, blankValue, columnList}
-use Rattle.rules.specs.Walk.{columnNeed, Piece, cellPiece, Walk, done, short, consPiece, walk, walkBody, walkRow, skipOf}
-use Rattle.rules.specs.Row.{RowTold, Decision, refusal, acceptance, covered, rowValues, rowDecision, answerOf, textAfter}
+use Rattle.rules.specs.Walk.{columnNeed, Cell, cellOf, Walk, done, short, consCell, walk, walkBody, walkRow, skipOf}
+use Rattle.rules.specs.Row.{RowTold, Decision, refuse, accept, covered, rowValues, rowDecision, answerOf, textAfter}
 use Rattle.rules.specs.Conversions.{ported, rowAnswer, rowText}
 use Rattle.rules.proofs.Walks.{isDone, piecesOf, walk-step, walk-first}
 use Rattle.rules.proofs.Demand3.{facts}
 use Rattle.rules.proofs.Progress.{values-length}
 use Rattle.rules.proofs.Accepted.{all-places}
 use Rattle.triplets.specs.Descriptors.{columnsOf}
-use Rattle.qrydsc.specs.Qrydsc.{numbered, DescriptionTold, refusal as refusedDescription, listed, maxQrydsc, description}
+use Rattle.qrydsc.specs.Qrydsc.{numbered, DescriptionTold, refusedDescription, listAnswer, maxQrydsc, description}
 use Rattle.qrydsc.proofs.Lists.{length-numbered}
 use Rattle.description_words.proofs.Fitting.{description-fits}
 use Rattle.words.specs.Words.{packColumns}
@@ -33,7 +33,7 @@ use Rattle.words.specs.ValueReading.{valueNamed}
 use Rattle.words.proofs.Columns.{AllFit, reads-columns, packed-length}
 use Rattle.words.proofs.Packed.{three, packed-at}
 use Rattle.words.proofs.Values.{InRange, reads-value}
-use Rattle.unicode.specs.Laws.{Bytes}
+use Rattle.unicode.specs.Laws.{AreBytes}
 use Rattle.unicode.proofs.Bytes.{bytes-drop}
 use Rattle.row_words.specs.Rows.{valuesAfter}
 use Rattle.exported.proofs.RowCall.{covered-list}
@@ -45,7 +45,7 @@ use Rattle.exported.proofs.ValueRanges.{cons-all, walk-range, AllInRang
 
 -- the lent words v after an answer: of an accepted row the words of its values lie over the first
 abbrev pub valuesBy : Told → List ValuePlace → List ℕ → List ℕ
-valuesBy accepted values v = written (packValues values) v
+valuesBy accepted values v = overwritten (packValues values) v
 valuesBy (refused n vs) values v = v
 
 -- a number beside an answer: of an accepted row n, of a refusal its value at a place, and 0 where it has none
@@ -61,10 +61,10 @@ walk-all start [] at s h = refl
 walk-all start (c ∷ cs) at s h =
     let k = columnNeed c s in
     let e = walk-step start c cs at s k refl (walk-first start c cs at s h) in
-    let a = cons-all (cellPiece (c .nullable) c at (take k s)) (walk start cs (at + k) (drop k s)) (rw e at h) in
+    let a = cons-all (cellOf (c .nullable) c at (take k s)) (walk start cs (at + k) (drop k s)) (rw e at h) in
     ap (λ (w : Walk). length (piecesOf w)) e ∙ ap length (a .1) ∙ ap suc (walk-all start cs (at + k) (drop k s) (a .0))
 
-first-places : (cs : List ColumnDescriptor) (s d : List ℕ) (ps : List Piece) (n : ℕ) → rowDecision ported (columnList cs) s d ≡ acceptance ps n
+first-places : (cs : List ColumnDescriptor) (s d : List ℕ) (ps : List Cell) (n : ℕ) → rowDecision ported (columnList cs) s d ≡ accept ps n
     → take (length cs) (filled blankValue (rowValues ported ps 0)) ≡ rowValues ported ps 0
 unfolding filled answerOf walkBody
 first-places cs s d ps n e =
@@ -82,25 +82,25 @@ module _ (cs : List ColumnDescriptor) (fit : AllFit cs) (few : length cs ≤ max
   unfolding wordsDecision
   same-decision = rw (half, le-ltb maxColumns (length cs) few, le-ltb (length v) (3 * length cs) room, reads-columns cs fit)
 
-  told-number : (e : Decision) → rowNumber (decided e) ≡ number (answerOf ported e .outcome)
+  told-number : (e : Decision) → rowNumber (decided e) ≡ toldNumber (answerOf ported e .outcome)
   unfolding answerOf
-  told-number (refusal n vs) = refl
-  told-number (acceptance ps n) = refl
+  told-number (refuse n vs) = refl
+  told-number (accept ps n) = refl
 
   -- the number is that of decode_row's outcome
-  pub same-number : rowNumber (wordsDecision (packColumns cs) s v d) ≡ number (rowAnswer (columnList cs) s d .outcome)
+  pub same-number : rowNumber (wordsDecision (packColumns cs) s v d) ≡ toldNumber (rowAnswer (columnList cs) s d .outcome)
   unfolding rowAnswer
   same-number = rw same-decision (told-number (rowDecision ported (columnList cs) s d))
 
   told-first : (e : Decision) → rowFirst (decided e) ≡ besideAnswer 0 (answerOf ported e .outcome) (answerOf ported e .used)
   unfolding answerOf
-  told-first (refusal n vs) = refl
-  told-first (acceptance ps n) = refl
+  told-first (refuse n vs) = refl
+  told-first (accept ps n) = refl
 
   told-second : (e : Decision) → rowSecond (decided e) ≡ besideAnswer 1 (answerOf ported e .outcome) (textsTogether (answerOf ported e .places))
   unfolding answerOf
-  told-second (refusal n vs) = refl
-  told-second (acceptance ps n) = sym (filled-together ported ps)
+  told-second (refuse n vs) = refl
+  told-second (accept ps n) = sym (filled-together ported ps)
 
   -- the first number beside it is decode_row's bytes used, the second the length of the texts that it hands out; of a refusal they are its values
   pub same-first : rowFirst (wordsDecision (packColumns cs) s v d) ≡ besideAnswer 0 (rowAnswer (columnList cs) s d .outcome) (rowAnswer (columnList cs) s d .used)
@@ -122,8 +122,8 @@ module _ (cs : List ColumnDescriptor) (fit : AllFit cs) (few : length cs ≤ max
   same-values = rw same-decision (go (rowDecision ported (columnList cs) s d) refl)
     where
       go : (x : Decision) → rowDecision ported (columnList cs) s d ≡ x → valuesAfter x v ≡ valuesBy (answerOf ported x .outcome) (take (length cs) (answerOf ported x .places)) v
-      go (refusal n vs) e = refl
-      go (acceptance ps n) e = rw (first-places cs s d ps n e)
+      go (refuse n vs) e = refl
+      go (accept ps n) e = rw (first-places cs s d ps n e)
 
   -- an accepted row's words, from those of value k on
   module _ (e : rowAnswer (columnList cs) s d .outcome ≡ accepted) (k : ℕ) (h : k < length cs) where
@@ -153,7 +153,7 @@ module _ (cs : List ColumnDescriptor) (fit : AllFit cs) (few : length cs ≤ max
     unfolding from places
     same-bytes t = ap (λ (w : List ℕ). wordsBytes w s t) words-are ∙ three-bytes (getD places k blankValue) behind s t
 
-    in-range : Bytes s → InRange (getD places k blankValue .value)
+    in-range : AreBytes s → InRange (getD places k blankValue .value)
     unfolding places rowAnswer answerOf walkBody
     in-range bytes =
         let f = facts ported (columnList cs) s d e in
@@ -165,7 +165,7 @@ module _ (cs : List ColumnDescriptor) (fit : AllFit cs) (few : length cs ≤ max
         subst (λ (p : ValuePlace). InRange (p .value)) (sym here) (at-range (rowValues ported ps 0) k all)
 
     -- of a row of bytes they name value k of decode_row, and whether it is external
-    pub same-value : Bytes s
+    pub same-value : AreBytes s
         → valueNamed (getD (drop (3 * k) (wordsLeft (wordsDecision (packColumns cs) s v d) v)) 0 0) (getD (drop (3 * k) (wordsLeft (wordsDecision (packColumns cs) s v d) v)) 1 0)
         (getD (drop (3 * k) (wordsLeft (wordsDecision (packColumns cs) s v d) v)) 2 0)
         ≡ getD (rowAnswer (columnList cs) s d .places) k blankValue
@@ -178,8 +178,8 @@ module _ (s v d : List ℕ) where
   abbrev Taken : DescriptionTold → Type 0
   Taken r = r .outcome ≡ accepted → 3 * r .columns .count ≤ length v → wordsDecision (packColumns (covered (r .columns))) s v d ≡ decided (rowDecision ported (r .columns) s d)
 
-  listed-taken : (q : List ℕ) → Bytes q → Taken (listed (columnsOf q))
-  unfolding listed columnList
+  listed-taken : (q : List ℕ) → AreBytes q → Taken (listAnswer (columnsOf q))
+  unfolding listAnswer columnList
   listed-taken q h = go (ltb maxColumns (length (columnsOf q))) refl
     where
       go : (b : Bool) → ltb maxColumns (length (columnsOf q)) ≡ b
@@ -191,10 +191,10 @@ module _ (s v d : List ℕ) where
           let n = length-numbered 0 (columnsOf q) in
           rw (covered-list cs) (same-decision cs (description-fits q h (omega arith)) (omega (arith, n, few)) s v d room)
 
-  pub described-row : (q : List ℕ) → Bytes q → Taken (description q)
+  pub described-row : (q : List ℕ) → AreBytes q → Taken (description q)
   unfolding description
   described-row q h = go (ltb maxQrydsc (length q)) (listed-taken q h)
     where
-      go : (b : Bool) → Taken (listed (columnsOf q)) → Taken (cond b (refusedDescription 1 []) (listed (columnsOf q)))
+      go : (b : Bool) → Taken (listAnswer (columnsOf q)) → Taken (cond b (refusedDescription 1 []) (listAnswer (columnsOf q)))
       go true t a room = absurd (let o : _≡_ {A = ℕ} 0 1 = cc in omega arith)
       go false t a room = t a room

@@ -7,7 +7,6 @@ use borrow.Author.Tests.{le-ltb}
 use lib.Ieee.{binary32, binary64}
 use lib.ListN.{length}
 use Rattle.types.specs.declared.Db2Value.{Db2Value}
-use Rattle.types.specs.declared.Db2Value.the-variants as value
 use Rattle.types.specs.declared.ValuePlace.{ValuePlace}
 use Rattle.types.specs.Held.{floatBits}
 use Rattle.numbers.specs.Number.{realOf, doubleOf}
@@ -22,26 +21,26 @@ use Rattle.exported.specs.Rows.{wordsBytes}
 -- what the words of a value name has the value's bytes, also where its number is out of range: a number has none
 variant-bytes : (v : Db2Value) (s d : List ℕ) → valueBytes (variantNamed (sortWord v) (numberWord v) (lengthWord v)) s d ≡ valueBytes v s d
 unfolding valueBytes variantNamed
-variant-bytes value.Null s d = refl
-variant-bytes (value.SmallInt z) s d = refl
-variant-bytes (value.Integer z) s d = refl
-variant-bytes (value.BigInt z) s d = refl
-variant-bytes (value.Real x) s d = rw (number-held (realOf (floatBits binary32 x % 2 ^ 32)) .1)
-variant-bytes (value.RealNan n) s d = refl
-variant-bytes (value.Double x) s d = rw (number-held (doubleOf (floatBits binary64 x)) .1)
-variant-bytes (value.DoubleNan n) s d = refl
-variant-bytes (value.Decimal p) s d = refl
-variant-bytes (value.Char p) s d = refl
-variant-bytes (value.VarChar p) s d = refl
-variant-bytes (value.Binary p) s d = refl
-variant-bytes (value.Blob p) s d = refl
-variant-bytes (value.Clob p) s d = refl
-variant-bytes (value.RowId p) s d = refl
-variant-bytes (value.Date p) s d = refl
-variant-bytes (value.Time p) s d = refl
-variant-bytes (value.Timestamp p) s d = refl
-variant-bytes (value.Boolean b) s d = refl
-variant-bytes (value.Xml p) s d = refl
+variant-bytes Db2Value.Null s d = refl
+variant-bytes (Db2Value.SmallInt z) s d = refl
+variant-bytes (Db2Value.Integer z) s d = refl
+variant-bytes (Db2Value.BigInt z) s d = refl
+variant-bytes (Db2Value.Real x) s d = rw (number-held (realOf (floatBits binary32 x % 2 ^ 32)) .1)
+variant-bytes (Db2Value.RealNan n) s d = refl
+variant-bytes (Db2Value.Double x) s d = rw (number-held (doubleOf (floatBits binary64 x)) .1)
+variant-bytes (Db2Value.DoubleNan n) s d = refl
+variant-bytes (Db2Value.Decimal p) s d = refl
+variant-bytes (Db2Value.Char p) s d = refl
+variant-bytes (Db2Value.VarChar p) s d = refl
+variant-bytes (Db2Value.Binary p) s d = refl
+variant-bytes (Db2Value.Blob p) s d = refl
+variant-bytes (Db2Value.Clob p) s d = refl
+variant-bytes (Db2Value.RowId p) s d = refl
+variant-bytes (Db2Value.Date p) s d = refl
+variant-bytes (Db2Value.Time p) s d = refl
+variant-bytes (Db2Value.Timestamp p) s d = refl
+variant-bytes (Db2Value.Boolean b) s d = refl
+variant-bytes (Db2Value.Xml p) s d = refl
 
 -- the words of a value, and any words behind them
 pub three-bytes : (v : ValuePlace) (rest s d : List ℕ) → wordsBytes (three v ++ rest) s d ≡ valueBytes (v .value) s d

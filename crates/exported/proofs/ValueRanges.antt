@@ -22,17 +22,17 @@ use Rattle.types.specs.declared.ColumnDescriptor.{ColumnDescriptor}
 use Rattle.types.specs.declared.ValuePlace.{ValuePlace}
 use Rattle.types.specs.Names.{nameOf, ownNumbers}
 use Rattle.types.specs.Places.{blankValue}
-use Rattle.numbers.specs.Number.{Number, number, numberValue, realOf, doubleOf}
+use Rattle.numbers.specs.Number.{Number, unsigned, numberValue, realOf, doubleOf}
 use Rattle.rules.specs.declared.Extent.the-variants.{Fixed}
 use Rattle.rules.specs.Extent.{need}
-use Rattle.rules.specs.Meaning.{ByteSort, TextSort, Item, nothing, number as number-item, boolean, part, text, itemIn}
-use Rattle.rules.specs.Walk.{nullableNeed, cellNeed, columnNeed, Piece, absent, present, cellPiece, Walk, done, short, consPiece, walk}
+use Rattle.rules.specs.Meaning.{ByteSort, TextSort, Item, nothing, numeric, boolean, part, text, itemIn}
+use Rattle.rules.specs.Walk.{nullableNeed, cellNeed, columnNeed, Cell, absent, present, cellOf, Walk, done, short, consCell, walk}
 use Rattle.rules.specs.Sorts.{sortsOf}
-use Rattle.rules.specs.Row.{partValue, textValue, textOf, valueOf, pieceItem, pieceValue, rowValues}
+use Rattle.rules.specs.Row.{partValue, textValue, itemText, valueOf, cellItem, cellValue, rowValues}
 use Rattle.rules.specs.Conversions.{ported}
 use Rattle.rules.proofs.Items.{Item-of, Nothing, Numbers, item-of}
 use Rattle.rules.proofs.Walks.{isDone, piecesOf, walk-step, walk-first}
-use Rattle.unicode.specs.Laws.{Bytes}
+use Rattle.unicode.specs.Laws.{AreBytes}
 use Rattle.unicode.proofs.Bytes.{bytes-drop, bytes-take}
 use Rattle.words.specs.Words.{typeNamed}
 use Rattle.words.proofs.TypeWords.{Fitting, named}
@@ -65,8 +65,8 @@ double-range n = go (nanBits binary64 n) refl
     go false e = (ofBits-fits binary64 n, sym (nanBits-is binary64 n) ∙ e)
 
 -- four bytes, in either order
-four : (order : ByteOrder) (s : List ℕ) → Bytes s → length s ≤ 4 → number order s < 2 ^ 32
-unfolding number
+four : (order : ByteOrder) (s : List ℕ) → AreBytes s → length s ≤ 4 → unsigned order s < 2 ^ 32
+unfolding unsigned
 four BigEndian [] h k = omega arith
 four BigEndian (a ∷ []) h k = omega (arith, h 0)
 four BigEndian (a ∷ b ∷ []) h k = omega (arith, h 0, h 1)
@@ -84,7 +84,7 @@ four LittleEndian (a ∷ b ∷ c ∷ d ∷ e ∷ s) h k = absurd (omega arith)
 
 abbrev Ranged : Item → Type 0
 Ranged nothing = Unit {0}
-Ranged (number-item x) = InRange (numberValue x)
+Ranged (numeric x) = InRange (numberValue x)
 Ranged (boolean b) = Unit {0}
 Ranged (part k from l) = Unit {0}
 Ranged (text k t) = Unit {0}
@@ -100,11 +100,11 @@ isReal t = eqb (nameOf t) 3
 numbers : Numbers ported (λ t x. Unless (isReal t) x)
 numbers =
     record {
-      ofSmallInt = λ c s. signed-range w16 (number (c .«byte_order») s) (omega arith);
-      ofInteger = λ c s. signed-range w32 (number (c .«byte_order») s) (omega arith);
-      ofBigInt = λ c s. signed-range w64 (number (c .«byte_order») s) (omega arith);
+      ofSmallInt = λ c s. signed-range w16 (unsigned (c .«byte_order») s) (omega arith);
+      ofInteger = λ c s. signed-range w32 (unsigned (c .«byte_order») s) (omega arith);
+      ofBigInt = λ c s. signed-range w64 (unsigned (c .«byte_order») s) (omega arith);
       ofReal = λ c s. tt;
-      ofDouble = λ c s. double-range (number (c .«byte_order») s);
+      ofDouble = λ c s. double-range (unsigned (c .«byte_order») s);
     }
 
 other-item : (c : ColumnDescriptor) (s : List ℕ) → isReal (c .«db2_type») ≡ false → Ranged (itemIn ported c s)
@@ -113,14 +113,14 @@ other-item c s e = go (itemIn ported c s) (item-of ported (λ t x. Unless (isRea
   where
     go : (x : Item) → Item-of (sortsOf (c .«db2_type»)) (length s) (λ y. Unless (isReal (c .«db2_type»)) y) (Nothing (c .«db2_type»)) x → Ranged x
     go nothing h = tt
-    go (number-item x) h = rw e at h
+    go (numeric x) h = rw e at h
     go (boolean b) h = tt
     go (part k from l) h = tt
     go (text k t) h = tt
 
-real-item : (c : ColumnDescriptor) → c .«db2_type» ≡ type.Real → (s : List ℕ) → Bytes s → length s ≤ 4 → Ranged (itemIn ported c s)
+real-item : (c : ColumnDescriptor) → c .«db2_type» ≡ type.Real → (s : List ℕ) → AreBytes s → length s ≤ 4 → Ranged (itemIn ported c s)
 unfolding itemIn
-real-item c e s h k = rw e (real-range (number (c .«byte_order») s) (four (c .«byte_order») s h k))
+real-item c e s h k = rw e (real-range (unsigned (c .«byte_order») s) (four (c .«byte_order») s h k))
 
 is-real : (t : Db2Type) → Fitting t → isReal t ≡ true → t ≡ type.Real
 unfolding typeNamed
@@ -128,14 +128,14 @@ is-real t f e = let k = eqb-true (nameOf t) 3 e in sym (named t f .back) ∙ rw 
 
 -- ---- a column's piece of the rest r
 
-abbrev RangedPiece : Piece → Type 0
+abbrev RangedPiece : Cell → Type 0
 RangedPiece absent = Unit {0}
 RangedPiece (present c at s) = Ranged (itemIn ported c s)
 
 -- of n bytes behind the indicator
-cell-range : (c : ColumnDescriptor) (n : ℕ) → ((s : List ℕ) → Bytes s → length s ≤ n → Ranged (itemIn ported c s))
-    → (b : Bool) (at : ℕ) (s : List ℕ) → Bytes s → length s ≤ cond b (suc n) n → RangedPiece (cellPiece b c at s)
-unfolding cellPiece
+cell-range : (c : ColumnDescriptor) (n : ℕ) → ((s : List ℕ) → AreBytes s → length s ≤ n → Ranged (itemIn ported c s))
+    → (b : Bool) (at : ℕ) (s : List ℕ) → AreBytes s → length s ≤ cond b (suc n) n → RangedPiece (cellOf b c at s)
+unfolding cellOf
 cell-range c n f true at [] h k = tt
 cell-range c n f true at (x ∷ s) h k = go (eqb x 0xFF)
   where
@@ -158,17 +158,17 @@ or-more : (b : Bool) (n : ℕ) → n ≤ cond b (suc n) n
 or-more true n = omega arith
 or-more false n = omega arith
 
-piece-range : (c : ColumnDescriptor) → Fitting (c .«db2_type») → (at : ℕ) (r : List ℕ) → Bytes r → RangedPiece (cellPiece (c .nullable) c at (take (columnNeed c r) r))
+piece-range : (c : ColumnDescriptor) → Fitting (c .«db2_type») → (at : ℕ) (r : List ℕ) → AreBytes r → RangedPiece (cellOf (c .nullable) c at (take (columnNeed c r) r))
 unfolding columnNeed
 piece-range c f at r h = go (isReal (c .«db2_type»)) refl
   where
     s : List ℕ
     s = take (columnNeed c r) r
 
-    there : Bytes s
+    there : AreBytes s
     there = bytes-take (columnNeed c r) r h
 
-    go : (b : Bool) → isReal (c .«db2_type») ≡ b → RangedPiece (cellPiece (c .nullable) c at s)
+    go : (b : Bool) → isReal (c .«db2_type») ≡ b → RangedPiece (cellOf (c .nullable) c at s)
     go true e =
         let q = is-real (c .«db2_type») f e in
         let n : columnNeed c r ≤ cond (c .nullable) 5 4 = rw q (real-need (c .nullable) r) in
@@ -178,22 +178,22 @@ piece-range c f at r h = go (isReal (c .«db2_type»)) refl
 -- ---- a row
 
 -- a walk that is done has one piece more than the walk of the rest
-pub cons-all : (p : Piece) (w : Walk) → isDone (consPiece p w) ≡ true → (isDone w ≡ true) × (piecesOf (consPiece p w) ≡ p ∷ piecesOf w)
-unfolding consPiece
+pub cons-all : (p : Cell) (w : Walk) → isDone (consCell p w) ≡ true → (isDone w ≡ true) × (piecesOf (consCell p w) ≡ p ∷ piecesOf w)
+unfolding consCell
 cons-all p (done ps n) h = (refl, refl)
 cons-all p (short x y) h = absurd (false≢true h)
 
-abbrev AllRanged : List Piece → Type 0
+abbrev AllRanged : List Cell → Type 0
 AllRanged [] = Unit {0}
 AllRanged (p ∷ ps) = RangedPiece p × AllRanged ps
 
-pub walk-range : (start : ℕ) (cs : List ColumnDescriptor) (at : ℕ) (s : List ℕ) → AllFit cs → Bytes s → isDone (walk start cs at s) ≡ true → AllRanged (piecesOf (walk start cs at s))
+pub walk-range : (start : ℕ) (cs : List ColumnDescriptor) (at : ℕ) (s : List ℕ) → AllFit cs → AreBytes s → isDone (walk start cs at s) ≡ true → AllRanged (piecesOf (walk start cs at s))
 unfolding walk
 walk-range start [] at s f h d = tt
 walk-range start (c ∷ cs) at s f h d =
     let k = columnNeed c s in
     let e = walk-step start c cs at s k refl (walk-first start c cs at s d) in
-    let a = cons-all (cellPiece (c .nullable) c at (take k s)) (walk start cs (at + k) (drop k s)) (rw e at d) in
+    let a = cons-all (cellOf (c .nullable) c at (take k s)) (walk start cs (at + k) (drop k s)) (rw e at d) in
     rw (e, a .1) (piece-range c (f .0 .kind) at s h, walk-range start cs (at + k) (drop k s) (f .1) (bytes-drop k s h) (a .0))
 
 -- ---- its values
@@ -216,13 +216,13 @@ text-range TextSort.xml p = tt
 item-value : (x : Item) (at next : ℕ) → Ranged x → InRange (valueOf x at next)
 unfolding valueOf
 item-value nothing at next h = tt
-item-value (number-item x) at next h = h
+item-value (numeric x) at next h = h
 item-value (boolean b) at next h = tt
 item-value (part k from l) at next h = part-range k _
 item-value (text k t) at next h = text-range k _
 
-piece-value : (p : Piece) (next : ℕ) → RangedPiece p → InRange (pieceValue ported p next .value)
-unfolding pieceValue blankValue
+piece-value : (p : Cell) (next : ℕ) → RangedPiece p → InRange (cellValue ported p next .value)
+unfolding cellValue blankValue
 piece-value absent next h = tt
 piece-value (present c at s) next h = item-value (itemIn ported c s) at next h
 
@@ -230,10 +230,10 @@ abbrev pub AllInRange : List ValuePlace → Type 0
 AllInRange [] = Unit {0}
 AllInRange (v ∷ vs) = InRange (v .value) × AllInRange vs
 
-pub values-range : (ps : List Piece) (next : ℕ) → AllRanged ps → AllInRange (rowValues ported ps next)
+pub values-range : (ps : List Cell) (next : ℕ) → AllRanged ps → AllInRange (rowValues ported ps next)
 unfolding rowValues
 values-range [] next h = tt
-values-range (p ∷ ps) next h = (piece-value p next (h .0), values-range ps (next + length (textOf (pieceItem ported p))) (h .1))
+values-range (p ∷ ps) next h = (piece-value p next (h .0), values-range ps (next + length (itemText (cellItem ported p))) (h .1))
 
 pub at-range : (vs : List ValuePlace) (k : ℕ) → AllInRange vs → InRange (getD vs k blankValue .value)
 unfolding blankValue

@@ -6,7 +6,7 @@ use mathlib.Core.Option.{Option, some, none}
 use lib.Dec.{ltb}
 use lib.ListN.{length}
 use Rattle.refusal.specs.Refusal.{Told, accepted, refused}
-use Rattle.buffer.specs.Buffer.{written}
+use Rattle.buffer.specs.Buffer.{overwritten}
 use Rattle.types.specs.declared.Db2Type.{Db2Type}
 use Rattle.types.specs.declared.Columns.{Columns}
 use Rattle.types.specs.Places.{covered}
@@ -27,7 +27,7 @@ numberBy accepted few = cond few tooFewNumber 0
 -- the lent words w after the call, where t are the words of the columns: a refusal and 101 change none
 abbrev pub wordsBy : Told → Bool → List ℕ → List ℕ → List ℕ
 wordsBy (refused n vs) few t w = w
-wordsBy accepted few t w = cond few w (written t w)
+wordsBy accepted few t w = cond few w (overwritten t w)
 
 abbrev pub descriptionNumber : DescriptionTold → List ℕ → ℕ
 descriptionNumber d w = numberBy (d .outcome) (tooFew (d .columns) w)

@@ -14,8 +14,8 @@ noColumnNumber = 102
 
 -- the bytes written; with refusal 9 the length needed; with another refusal 0
 abbrev pub lengthBy : Told → ℕ → ℕ
-lengthBy accepted written = written
-lengthBy (refused n vs) written = getD vs 0 0
+lengthBy accepted k = k
+lengthBy (refused n vs) k = getD vs 0 0
 
 abbrev pub lengthTold : TextTold → ℕ
 lengthTold a = lengthBy (a .outcome) (a .written)

@@ -7,7 +7,7 @@ use lib.Dec.{ltb}
 use lib.ListN.{length, getD}
 use Rattle.types.specs.declared.ColumnDescriptor.{ColumnDescriptor}
 use Rattle.types.specs.Places.{maxColumns, columnList}
-use Rattle.rules.specs.Row.{Decision, refusal, acceptance, rowTexts, rowDecision, textAfter}
+use Rattle.rules.specs.Row.{Decision, refuse, accept, rowTexts, rowDecision, textAfter}
 use Rattle.rules.specs.Conversions.{ported}
 use Rattle.rules.specs.Value.{valueBytes}
 use Rattle.words.specs.Reading.{readColumns}
@@ -27,25 +27,25 @@ decisionFor (some cs) s d = decided (rowDecision ported (columnList cs) s d)
 -- for the words w of columns, the row s, the lent words v of values and the text buffer d: refusal 3, then 101, then 102, then the other refusals
 unfoldable pub wordsDecision : List ℕ → List ℕ → List ℕ → List ℕ → OnWords
 wordsDecision w s v d =
-    cond (ltb maxColumns (length w / 2)) (decided (refusal 3 []))
+    cond (ltb maxColumns (length w / 2)) (decided (refuse 3 []))
     (cond (ltb (length v) (3 * (length w / 2))) (ofWords tooFewNumber (3 * (length w / 2)))
     (decisionFor (readColumns w) s d))
 
 -- the number returned, and the two numbers beside it: of an accepted row the bytes used and the bytes of text, of a refusal its values, else 0
 abbrev pub rowNumber : OnWords → ℕ
 rowNumber (ofWords n needed) = n
-rowNumber (decided (refusal n vs)) = n
-rowNumber (decided (acceptance ps n)) = 0
+rowNumber (decided (refuse n vs)) = n
+rowNumber (decided (accept ps n)) = 0
 
 abbrev pub rowFirst : OnWords → ℕ
 rowFirst (ofWords n needed) = needed
-rowFirst (decided (refusal n vs)) = getD vs 0 0
-rowFirst (decided (acceptance ps n)) = n
+rowFirst (decided (refuse n vs)) = getD vs 0 0
+rowFirst (decided (accept ps n)) = n
 
 abbrev pub rowSecond : OnWords → ℕ
 rowSecond (ofWords n needed) = 0
-rowSecond (decided (refusal n vs)) = getD vs 1 0
-rowSecond (decided (acceptance ps n)) = length (rowTexts ported ps)
+rowSecond (decided (refuse n vs)) = getD vs 1 0
+rowSecond (decided (accept ps n)) = length (rowTexts ported ps)
 
 -- what is left in the lent words v of values, and in the text buffer d
 abbrev pub wordsLeft : OnWords → List ℕ → List ℕ

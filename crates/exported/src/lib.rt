@@ -22,7 +22,7 @@ use words::TypeRead;
 use words::value_named;
 ghost use mathlib.Core.Path.{_≡_};
 ghost use mathlib.Core.Bool.{cond};
-ghost use Rattle.refusal.specs.Refusal.{number};
+ghost use Rattle.refusal.specs.Refusal.{toldNumber};
 ghost use Rattle.buffer.specs.Buffer.{toldText};
 ghost use Rattle.unicode.specs.Likely.{likelyText};
 ghost use Rattle.conversion.specs.Conversion.{characterText, graphicText, locatorText, rowIdText};
@@ -43,7 +43,7 @@ const NO_COLUMN: u32 = 102;
 
 // Hands out an answer: its number returned, its length in len.
 fn report(a: TextAnswer, len: &mut u64) -> u32
-    ensures number { λ r. ⌜ r ≡ number (toldText a .outcome) ⌝ }
+    ensures number { λ r. ⌜ r ≡ toldNumber (toldText a .outcome) ⌝ }
     ensures len { λ _. ⌜ now (len .exit) ≡ lengthTold (toldText a) ⌝ }
 {
     let outcome = a.outcome;
@@ -67,7 +67,7 @@ pub extern "C" fn vejupa_decode_character_bytes(
     text: &mut [u8],
     len: &mut u64,
 ) -> u32
-    ensures number { λ r. ⌜ r ≡ number (conversionAnswer (now («data» .entry)) (characterText ccsid (now («data» .entry))) (now (text .entry)) .outcome) ⌝ }
+    ensures number { λ r. ⌜ r ≡ toldNumber (conversionAnswer (now («data» .entry)) (characterText ccsid (now («data» .entry))) (now (text .entry)) .outcome) ⌝ }
     ensures len { λ _. ⌜ now (len .exit) ≡ lengthTold (conversionAnswer (now («data» .entry)) (characterText ccsid (now («data» .entry))) (now (text .entry))) ⌝ }
     ensures buffer { λ _. ⌜ now (text .exit) ≡ conversionBuffer (now («data» .entry)) (characterText ccsid (now («data» .entry))) (now (text .entry)) ⌝ }
 {
@@ -83,7 +83,7 @@ pub extern "C" fn vejupa_decode_graphic_bytes(
     text: &mut [u8],
     len: &mut u64,
 ) -> u32
-    ensures number { λ r. ⌜ r ≡ number (conversionAnswer (now («data» .entry)) (graphicText ccsid (now («data» .entry))) (now (text .entry)) .outcome) ⌝ }
+    ensures number { λ r. ⌜ r ≡ toldNumber (conversionAnswer (now («data» .entry)) (graphicText ccsid (now («data» .entry))) (now (text .entry)) .outcome) ⌝ }
     ensures len { λ _. ⌜ now (len .exit) ≡ lengthTold (conversionAnswer (now («data» .entry)) (graphicText ccsid (now («data» .entry))) (now (text .entry))) ⌝ }
     ensures buffer { λ _. ⌜ now (text .exit) ≡ conversionBuffer (now («data» .entry)) (graphicText ccsid (now («data» .entry))) (now (text .entry)) ⌝ }
 {
@@ -94,7 +94,7 @@ pub extern "C" fn vejupa_decode_graphic_bytes(
 // `LOB locator 0x` and the bytes in hexadecimal.
 #[no_mangle]
 pub extern "C" fn vejupa_format_lob_locator(bytes: &[u8], text: &mut [u8], len: &mut u64) -> u32
-    ensures number { λ r. ⌜ r ≡ number (conversionAnswer (now (bytes .entry)) (locatorText (now (bytes .entry))) (now (text .entry)) .outcome) ⌝ }
+    ensures number { λ r. ⌜ r ≡ toldNumber (conversionAnswer (now (bytes .entry)) (locatorText (now (bytes .entry))) (now (text .entry)) .outcome) ⌝ }
     ensures len { λ _. ⌜ now (len .exit) ≡ lengthTold (conversionAnswer (now (bytes .entry)) (locatorText (now (bytes .entry))) (now (text .entry))) ⌝ }
     ensures buffer { λ _. ⌜ now (text .exit) ≡ conversionBuffer (now (bytes .entry)) (locatorText (now (bytes .entry))) (now (text .entry)) ⌝ }
 {
@@ -105,7 +105,7 @@ pub extern "C" fn vejupa_format_lob_locator(bytes: &[u8], text: &mut [u8], len: 
 // `0x` and the bytes in hexadecimal.
 #[no_mangle]
 pub extern "C" fn vejupa_format_rowid(bytes: &[u8], text: &mut [u8], len: &mut u64) -> u32
-    ensures number { λ r. ⌜ r ≡ number (conversionAnswer (now (bytes .entry)) (rowIdText (now (bytes .entry))) (now (text .entry)) .outcome) ⌝ }
+    ensures number { λ r. ⌜ r ≡ toldNumber (conversionAnswer (now (bytes .entry)) (rowIdText (now (bytes .entry))) (now (text .entry)) .outcome) ⌝ }
     ensures len { λ _. ⌜ now (len .exit) ≡ lengthTold (conversionAnswer (now (bytes .entry)) (rowIdText (now (bytes .entry))) (now (text .entry))) ⌝ }
     ensures buffer { λ _. ⌜ now (text .exit) ≡ conversionBuffer (now (bytes .entry)) (rowIdText (now (bytes .entry))) (now (text .entry)) ⌝ }
 {
@@ -122,7 +122,7 @@ pub extern "C" fn vejupa_decode_packed_decimal(
     text: &mut [u8],
     len: &mut u64,
 ) -> u32
-    ensures number { λ r. ⌜ r ≡ number (decimalAnswer scale (now («data» .entry)) (now (text .entry)) .outcome) ⌝ }
+    ensures number { λ r. ⌜ r ≡ toldNumber (decimalAnswer scale (now («data» .entry)) (now (text .entry)) .outcome) ⌝ }
     ensures len { λ _. ⌜ now (len .exit) ≡ lengthTold (decimalAnswer scale (now («data» .entry)) (now (text .entry))) ⌝ }
     ensures buffer { λ _. ⌜ now (text .exit) ≡ decimalBuffer scale (now («data» .entry)) (now (text .entry)) ⌝ }
 {

@@ -8,7 +8,7 @@ ghost use Prim.Native.Nat.{_+_, _*_, _≤_};
 ghost use lib.ListN.{length, take};
 ghost use mir.Syntax.{w16, w32, w64};
 ghost use mir.Val.{toZ};
-ghost use Rattle.numbers.specs.Number.{number, numberValue, realOf, doubleOf, smallIntIn, integerIn, bigIntIn, realIn, doubleIn};
+ghost use Rattle.numbers.specs.Number.{unsigned, numberValue, realOf, doubleOf, smallIntIn, integerIn, bigIntIn, realIn, doubleIn};
 
 fn join16(high: u8, low: u8) -> u16
     ensures { λ r. ⌜ r ≡ high * 256 + low ⌝ }
@@ -31,7 +31,7 @@ fn join64(high: u32, low: u32) -> u64
 // The number in the first two bytes.
 pub fn u16_of(s: &[u8], order: ByteOrder) -> u16
     requires { ⌜ 2 ≤ length (now s) ⌝ }
-    ensures { λ r. ⌜ r ≡ number order (take 2 (now (s .entry))) ⌝ }
+    ensures { λ r. ⌜ r ≡ unsigned order (take 2 (now (s .entry))) ⌝ }
 {
     match order {
         ByteOrder::BigEndian => join16(s[0], s[1]),
@@ -42,7 +42,7 @@ pub fn u16_of(s: &[u8], order: ByteOrder) -> u16
 // The number in the first four bytes.
 pub fn u32_of(s: &[u8], order: ByteOrder) -> u32
     requires { ⌜ 4 ≤ length (now s) ⌝ }
-    ensures { λ r. ⌜ r ≡ number order (take 4 (now (s .entry))) ⌝ }
+    ensures { λ r. ⌜ r ≡ unsigned order (take 4 (now (s .entry))) ⌝ }
 {
     match order {
         ByteOrder::BigEndian => join32(join16(s[0], s[1]), join16(s[2], s[3])),
@@ -53,7 +53,7 @@ pub fn u32_of(s: &[u8], order: ByteOrder) -> u32
 // The number in the first eight bytes.
 pub fn u64_of(s: &[u8], order: ByteOrder) -> u64
     requires { ⌜ 8 ≤ length (now s) ⌝ }
-    ensures { λ r. ⌜ r ≡ number order (take 8 (now (s .entry))) ⌝ }
+    ensures { λ r. ⌜ r ≡ unsigned order (take 8 (now (s .entry))) ⌝ }
 {
     match order {
         ByteOrder::BigEndian => join64(

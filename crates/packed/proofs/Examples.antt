@@ -1,7 +1,7 @@
 -- Worked examples of packed decimals as text. The cases A to P stand in crates/edges. Assumes nothing.
 use mathlib.Core.List.{[], _∷_}
 use mathlib.Core.Path.{_≡_, refl}
-use Rattle.packed.specs.Packed.{nibbles, sign, digits, trimmed, fraction, decimalText}
+use Rattle.packed.specs.Packed.{nibbles, signText, digitText, trimmed, fraction, decimalText}
 
 pub record Examples : Type 0 where
   -- the decimal of case B: `123.45`
@@ -12,5 +12,5 @@ pub record Examples : Type 0 where
   pub digit-sign : decimalText 0 (0x19 ∷ []) ≡ 0x31 ∷ []
 
 pub examples : Examples
-unfolding decimalText nibbles sign digits trimmed fraction
+unfolding decimalText nibbles signText digitText trimmed fraction
 examples = record { B = refl; above-9 = refl; digit-sign = refl }

@@ -9,7 +9,7 @@ use borrow.Author.Tests.{eq-eqb, ne-eqb, eqb-true}
 use lib.Dec.{eqb}
 use lib.ListN.{length, take, drop, getD, length-append, length-drop, length-map, length-replicate, take-append-drop, List·getD-map}
 use lib.Seq.{slice, slice-cons, slice-empty, drop-append-le, getD-take, take-all, take-take, length-take-le}
-use Rattle.packed.specs.Packed.{nibbles, signNibble, sign, digitNibbles, character, digits, trimmed, zeros, fraction, decimalText}
+use Rattle.packed.specs.Packed.{nibbles, signNibble, signText, digitNibbles, character, digitText, trimmed, zeros, fraction, decimalText}
 use Rattle.packed.specs.Inner.{Trimmed}
 
 -- ---- nibbles
@@ -54,40 +54,40 @@ sign-nibble s h =
     sym (ap (λ (n : ℕ). getD (nibbles s) n 0) q ∙ nibble-low s (length s - 1) (omega arith))
 
 module _ (s : List ℕ) {t : Bool} (e : t ≡ eqb (signNibble s) 0xD) where
-  pub minus : t ≡ true → sign s ≡ 0x2D ∷ []
-  unfolding sign
+  pub minus : t ≡ true → signText s ≡ 0x2D ∷ []
+  unfolding signText
   minus q = rw (sym e ∙ q)
 
-  pub plus : t ≡ false → sign s ≡ []
-  unfolding sign
+  pub plus : t ≡ false → signText s ≡ []
+  unfolding signText
   plus q = rw (sym e ∙ q)
 
 -- ---- digits
 
-pub digits-length : (s : List ℕ) → length (digits s) ≡ 2 * length s - 1
-unfolding digits
+pub digits-length : (s : List ℕ) → length (digitText s) ≡ 2 * length s - 1
+unfolding digitText
 digits-length s =
     length-map (digitNibbles s) character ∙ length-take-le (length (nibbles s) - 1) (nibbles s) (omega arith) ∙ rw (nibbles-length s)
 
-digit : (s : List ℕ) (k : ℕ) → k + 1 < 2 * length s → getD (digits s) k 0x30 ≡ character (getD (nibbles s) k 0)
-unfolding digits
+digit : (s : List ℕ) (k : ℕ) → k + 1 < 2 * length s → getD (digitText s) k 0x30 ≡ character (getD (nibbles s) k 0)
+unfolding digitText
 digit s k h =
     List·getD-map character (digitNibbles s) k 0
     ∙ ap character (getD-take (length (nibbles s) - 1) (nibbles s) k 0 (omega (arith, nibbles-length s)))
 
 -- the digits from k up to e: the digit k is the next
-pub slice-next : (s : List ℕ) (k e b : ℕ) → k < e → e < 2 * length s → b ≡ character (getD (nibbles s) k 0) → slice k e (digits s) ≡ b ∷ slice (k + 1) e (digits s)
-slice-next s k e b h j q = rw (q ∙ sym (digit s k (omega arith)), add-one k) (slice-cons k e (digits s) 0x30 h (omega (arith, digits-length s)))
+pub slice-next : (s : List ℕ) (k e b : ℕ) → k < e → e < 2 * length s → b ≡ character (getD (nibbles s) k 0) → slice k e (digitText s) ≡ b ∷ slice (k + 1) e (digitText s)
+slice-next s k e b h j q = rw (q ∙ sym (digit s k (omega arith)), add-one k) (slice-cons k e (digitText s) 0x30 h (omega (arith, digits-length s)))
 
 -- the digits of the bytes from k up to j: the two of the byte k are the next
 pub bytes-next : (s : List ℕ) (k j : ℕ) → k < j → j < length s
-    → slice (2 * k) (2 * j) (digits s) ≡ character (getD s k 0 / 16) ∷ character (getD s k 0 % 16) ∷ slice (2 * (k + 1)) (2 * j) (digits s)
+    → slice (2 * k) (2 * j) (digitText s) ≡ character (getD s k 0 / 16) ∷ character (getD s k 0 % 16) ∷ slice (2 * (k + 1)) (2 * j) (digitText s)
 bytes-next s k j h q =
     let e : 2 * k + 1 + 1 ≡ 2 * (k + 1) = omega arith in
     slice-next s (2 * k) (2 * j) (character (getD s k 0 / 16)) (omega arith) (omega arith) (ap character (sym (nibble-high s k (omega arith))))
     ∙ ap (λ (l : List ℕ). character (getD s k 0 / 16) ∷ l)
     (slice-next s (2 * k + 1) (2 * j) (character (getD s k 0 % 16)) (omega arith) (omega arith) (ap character (sym (nibble-low s k (omega arith))))
-    ∙ ap (λ (n : ℕ). character (getD s k 0 % 16) ∷ slice n (2 * j) (digits s)) e)
+    ∙ ap (λ (n : ℕ). character (getD s k 0 % 16) ∷ slice n (2 * j) (digitText s)) e)
 
 pub slice-done : (ds : List ℕ) (k e : ℕ) → k ≤ e → e ≤ k → slice k e ds ≡ []
 slice-done ds k e h j =
@@ -110,30 +110,30 @@ no-whole ds w e = rw e
 
 -- the first w digits keep what they say without those before z
 abbrev pub Left : List ℕ → ℕ → ℕ → Type 0
-Left s w z = trimmed (take w (digits s)) ≡ trimmed (slice z w (digits s))
+Left s w z = trimmed (take w (digitText s)) ≡ trimmed (slice z w (digitText s))
 
 -- b is the digit z
 module _ (s : List ℕ) (w z b : ℕ) (h : w < 2 * length s) (k : z < w) (e : Left s w z) (c : b ≡ character (getD (nibbles s) z 0)) where
-  next : slice z w (digits s) ≡ b ∷ slice (z + 1) w (digits s)
+  next : slice z w (digitText s) ≡ b ∷ slice (z + 1) w (digitText s)
   next = slice-next s z w b k h c
 
   pub zero-goes : b ≡ 0x30 → Left s w (z + 1)
   unfolding trimmed
   zero-goes q = e ∙ rw (next, eq-eqb b 0x30 q)
 
-  pub digit-stays : (b ≡ 0x30 → ⊥) → Trimmed (digits s) w z
+  pub digit-stays : (b ≡ 0x30 → ⊥) → Trimmed (digitText s) w z
   unfolding trimmed
   digit-stays q = record { below = k; left = e ∙ rw (next, ne-eqb b 0x30 q) }
 
-pub last-stays : (s : List ℕ) (w z : ℕ) → w < 2 * length s → z < w → Left s w z → w ≤ z + 1 → Trimmed (digits s) w z
+pub last-stays : (s : List ℕ) (w z : ℕ) → w < 2 * length s → z < w → Left s w z → w ≤ z + 1 → Trimmed (digitText s) w z
 unfolding trimmed
 last-stays s w z h k e q = record { below = k; left = e ∙ rw one (go (eqb b 0x30) refl) }
   where
     b : ℕ
     b = character (getD (nibbles s) z 0)
 
-    one : slice z w (digits s) ≡ b ∷ []
-    one = slice-next s z w b k h refl ∙ ap (λ (l : List ℕ). b ∷ l) (slice-done (digits s) (z + 1) w (omega arith) q)
+    one : slice z w (digitText s) ≡ b ∷ []
+    one = slice-next s z w b k h refl ∙ ap (λ (l : List ℕ). b ∷ l) (slice-done (digitText s) (z + 1) w (omega arith) q)
 
     go : (t : Bool) → eqb b 0x30 ≡ t → cond (eqb b 0x30) (0x30 ∷ []) (b ∷ []) ≡ b ∷ []
     go true p = rw (p, eqb-true b 0x30 p)
@@ -170,6 +170,6 @@ fraction-length scale ds e =
 
 -- w digits before the point, f after it
 pub parts : (scale : ℕ) (s : List ℕ) (w f : ℕ) → f ≡ scale → w ≡ (2 * length s - 1) - f
-    → decimalText scale s ≡ sign s ++ (trimmed (take w (digits s)) ++ fraction f (digits s))
+    → decimalText scale s ≡ signText s ++ (trimmed (take w (digitText s)) ++ fraction f (digitText s))
 unfolding decimalText
 parts scale s w f e h = rw (h, e, digits-length s)

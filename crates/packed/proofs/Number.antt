@@ -1,4 +1,4 @@
--- The text of a packed decimal denotes its number (definitions: specs/Number.antt). Assumes nothing.
+-- The text of a packed decimal denotes its number (definitions: specs/Denoted.antt). Assumes nothing.
 --     text-denotes      the law: digits 0 to 9, any sign
 --     text-denotes-z    the signs A, C, D, E and F: the number is that of z/Architecture
 --     text-denotes-B    the sign B: it is plus where z/Architecture has minus, a listed difference
@@ -13,8 +13,8 @@ use borrow.Author.Tests.{lt-ltb, le-ltb, ne-eqb, eqb-true, ltb-true, ltb-false}
 use lib.Dec.{ltb, eqb}
 use lib.ListN.{length, take, drop, getD, replicate, length-append, length-take, length-drop, length-map, length-replicate, take-append-drop}
 use lib.Seq.{getD-take, getD-drop, take-all}
-use Rattle.packed.specs.Packed.{signNibble, sign, digitNibbles, character, digits, trimmed, whole, zeros, fraction, decimalText}
-use Rattle.packed.specs.Number.{number, isDigit, readDigits, readPoint, readWhole, denotes, base10, ValidDigits, Sign, plus, minus, invalid, zSign, portedSign, packedNumber}
+use Rattle.packed.specs.Packed.{signNibble, signText, digitNibbles, character, digitText, trimmed, whole, zeros, fraction, decimalText}
+use Rattle.packed.specs.Denoted.{denoted, isDigit, readDigits, readPoint, readWhole, denotes, base10, ValidDigits, Sign, plus, minus, invalid, zSign, portedSign, packedNumber}
 
 -- ---- the sign
 
@@ -104,22 +104,22 @@ record Shown (vs : List ℕ) : Type 0 where
   others : List ℕ
   text : trimmed (map character vs) ≡ map character (first ∷ others)
   valid : ValidDigits (first ∷ others)
-  value : from 0 (first ∷ others) ≡ from 0 vs
+  magnitude : from 0 (first ∷ others) ≡ from 0 vs
 
 shown : (vs : List ℕ) → ValidDigits vs → Shown vs
 unfolding trimmed from
-shown [] h = record { first = 0; others = []; text = refl; valid = valid-zeros-drop 1 0 [] h; value = refl }
+shown [] h = record { first = 0; others = []; text = refl; valid = valid-zeros-drop 1 0 [] h; magnitude = refl }
 shown (d ∷ ds) h = go (shown ds (tail d ds h)) (eqb (character d) 0x30) refl
   where
     go : Shown ds → (t : Bool) → eqb (character d) 0x30 ≡ t → Shown (d ∷ ds)
     go w true p =
         let e : d ≡ 0 = omega (arith, eqb-true (character d) 0x30 p) in
-        record { first = w .first; others = w .others; text = rw p (w .text); valid = w .valid; value = w .value ∙ rw e }
-    go w false p = record { first = d; others = ds; text = rw p; valid = h; value = refl }
+        record { first = w .first; others = w .others; text = rw p (w .text); valid = w .valid; magnitude = w .magnitude ∙ rw e }
+    go w false p = record { first = d; others = ds; text = rw p; valid = h; magnitude = refl }
 
 -- r begins with no digit
 abbrev Stops : List ℕ → Type 0
-Stops r = (v n : ℕ) → readDigits v n r ≡ record { value = v; count = n; rest = r }
+Stops r = (v n : ℕ) → readDigits v n r ≡ record { magnitude = v; count = n; rest = r }
 
 module _ (vs r : List ℕ) (h : ValidDigits vs) (stops : Stops r) where
   abbrev t : List ℕ
@@ -130,7 +130,7 @@ module _ (vs r : List ℕ) (h : ValidDigits vs) (stops : Stops r) where
       let w = shown vs h in
       let n = length (w .first ∷ w .others) in
       let z : eqb (0 + n) 0 ≡ false = ne-eqb (0 + n) 0 (λ q. omega arith) in
-      rw (w .text, read 0 0 (w .first ∷ w .others) r (w .valid), stops (from 0 (w .first ∷ w .others)) (0 + n), z, w .value)
+      rw (w .text, read 0 0 (w .first ∷ w .others) r (w .valid), stops (from 0 (w .first ∷ w .others)) (0 + n), z, w .magnitude)
 
   -- a text that begins with no sign
   unsigned : denotes t ≡ readWhole plus (readDigits 0 0 t)
@@ -174,36 +174,36 @@ module _ (scale : ℕ) (vs : List ℕ) (h : ValidDigits vs) where
   unfolding fraction readDigits
   fraction-stops v n = go (eqb scale 0) refl
     where
-      go : (t : Bool) → eqb scale 0 ≡ t → readDigits v n (fraction scale ds) ≡ record { value = v; count = n; rest = fraction scale ds }
+      go : (t : Bool) → eqb scale 0 ≡ t → readDigits v n (fraction scale ds) ≡ record { magnitude = v; count = n; rest = fraction scale ds }
       go true p = rw p
       go false p = rw p
 
-  read-all : (v : ℕ) → readDigits v 0 (map character fs) ≡ record { value = from v fs; count = 0 + length fs; rest = [] }
+  read-all : (v : ℕ) → readDigits v 0 (map character fs) ≡ record { magnitude = from v fs; count = 0 + length fs; rest = [] }
   unfolding readDigits
   read-all v = ap (readDigits v 0) (sym (append-nil (map character fs))) ∙ read v 0 fs [] (valid-zeros-drop (scale - length vs) (length vs - scale) vs h)
 
-  read-point : (g : Sign) → readPoint g (from 0 (take (length vs - scale) vs)) (fraction scale ds) ≡ number (record { sign = g; value = from 0 vs; places = scale })
+  read-point : (g : Sign) → readPoint g (from 0 (take (length vs - scale) vs)) (fraction scale ds) ≡ denoted (record { signed = g; magnitude = from 0 vs; fractionDigits = scale })
   unfolding fraction
   read-point g = go (eqb scale 0) refl
     where
-      go : (t : Bool) → eqb scale 0 ≡ t → readPoint g (from 0 (take (length vs - scale) vs)) (fraction scale ds) ≡ number (record { sign = g; value = from 0 vs; places = scale })
+      go : (t : Bool) → eqb scale 0 ≡ t → readPoint g (from 0 (take (length vs - scale) vs)) (fraction scale ds) ≡ denoted (record { signed = g; magnitude = from 0 vs; fractionDigits = scale })
       go true p =
           let e : scale ≡ 0 = eqb-true scale 0 p in
           rw (p, take-all (length vs - scale) vs (omega arith), e)
       go false p = rw (p, length-map vs character, zeros-drop-map (scale - length vs) (length vs - scale) vs, read-all (from 0 (take (length vs - scale) vs)), fs-length, p, fs-value)
 
   -- the text without its sign
-  abbrev magnitude : List ℕ
-  magnitude = trimmed (whole scale ds) ++ fraction scale ds
+  abbrev unsignedText : List ℕ
+  unsignedText = trimmed (whole scale ds) ++ fraction scale ds
 
-  read-magnitude : (g : Sign) → readWhole g (readDigits 0 0 magnitude) ≡ number (record { sign = g; value = base10 vs; places = scale })
+  read-magnitude : (g : Sign) → readWhole g (readDigits 0 0 unsignedText) ≡ denoted (record { signed = g; magnitude = base10 vs; fractionDigits = scale })
   read-magnitude g =
       let w : ℕ = length vs - scale in
       let e : from 0 vs ≡ base10 vs = omega (arith, from-base10 0 vs) in
       rw (length-map vs character, take-map w vs, ← e)
       (read-whole (take w vs) (fraction scale ds) (valid-take w vs h) fraction-stops g ∙ read-point g)
 
-  denotes-magnitude : denotes magnitude ≡ readWhole plus (readDigits 0 0 magnitude)
+  denotes-magnitude : denotes unsignedText ≡ readWhole plus (readDigits 0 0 unsignedText)
   denotes-magnitude =
       let w : ℕ = length vs - scale in
       rw (length-map vs character, take-map w vs) (unsigned (take w vs) (fraction scale ds) (valid-take w vs h) fraction-stops)
@@ -213,18 +213,18 @@ module _ (scale : ℕ) (vs : List ℕ) (h : ValidDigits vs) where
 module _ (scale : ℕ) (s : List ℕ) (h : ValidDigits (digitNibbles s)) where
   -- Where every digit nibble is 0 to 9, the text denotes the number that the digits, the scale and the ported sign give: it is minus exactly where
   -- the sign nibble is D, its value is that of the digits in base ten, and `scale` of them are fraction digits
-  pub text-denotes : denotes (decimalText scale s) ≡ number (packedNumber (portedSign (signNibble s)) scale s)
-  unfolding decimalText sign digits
+  pub text-denotes : denotes (decimalText scale s) ≡ denoted (packedNumber (portedSign (signNibble s)) scale s)
+  unfolding decimalText signText digitText
   text-denotes = go (eqb (signNibble s) 0xD) refl
     where
-      go : (t : Bool) → eqb (signNibble s) 0xD ≡ t → denotes (decimalText scale s) ≡ number (packedNumber (portedSign (signNibble s)) scale s)
+      go : (t : Bool) → eqb (signNibble s) 0xD ≡ t → denotes (decimalText scale s) ≡ denoted (packedNumber (portedSign (signNibble s)) scale s)
       go true p = rw p (read-magnitude scale (digitNibbles s) h minus)
       go false p = rw p (denotes-magnitude scale (digitNibbles s) h ∙ read-magnitude scale (digitNibbles s) h plus)
 
   -- For the signs A, C, D, E and F that is the number of z/Architecture
-  pub text-denotes-z : 0xA ≤ signNibble s → (signNibble s ≡ 0xB → ⊥) → denotes (decimalText scale s) ≡ number (packedNumber (zSign (signNibble s)) scale s)
-  text-denotes-z a b = text-denotes ∙ ap (λ (g : Sign). number (packedNumber g scale s)) (sign-agrees (signNibble s) a b)
+  pub text-denotes-z : 0xA ≤ signNibble s → (signNibble s ≡ 0xB → ⊥) → denotes (decimalText scale s) ≡ denoted (packedNumber (zSign (signNibble s)) scale s)
+  text-denotes-z a b = text-denotes ∙ ap (λ (g : Sign). denoted (packedNumber g scale s)) (sign-agrees (signNibble s) a b)
 
   -- For the sign B it is z/Architecture's number with a plus for the minus
-  pub text-denotes-B : signNibble s ≡ 0xB → (denotes (decimalText scale s) ≡ number (packedNumber plus scale s)) × (zSign (signNibble s) ≡ minus)
-  text-denotes-B b = (text-denotes ∙ ap (λ (n : ℕ). number (packedNumber (portedSign n) scale s)) b, ap zSign b)
+  pub text-denotes-B : signNibble s ≡ 0xB → (denotes (decimalText scale s) ≡ denoted (packedNumber plus scale s)) × (zSign (signNibble s) ≡ minus)
+  text-denotes-B b = (text-denotes ∙ ap (λ (n : ℕ). denoted (packedNumber (portedSign n) scale s)) b, ap zSign b)

@@ -1,3 +1,3 @@
 pub mod Packed
-pub mod Number
+pub mod Denoted
 pub mod Inner

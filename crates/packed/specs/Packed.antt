@@ -15,8 +15,8 @@ abbrev pub signNibble : List ℕ → ℕ
 signNibble s = getD (nibbles s) (length (nibbles s) - 1) 0
 
 -- P1: a minus is written, a plus is not
-unfoldable pub sign : List ℕ → List ℕ
-sign s = cond (eqb (signNibble s) 0xD) (0x2D ∷ []) []
+unfoldable pub signText : List ℕ → List ℕ
+signText s = cond (eqb (signNibble s) 0xD) (0x2D ∷ []) []
 
 -- P2: all nibbles but the sign
 abbrev pub digitNibbles : List ℕ → List ℕ
@@ -26,8 +26,8 @@ digitNibbles s = take (length (nibbles s) - 1) (nibbles s)
 abbrev pub character : ℕ → ℕ
 character v = 0x30 + v
 
-unfoldable pub digits : List ℕ → List ℕ
-digits s = map character (digitNibbles s)
+unfoldable pub digitText : List ℕ → List ℕ
+digitText s = map character (digitNibbles s)
 
 -- P3
 unfoldable pub trimmed : List ℕ → List ℕ
@@ -47,7 +47,7 @@ fraction scale ds = cond (eqb scale 0) [] (0x2E ∷ (zeros (scale - length ds) +
 
 -- the text of the packed decimal s
 unfoldable pub decimalText : ℕ → List ℕ → List ℕ
-decimalText scale s = sign s ++ (trimmed (whole scale (digits s)) ++ fraction scale (digits s))
+decimalText scale s = signText s ++ (trimmed (whole scale (digitText s)) ++ fraction scale (digitText s))
 
 -- the most bytes of a packed decimal called alone: refusal 7 above it. A precision fits 8 bits, so no column has more
 abbrev pub mostBytes : ℕ

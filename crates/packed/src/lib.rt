@@ -1,12 +1,12 @@
 // Inner. The text of a packed decimal: how long it is, and writing it into a lent buffer. It refuses nothing: its callers hand it 1 to 128
-// bytes and room for the text. It checks no digit and no sign (specs/Number.antt says which bytes are a number of z/Architecture).
+// bytes and room for the text. It checks no digit and no sign (specs/Denoted.antt says which bytes are a number of z/Architecture).
 ghost use mathlib.Core.Path.{_≡_};
 ghost use Prim.Native.Nat.{_+_, _-_, _*_, _<_, _≤_};
 ghost use lib.Dec.{eqb};
 ghost use lib.ListN.{length, take, getD};
 ghost use lib.Seq.{slice};
-ghost use Rattle.buffer.specs.Buffer.{written};
-ghost use Rattle.packed.specs.Packed.{nibbles, signNibble, sign, character, digits, trimmed, zeros, fraction, decimalText, mostBytes};
+ghost use Rattle.buffer.specs.Buffer.{overwritten};
+ghost use Rattle.packed.specs.Packed.{nibbles, signNibble, signText, character, digitText, trimmed, zeros, fraction, decimalText, mostBytes};
 ghost use Rattle.packed.specs.Inner.{Trimmed};
 
 fn wide(x: u8) -> usize
@@ -38,7 +38,7 @@ fn digit_at(data: &[u8], k: usize) -> u8
 // Where the first w digits begin without their leading zeros.
 fn whole_start(data: &[u8], w: usize) -> usize
     requires { ⌜ (0 < w) × (w < 2 * length (now «data»)) ⌝ }
-    ensures { λ r. ⌜ Trimmed (digits (now («data» .entry))) w r ⌝ }
+    ensures { λ r. ⌜ Trimmed (digitText (now («data» .entry))) w r ⌝ }
 {
     let mut z = 0;
     while z + 1 < w {
@@ -52,9 +52,9 @@ fn whole_start(data: &[u8], w: usize) -> usize
 
 // Writes the digits from a up to e, one by one.
 fn by_digit_write(data: &[u8], a: usize, e: usize, out: &mut [u8]) -> usize
-    requires { ⌜ (a ≤ e) × ((e < 2 * length (now «data»)) × (length (slice a e (digits (now «data»))) ≤ length (now out))) ⌝ }
-    ensures count { λ r. ⌜ r ≡ length (slice a e (digits (now («data» .entry)))) ⌝ }
-    ensures bytes { λ _. ⌜ now (out .exit) ≡ written (slice a e (digits (now («data» .entry)))) (now (out .entry)) ⌝ }
+    requires { ⌜ (a ≤ e) × ((e < 2 * length (now «data»)) × (length (slice a e (digitText (now «data»))) ≤ length (now out))) ⌝ }
+    ensures count { λ r. ⌜ r ≡ length (slice a e (digitText (now («data» .entry)))) ⌝ }
+    ensures bytes { λ _. ⌜ now (out .exit) ≡ overwritten (slice a e (digitText (now («data» .entry)))) (now (out .entry)) ⌝ }
 {
     let mut o = 0;
     let mut k = a;
@@ -68,9 +68,9 @@ fn by_digit_write(data: &[u8], a: usize, e: usize, out: &mut [u8]) -> usize
 
 // Writes the digits of the bytes from i up to j, two at a time.
 fn by_byte_write(data: &[u8], i: usize, j: usize, out: &mut [u8]) -> usize
-    requires { ⌜ (i ≤ j) × ((j < length (now «data»)) × (length (slice (2 * i) (2 * j) (digits (now «data»))) ≤ length (now out))) ⌝ }
-    ensures count { λ r. ⌜ r ≡ length (slice (2 * i) (2 * j) (digits (now («data» .entry)))) ⌝ }
-    ensures bytes { λ _. ⌜ now (out .exit) ≡ written (slice (2 * i) (2 * j) (digits (now («data» .entry)))) (now (out .entry)) ⌝ }
+    requires { ⌜ (i ≤ j) × ((j < length (now «data»)) × (length (slice (2 * i) (2 * j) (digitText (now «data»))) ≤ length (now out))) ⌝ }
+    ensures count { λ r. ⌜ r ≡ length (slice (2 * i) (2 * j) (digitText (now («data» .entry)))) ⌝ }
+    ensures bytes { λ _. ⌜ now (out .exit) ≡ overwritten (slice (2 * i) (2 * j) (digitText (now («data» .entry)))) (now (out .entry)) ⌝ }
 {
     let mut o = 0;
     let mut k = i;
@@ -87,9 +87,9 @@ fn by_byte_write(data: &[u8], i: usize, j: usize, out: &mut [u8]) -> usize
 
 // Writes the digits from a up to e; many of them by bytes, with those of a byte that is not whole one by one.
 fn digits_write(data: &[u8], a: usize, e: usize, out: &mut [u8]) -> usize
-    requires { ⌜ (a ≤ e) × ((e < 2 * length (now «data»)) × (length (slice a e (digits (now «data»))) ≤ length (now out))) ⌝ }
-    ensures count { λ r. ⌜ r ≡ length (slice a e (digits (now («data» .entry)))) ⌝ }
-    ensures bytes { λ _. ⌜ now (out .exit) ≡ written (slice a e (digits (now («data» .entry)))) (now (out .entry)) ⌝ }
+    requires { ⌜ (a ≤ e) × ((e < 2 * length (now «data»)) × (length (slice a e (digitText (now «data»))) ≤ length (now out))) ⌝ }
+    ensures count { λ r. ⌜ r ≡ length (slice a e (digitText (now («data» .entry)))) ⌝ }
+    ensures bytes { λ _. ⌜ now (out .exit) ≡ overwritten (slice a e (digitText (now («data» .entry)))) (now (out .entry)) ⌝ }
 {
     if e - a < 8 {
         return by_digit_write(data, a, e, out);
@@ -105,7 +105,7 @@ fn digits_write(data: &[u8], a: usize, e: usize, out: &mut [u8]) -> usize
 fn zeros_write(n: usize, out: &mut [u8]) -> usize
     requires { ⌜ length (zeros n) ≤ length (now out) ⌝ }
     ensures count { λ r. ⌜ r ≡ length (zeros n) ⌝ }
-    ensures bytes { λ _. ⌜ now (out .exit) ≡ written (zeros n) (now (out .entry)) ⌝ }
+    ensures bytes { λ _. ⌜ now (out .exit) ≡ overwritten (zeros n) (now (out .entry)) ⌝ }
 {
     let mut o = 0;
     while o < n {
@@ -125,7 +125,7 @@ fn is_minus(data: &[u8]) -> bool
 
 fn sign_len(data: &[u8]) -> usize
     requires { ⌜ 0 < length (now «data») ⌝ }
-    ensures { λ r. ⌜ (r ≡ length (sign (now («data» .entry)))) × (r ≤ 1) ⌝ }
+    ensures { λ r. ⌜ (r ≡ length (signText (now («data» .entry)))) × (r ≤ 1) ⌝ }
 {
     if is_minus(data) {
         return 1;
@@ -134,9 +134,9 @@ fn sign_len(data: &[u8]) -> usize
 }
 
 fn sign_write(data: &[u8], out: &mut [u8]) -> usize
-    requires { ⌜ (0 < length (now «data»)) × (length (sign (now «data»)) ≤ length (now out)) ⌝ }
-    ensures count { λ r. ⌜ r ≡ length (sign (now («data» .entry))) ⌝ }
-    ensures bytes { λ _. ⌜ now (out .exit) ≡ written (sign (now («data» .entry))) (now (out .entry)) ⌝ }
+    requires { ⌜ (0 < length (now «data»)) × (length (signText (now «data»)) ≤ length (now out)) ⌝ }
+    ensures count { λ r. ⌜ r ≡ length (signText (now («data» .entry))) ⌝ }
+    ensures bytes { λ _. ⌜ now (out .exit) ≡ overwritten (signText (now («data» .entry))) (now (out .entry)) ⌝ }
 {
     if is_minus(data) {
         out[0] = 0x2D;
@@ -148,7 +148,7 @@ fn sign_write(data: &[u8], out: &mut [u8]) -> usize
 // The whole part, of the first w digits.
 fn whole_len(data: &[u8], w: usize) -> usize
     requires { ⌜ w < 2 * length (now «data») ⌝ }
-    ensures { λ r. ⌜ (r ≡ length (trimmed (take w (digits (now («data» .entry)))))) × (r ≤ w + 1) ⌝ }
+    ensures { λ r. ⌜ (r ≡ length (trimmed (take w (digitText (now («data» .entry)))))) × (r ≤ w + 1) ⌝ }
 {
     if w == 0 {
         return 1;
@@ -157,9 +157,9 @@ fn whole_len(data: &[u8], w: usize) -> usize
 }
 
 fn whole_write(data: &[u8], w: usize, out: &mut [u8]) -> usize
-    requires { ⌜ (w < 2 * length (now «data»)) × (length (trimmed (take w (digits (now «data»)))) ≤ length (now out)) ⌝ }
-    ensures count { λ r. ⌜ r ≡ length (trimmed (take w (digits (now («data» .entry))))) ⌝ }
-    ensures bytes { λ _. ⌜ now (out .exit) ≡ written (trimmed (take w (digits (now («data» .entry))))) (now (out .entry)) ⌝ }
+    requires { ⌜ (w < 2 * length (now «data»)) × (length (trimmed (take w (digitText (now «data»)))) ≤ length (now out)) ⌝ }
+    ensures count { λ r. ⌜ r ≡ length (trimmed (take w (digitText (now («data» .entry))))) ⌝ }
+    ensures bytes { λ _. ⌜ now (out .exit) ≡ overwritten (trimmed (take w (digitText (now («data» .entry))))) (now (out .entry)) ⌝ }
 {
     if w == 0 {
         out[0] = 0x30;
@@ -172,7 +172,7 @@ fn whole_write(data: &[u8], w: usize, out: &mut [u8]) -> usize
 // The point and the fraction digits, where there are any.
 fn fraction_len(data: &[u8], scale: usize) -> usize
     requires { ⌜ scale < 256 ⌝ }
-    ensures { λ r. ⌜ (r ≡ length (fraction scale (digits (now («data» .entry))))) × (r < 257) ⌝ }
+    ensures { λ r. ⌜ (r ≡ length (fraction scale (digitText (now («data» .entry))))) × (r < 257) ⌝ }
 {
     if scale == 0 {
         return 0;
@@ -181,9 +181,9 @@ fn fraction_len(data: &[u8], scale: usize) -> usize
 }
 
 fn fraction_write(data: &[u8], scale: usize, out: &mut [u8]) -> usize
-    requires { ⌜ (0 < length (now «data»)) × ((length (now «data») ≤ mostBytes) × (length (fraction scale (digits (now «data»))) ≤ length (now out))) ⌝ }
-    ensures count { λ r. ⌜ r ≡ length (fraction scale (digits (now («data» .entry)))) ⌝ }
-    ensures bytes { λ _. ⌜ now (out .exit) ≡ written (fraction scale (digits (now («data» .entry)))) (now (out .entry)) ⌝ }
+    requires { ⌜ (0 < length (now «data»)) × ((length (now «data») ≤ mostBytes) × (length (fraction scale (digitText (now «data»))) ≤ length (now out))) ⌝ }
+    ensures count { λ r. ⌜ r ≡ length (fraction scale (digitText (now («data» .entry)))) ⌝ }
+    ensures bytes { λ _. ⌜ now (out .exit) ≡ overwritten (fraction scale (digitText (now («data» .entry)))) (now (out .entry)) ⌝ }
 {
     if scale == 0 {
         return 0;
@@ -210,7 +210,7 @@ pub fn decimal_len(data: &[u8], scale: u8) -> usize
 pub fn decimal_write(data: &[u8], scale: u8, out: &mut [u8]) -> usize
     requires { ⌜ (0 < length (now «data»)) × ((length (now «data») ≤ mostBytes) × (length (decimalText scale (now «data»)) ≤ length (now out))) ⌝ }
     ensures count { λ r. ⌜ r ≡ length (decimalText scale (now («data» .entry))) ⌝ }
-    ensures bytes { λ _. ⌜ now (out .exit) ≡ written (decimalText scale (now («data» .entry))) (now (out .entry)) ⌝ }
+    ensures bytes { λ _. ⌜ now (out .exit) ≡ overwritten (decimalText scale (now («data» .entry))) (now (out .entry)) ⌝ }
 {
     let f = wide(scale);
     let w = above(2 * data.len() - 1, f);

@@ -17,15 +17,15 @@ use Rattle.conversion.specs.declared.Conversion.{Conversion}
 use Rattle.conversion.specs.declared.Conversion.the-variants as by
 use Rattle.conversion.specs.Conversion.{textIn, characterConversion, graphicConversion, characterText, graphicText}
 use Rattle.conversion.proofs.PlainText.{text-bound}
-use Rattle.packed.specs.Packed.{signNibble, sign, digits, trimmed, fraction, decimalText}
+use Rattle.packed.specs.Packed.{signNibble, signText, digitText, trimmed, fraction, decimalText}
 use Rattle.packed.proofs.Nibbles.{digits-length, no-fraction, fraction-length}
 use Rattle.types.specs.Names.{bit8000, low15}
 use Rattle.rules.specs.Extent.{isReference, isShortReference, saysHeader}
-use Rattle.rules.specs.Meaning.{blob, TextSort, Item, nothing, number, boolean, part, text, Lob, blobs, clobs, xmls, allZero, isEmptyReference, headerBytes, isEmptyHeader, headerItem, lobEmpty, lobReference, lobInline, lobItem, varyingItem, lobBytesItem, lobCharItem, typeItem, itemIn}
-use Rattle.rules.specs.Walk.{columnNeed, Piece, absent, present, cellPiece, Walk, done, short, walk, walkBody}
-pub use Rattle.unicode.specs.Laws.{Bytes}
+use Rattle.rules.specs.Meaning.{blob, TextSort, Item, nothing, numeric, boolean, part, text, Lob, blobs, clobs, xmls, allZero, isEmptyReference, headerBytes, isEmptyHeader, headerItem, lobEmpty, lobReference, lobInline, lobItem, varyingItem, lobBytesItem, lobCharItem, typeItem, itemIn}
+use Rattle.rules.specs.Walk.{columnNeed, Cell, absent, present, cellOf, Walk, done, short, walk, walkBody}
+pub use Rattle.unicode.specs.Laws.{AreBytes}
 use Rattle.unicode.proofs.Bytes.{bytes-drop, bytes-take}
-use Rattle.rules.specs.Row.{textOf, pieceItem, rowTexts}
+use Rattle.rules.specs.Row.{itemText, cellItem, rowTexts}
 use Rattle.rules.specs.Conversions.{ported}
 use Rattle.rules.proofs.Walks.{isDone, usedOf, piecesOf, walk-step, walk-first}
 use Rattle.rules.proofs.Progress.{pieceAt, cons-inverse}
@@ -41,8 +41,8 @@ trimmed-length (d ∷ ds) = go (eqb d 0x30) (trimmed-length ds)
     go true h = omega arith
     go false h = omega arith
 
-sign-length : (s : List ℕ) → length (sign s) ≤ 1
-unfolding sign
+sign-length : (s : List ℕ) → length (signText s) ≤ 1
+unfolding signText
 sign-length s = go (eqb (signNibble s) 0xD)
   where
     go : (b : Bool) → length {A = ℕ} (cond b (0x2D ∷ []) []) ≤ 1
@@ -59,24 +59,24 @@ fraction-most scale ds = go (eqb scale 0) refl
 decimal-bound : (scale : ℕ) (s : List ℕ) → scale < 256 → length (decimalText scale s) ≤ 3 * length s + 258
 unfolding decimalText
 decimal-bound scale s h =
-    let ds = digits s in
+    let ds = digitText s in
     let w = take (length ds - scale) ds in
-    omega (arith, length-append (sign s) (trimmed w ++ fraction scale ds), length-append (trimmed w) (fraction scale ds), sign-length s, trimmed-length w, fraction-most scale ds, length-take (length ds - scale) ds, digits-length s)
+    omega (arith, length-append (signText s) (trimmed w ++ fraction scale ds), length-append (trimmed w) (fraction scale ds), sign-length s, trimmed-length w, fraction-most scale ds, length-take (length ds - scale) ds, digits-length s)
 
 -- ---- what a value's bytes mean: the item of a value of the bytes s has a text that is at most so long
 
 abbrev Short : List ℕ → Item → Type 0
-Short s x = length (textOf x) ≤ 3 * length s + 258
+Short s x = length (itemText x) ≤ 3 * length s + 258
 
 either : (P : Item → Type 0) (b : Bool) (x y : Item) → P x → P y → P (cond b x y)
 either P true x y h k = h
 either P false x y h k = k
 
 -- the text of bytes t that are no more than s
-text-short : (p : Conversion) (t s : List ℕ) → Bytes t → length t ≤ length s → length (textIn p t) ≤ 3 * length s + 258
+text-short : (p : Conversion) (t s : List ℕ) → AreBytes t → length t ≤ length s → length (textIn p t) ≤ 3 * length s + 258
 text-short p t s h k = omega (arith, text-bound p t h)
 
-module _ (s : List ℕ) (h : Bytes s) where
+module _ (s : List ℕ) (h : AreBytes s) where
   less : (n : ℕ) → length (drop n s) ≤ length s
   less n = omega (arith, length-drop n s)
 
@@ -96,19 +96,19 @@ module _ (s : List ℕ) (h : Bytes s) where
   locator-short n = text-short by.Locator (drop n s) s (bytes-drop n s h) (less n)
 
   empty-short : (k : Lob) → Short s (lobEmpty k)
-  unfolding lobEmpty textOf
+  unfolding lobEmpty itemText
   empty-short blobs = omega arith
   empty-short clobs = omega arith
   empty-short xmls = omega arith
 
   reference-short : (k : Lob) → Short s (lobReference ported k s)
-  unfolding lobReference textOf
+  unfolding lobReference itemText
   reference-short blobs = omega arith
   reference-short clobs = locator-short 0
   reference-short xmls = locator-short 0
 
   inline-item-short : (k : Lob) → Short s (lobInline ported k s)
-  unfolding lobInline textOf
+  unfolding lobInline itemText
   inline-item-short blobs = omega arith
   inline-item-short clobs = inline-short 4
   inline-item-short xmls = inline-short 4
@@ -122,21 +122,21 @@ module _ (s : List ℕ) (h : Bytes s) where
       (either (Short s) b (lobReference ported k s) (lobInline ported k s) (reference-short k) (inline-item-short k))
 
   header-text-short : (b : Bool) → Short s (text TextSort.clob (textIn by.Locator (cond b (drop 2 s) s)))
-  unfolding textOf
+  unfolding itemText
   header-text-short true = locator-short 2
   header-text-short false = locator-short 0
 
   header-short : Short s (headerItem ported s)
-  unfolding headerItem textOf
+  unfolding headerItem itemText
   header-short =
       either (Short s) (isEmptyHeader (headerBytes s)) (text TextSort.clob []) (text TextSort.clob (textIn by.Locator (headerBytes s))) (omega arith) (header-text-short (saysHeader s))
 
   varying-short : (n : ℕ) (t : List ℕ) → length t ≤ 3 * length s + 258 → Short s (varyingItem ported n t s)
-  unfolding varyingItem textOf
+  unfolding varyingItem itemText
   varying-short n t k = either (Short s) (bit8000 n) (headerItem ported s) (text TextSort.varChar t) header-short k
 
   lob-bytes-short : (n ccsid : ℕ) → Short s (lobBytesItem ported n ccsid s)
-  unfolding lobBytesItem textOf
+  unfolding lobBytesItem itemText
   lob-bytes-short n ccsid =
       let whole = part blob 0 (length s) in
       let converted = text TextSort.varChar (characterText ccsid s) in
@@ -144,7 +144,7 @@ module _ (s : List ℕ) (h : Bytes s) where
       (either (Short s) (ported .isLikely s) converted whole (characters-short ccsid 0) (omega arith))
 
   lob-char-short : (n ccsid : ℕ) → Short s (lobCharItem ported n ccsid s)
-  unfolding lobCharItem textOf
+  unfolding lobCharItem itemText
   lob-char-short n ccsid =
       either (Short s) (isShortReference n s) (text TextSort.clob (textIn by.Locator s)) (text TextSort.clob (characterText ccsid s)) (locator-short 0) (characters-short ccsid 0)
 
@@ -152,8 +152,8 @@ module _ (s : List ℕ) (h : Bytes s) where
 abbrev pub Scaled : Db2Type → Type 0
 Scaled t = (precision scale : ℕ) → t ≡ type.Decimal precision scale → scale < 256
 
-type-short : (t : Db2Type) (c : ColumnDescriptor) (s : List ℕ) → Scaled t → Bytes s → Short s (typeItem ported t c s)
-unfolding textOf
+type-short : (t : Db2Type) (c : ColumnDescriptor) (s : List ℕ) → Scaled t → AreBytes s → Short s (typeItem ported t c s)
+unfolding itemText
 type-short type.SmallInt c s f h = omega arith
 type-short type.Integer c s f h = omega arith
 type-short type.BigInt c s f h = omega arith
@@ -186,17 +186,17 @@ type-short type.Null c s f h = omega arith
 
 -- ---- a column's piece of the rest r
 
-cell-short : (b : Bool) (c : ColumnDescriptor) (at : ℕ) (t : List ℕ) → Scaled (c .«db2_type») → Bytes t → length (textOf (pieceItem ported (cellPiece b c at t))) ≤ 3 * length t + 258
-unfolding cellPiece pieceItem itemIn textOf
+cell-short : (b : Bool) (c : ColumnDescriptor) (at : ℕ) (t : List ℕ) → Scaled (c .«db2_type») → AreBytes t → length (itemText (cellItem ported (cellOf b c at t))) ≤ 3 * length t + 258
+unfolding cellOf cellItem itemIn itemText
 cell-short true c at [] f h = omega arith
 cell-short true c at (x ∷ t) f h = go (eqb x 0xFF)
   where
-    go : (b : Bool) → length (textOf (pieceItem ported (cond b absent (present c (at + 1) t)))) ≤ 3 * suc (length t) + 258
+    go : (b : Bool) → length (itemText (cellItem ported (cond b absent (present c (at + 1) t)))) ≤ 3 * suc (length t) + 258
     go true = omega arith
     go false = omega (arith, type-short (c .«db2_type») c t f (bytes-drop 1 (x ∷ t) h))
 cell-short false c at t f h = type-short (c .«db2_type») c t f h
 
-piece-bound : (c : ColumnDescriptor) (at : ℕ) (r : List ℕ) → Scaled (c .«db2_type») → Bytes r → length (textOf (pieceItem ported (pieceAt c at r))) ≤ 3 * columnNeed c r + 258
+piece-bound : (c : ColumnDescriptor) (at : ℕ) (r : List ℕ) → Scaled (c .«db2_type») → AreBytes r → length (itemText (cellItem ported (pieceAt c at r))) ≤ 3 * columnNeed c r + 258
 piece-bound c at r f h =
     omega (arith, cell-short (c .nullable) c at (take (columnNeed c r) r) f (bytes-take (columnNeed c r) r h), length-take (columnNeed c r) r)
 
@@ -207,7 +207,7 @@ abbrev pub AllScaled : List ColumnDescriptor → Type 0
 AllScaled [] = Unit
 AllScaled (c ∷ cs) = Scaled (c .«db2_type») × AllScaled cs
 
-walk-bound : (start : ℕ) (cs : List ColumnDescriptor) (at : ℕ) (r : List ℕ) (ps : List Piece) (end : ℕ) → AllScaled cs → Bytes r → walk start cs at r ≡ done ps end
+walk-bound : (start : ℕ) (cs : List ColumnDescriptor) (at : ℕ) (r : List ℕ) (ps : List Cell) (end : ℕ) → AllScaled cs → AreBytes r → walk start cs at r ≡ done ps end
     → 3 * at + length (rowTexts ported ps) ≤ 3 * end + 258 * length cs
 unfolding walk rowTexts
 walk-bound start [] at r ps end f h d =
@@ -219,11 +219,11 @@ walk-bound start (c ∷ cs) at r ps end f h d =
     let there = walk-first start c cs at r (ap isDone d) in
     let turn = cons-inverse (pieceAt c at r) w ps end (sym (walk-step start c cs at r k refl there) ∙ d) in
     let ih = walk-bound start cs (at + k) (drop k r) (piecesOf w) end (f .1) (bytes-drop k r h) (turn .0) in
-    let e = ap (λ (l : List Piece). length (rowTexts ported l)) (turn .1) in
-    omega (arith, e, ih, piece-bound c at r (f .0) h, length-append (textOf (pieceItem ported (pieceAt c at r))) (rowTexts ported (piecesOf w)))
+    let e = ap (λ (l : List Cell). length (rowTexts ported l)) (turn .1) in
+    omega (arith, e, ih, piece-bound c at r (f .0) h, length-append (itemText (cellItem ported (pieceAt c at r))) (rowTexts ported (piecesOf w)))
 
 -- the texts of a row together
-pub texts-bound : (cs : List ColumnDescriptor) (start : ℕ) (s : List ℕ) (ps : List Piece) (end : ℕ) → AllScaled cs → Bytes s → start ≤ end
+pub texts-bound : (cs : List ColumnDescriptor) (start : ℕ) (s : List ℕ) (ps : List Cell) (end : ℕ) → AllScaled cs → AreBytes s → start ≤ end
     → walkBody cs start s ≡ done ps end → length (rowTexts ported ps) ≤ 3 * (end - start) + 258 * length cs
 unfolding walkBody
 texts-bound cs start s ps end f h k d = omega (arith, walk-bound start cs start (drop start s) ps end f (bytes-drop start s h) d)

@@ -13,10 +13,10 @@ use lib.Pow.{pow-pos, pow-lt, pow-add, shl-exact}
 use lib.Seq.{getD-set-same, getD-set-other, getD-at}
 use borrow.Author.Tests.{ltb-true, ltb-false, eqb-true, eqb-false, eq-eqb}
 use Rattle.types.specs.declared.ColumnDescriptor.{ColumnDescriptor}
-use Rattle.rules.specs.Walk.{columnNeed, Piece, absent, Walk, done, short, walk, walkBody}
+use Rattle.rules.specs.Walk.{columnNeed, Cell, absent, Walk, done, short, walk, walkBody}
 use Rattle.rules.proofs.Walks.{isDone, piecesOf, walk-step, walk-first}
 use Rattle.rules.proofs.Progress.{Going, pieceAt, cons-inverse, going-ahead, following}
-use Rattle.piece.specs.Piece.{PlainPiece}
+use Rattle.piece.specs.Piece.{PlainCell}
 use Rattle.piece.specs.Marks.{markAt, Marks, PlainMarks}
 
 -- ---- a bit
@@ -123,7 +123,7 @@ plain-none (short e a) = tt
 -- ---- the marks of a row
 
 -- a walk that is done has a piece for each column
-walk-length : (start : ℕ) (cs : List ColumnDescriptor) (at : ℕ) (r : List ℕ) (ps : List Piece) (end : ℕ) → walk start cs at r ≡ done ps end → length ps ≡ length cs
+walk-length : (start : ℕ) (cs : List ColumnDescriptor) (at : ℕ) (r : List ℕ) (ps : List Cell) (end : ℕ) → walk start cs at r ≡ done ps end → length ps ≡ length cs
 unfolding walk
 walk-length start [] at r ps end d = ap length (sym (ap piecesOf d))
 walk-length start (c ∷ cs) at r ps end d =
@@ -133,7 +133,7 @@ walk-length start (c ∷ cs) at r ps end d =
     let turn = cons-inverse (pieceAt c at r) w ps end (sym (walk-step start c cs at r k refl there) ∙ d) in
     ap length (turn .1) ∙ ap suc (walk-length start cs (at + k) (drop k r) (piecesOf w) end (turn .0))
 
-module _ (cs : List ColumnDescriptor) (start : ℕ) (s : List ℕ) (ps : List Piece) (end : ℕ) (d : walkBody cs start s ≡ done ps end) where
+module _ (cs : List ColumnDescriptor) (start : ℕ) (s : List ℕ) (ps : List Cell) (end : ℕ) (d : walkBody cs start s ≡ done ps end) where
   -- of the marks m, those of the walk
   pub of-pieces : (m : List ℕ) → PlainMarks m (walkBody cs start s) → PlainMarks m (done ps end)
   of-pieces m h = subst (PlainMarks m) d h
@@ -141,7 +141,7 @@ module _ (cs : List ColumnDescriptor) (start : ℕ) (s : List ℕ) (ps : List Pi
   pub of-walk : (m : List ℕ) → PlainMarks m (done ps end) → PlainMarks m (walkBody cs start s)
   of-walk m h = subst (PlainMarks m) (sym d) h
 
-  module _ {i at : ℕ} {passed : List Piece} (g : Going cs start s ps end i at passed) (c : ColumnDescriptor) (e : drop i cs ≡ c ∷ drop (i + 1) cs) (r : List ℕ) (q : r ≡ drop at s) (h : i ≤ length cs) where
+  module _ {i at : ℕ} {passed : List Cell} (g : Going cs start s ps end i at passed) (c : ColumnDescriptor) (e : drop i cs ≡ c ∷ drop (i + 1) cs) (r : List ℕ) (q : r ≡ drop at s) (h : i ≤ length cs) where
     passed-count : length passed ≡ i
     unfolding walkBody
     passed-count =
@@ -149,14 +149,14 @@ module _ (cs : List ColumnDescriptor) (start : ℕ) (s : List ℕ) (ps : List Pi
 
     piece-here : getD ps i absent ≡ pieceAt c at r
     piece-here =
-        ap (λ (l : List Piece). getD l i absent) (g .all ∙ ap (λ (l : List Piece). passed ++ l) (going-ahead cs start s ps end g c e r q))
+        ap (λ (l : List Cell). getD l i absent) (g .all ∙ ap (λ (l : List Cell). passed ++ l) (going-ahead cs start s ps end g c e r q))
         ∙ getD-at passed (pieceAt c at r) (piecesOf (following cs start s ps end g c e r q)) absent i passed-count
 
     -- what the mark of this column says
-    pub plain-here : (m : List ℕ) → PlainMarks m (walkBody cs start s) → i < 768 → (b : Bool) → b ≡ markAt m i → b ≡ true → PlainPiece (pieceAt c at r)
-    plain-here m p l b f t = subst PlainPiece piece-here (of-pieces m p i l (sym f ∙ t))
+    pub plain-here : (m : List ℕ) → PlainMarks m (walkBody cs start s) → i < 768 → (b : Bool) → b ≡ markAt m i → b ≡ true → PlainCell (pieceAt c at r)
+    plain-here m p l b f t = subst PlainCell piece-here (of-pieces m p i l (sym f ∙ t))
 
     -- this column is marked, or it is not
-    pub plain-more : (m n : List ℕ) → PlainMarks m (walkBody cs start s) → (b : Bool) → Marks m i b n → (b ≡ true → PlainPiece (pieceAt c at r)) → PlainMarks n (walkBody cs start s)
+    pub plain-more : (m n : List ℕ) → PlainMarks m (walkBody cs start s) → (b : Bool) → Marks m i b n → (b ≡ true → PlainCell (pieceAt c at r)) → PlainMarks n (walkBody cs start s)
     plain-more m n p b f t =
-        of-walk n (λ k l x. ⊎-elim (λ y. of-pieces m p k l y) (λ y. subst (λ (j : ℕ). PlainPiece (getD ps j absent)) (sym (y .0)) (subst PlainPiece (sym piece-here) (t (y .1)))) (f k x))
+        of-walk n (λ k l x. ⊎-elim (λ y. of-pieces m p k l y) (λ y. subst (λ (j : ℕ). PlainCell (getD ps j absent)) (sym (y .0)) (subst PlainCell (sym piece-here) (t (y .1)))) (f k x))

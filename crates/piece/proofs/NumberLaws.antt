@@ -14,19 +14,19 @@ use Rattle.rules.specs.declared.Extent.{Extent}
 use Rattle.rules.specs.declared.Extent.the-variants.{Fixed}
 use Rattle.rules.specs.Extent.{need, extentOf, typeExtent}
 use Rattle.rules.specs.Meaning.{Item, itemIn, typeItem, isEmptyLob, typeRefers, refersIn}
-use Rattle.rules.specs.Row.{valueOf, textOf, pieceItem, pieceValue}
+use Rattle.rules.specs.Row.{valueOf, itemText, cellItem, cellValue}
 use Rattle.rules.specs.Conversions.{ported}
-use Rattle.piece.specs.Piece.{Numbers, numberPlace, valueIn, valueText}
+use Rattle.piece.specs.Piece.{HoldsNumber, numberPlace, valueIn, valueText}
 
 -- ---- a column whose type is one of numbers
 
-module _ (c : ColumnDescriptor) (n : ℕ) (h : Numbers n (c .«db2_type»)) (m : 0 < n) (s : List ℕ) where
+module _ (c : ColumnDescriptor) (n : ℕ) (h : HoldsNumber n (c .«db2_type»)) (m : 0 < n) (s : List ℕ) where
   pub numbers-need : n ≡ need (extentOf c) s
   unfolding need
   numbers-need = ap (λ (e : Extent). need e s) (sym (h m .0 c))
 
   pub numbers-text : 0 ≡ length (valueText c s)
-  unfolding pieceItem itemIn
+  unfolding cellItem itemIn
   numbers-text = sym (ap length (h m .1 c (take (need (extentOf c) s) s)))
 
 -- ---- a column of this type, whose value is the number f
@@ -36,21 +36,21 @@ module _ (c : ColumnDescriptor) {t : Db2Type} (e : c .«db2_type» ≡ t) (n : �
   unfolding need
   number-need s = sym (ap (λ (u : Db2Type). need (typeExtent u c) s) e ∙ ap (λ (k : Extent). need k s) x)
 
-  module _ (s : List ℕ) (f : List ℕ → RowNumber) (i : (l : List ℕ) → typeItem ported t c l ≡ Item.number (f l)) where
-    item-is : itemIn ported c (take (need (extentOf c) s) s) ≡ Item.number (f (take n s))
+  module _ (s : List ℕ) (f : List ℕ → RowNumber) (i : (l : List ℕ) → typeItem ported t c l ≡ Item.numeric (f l)) where
+    item-is : itemIn ported c (take (need (extentOf c) s) s) ≡ Item.numeric (f (take n s))
     unfolding itemIn
     item-is =
         ap (λ (u : Db2Type). typeItem ported u c (take (need (extentOf c) s) s)) e
         ∙ i (take (need (extentOf c) s) s)
-        ∙ ap (λ (k : ℕ). Item.number (f (take k s))) (sym (number-need s))
+        ∙ ap (λ (k : ℕ). Item.numeric (f (take k s))) (sym (number-need s))
 
     pub number-text : valueText c s ≡ []
-    unfolding pieceItem textOf
-    number-text = ap textOf item-is
+    unfolding cellItem itemText
+    number-text = ap itemText item-is
 
     pub number-place : ((l : List ℕ) → typeRefers t c l ≡ false) → (at next : ℕ) (v : Db2Value) → v ≡ numberValue (f (take n s))
-        → numberPlace v ≡ pieceValue ported (valueIn c at s) next
-    unfolding pieceValue valueOf refersIn isEmptyLob
+        → numberPlace v ≡ cellValue ported (valueIn c at s) next
+    unfolding cellValue valueOf refersIn isEmptyLob
     number-place r at next v h =
         let l = take (need (extentOf c) s) s in
         let b : refersIn ported c l ≡ false = ap (λ (y : Item). not (isEmptyLob y) && typeRefers (c .«db2_type») c l) item-is ∙ ap (λ (u : Db2Type). typeRefers u c l) e ∙ r l in

@@ -11,10 +11,10 @@ use lib.Dec.{eqb}
 use borrow.Author.Tests.{eq-eqb, ne-eqb, eqb-true, eqb-false}
 use Rattle.types.specs.declared.ColumnDescriptor.{ColumnDescriptor}
 use Rattle.rules.specs.Extent.{need, extentOf}
-use Rattle.rules.specs.Walk.{nullableNeed, cellNeed, columnNeed, Piece, absent, present, cellPiece, short, cellShort}
-use Rattle.rules.specs.Row.{textOf, pieceItem}
+use Rattle.rules.specs.Walk.{nullableNeed, cellNeed, columnNeed, Cell, absent, present, cellOf, short, cellShort}
+use Rattle.rules.specs.Row.{itemText, cellItem}
 use Rattle.rules.specs.Conversions.{ported}
-use Rattle.piece.specs.Piece.{isNull, valueIn, valueText, pieceIn, pieceText}
+use Rattle.piece.specs.Piece.{isNull, valueIn, valueText, cellIn, cellText}
 
 -- all bytes from a place on
 pub all-after : (k : ℕ) (s : List ℕ) → take (length s - k) (drop k s) ≡ drop k s
@@ -35,9 +35,9 @@ module _ (c : ColumnDescriptor) (n : not (c .nullable) ≡ true) (s : List ℕ) 
   unfolding columnNeed
   plain-need = ap (λ (b : Bool). cellNeed b (extentOf c) s) plain
 
-  plain-piece : (at : ℕ) → pieceIn c at s ≡ valueIn c at s
-  unfolding cellPiece
-  plain-piece at = ap (λ (b : Bool). cellPiece b c at (take (columnNeed c s) s)) plain ∙ ap (λ (k : ℕ). present c at (take k s)) plain-need
+  plain-piece : (at : ℕ) → cellIn c at s ≡ valueIn c at s
+  unfolding cellOf
+  plain-piece at = ap (λ (b : Bool). cellOf b c at (take (columnNeed c s) s)) plain ∙ ap (λ (k : ℕ). present c at (take k s)) plain-need
 
   pub plain-short : (offset : ℕ) → cellShort (c .nullable) (extentOf c) offset s ≡ short (need (extentOf c) s) (length s)
   unfolding cellShort
@@ -53,8 +53,8 @@ module _ (c : ColumnDescriptor) (n : not (c .nullable) ≡ false) where
   unfolding columnNeed
   marked-need s = ap (λ (b : Bool). cellNeed b (extentOf c) s) marked
 
-  marked-piece : (at k : ℕ) (s : List ℕ) → columnNeed c s ≡ k → pieceIn c at s ≡ cellPiece true c at (take k s)
-  marked-piece at k s e = ap (λ (b : Bool). cellPiece b c at (take (columnNeed c s) s)) marked ∙ ap (λ (m : ℕ). cellPiece true c at (take m s)) e
+  marked-piece : (at k : ℕ) (s : List ℕ) → columnNeed c s ≡ k → cellIn c at s ≡ cellOf true c at (take k s)
+  marked-piece at k s e = ap (λ (b : Bool). cellOf b c at (take (columnNeed c s) s)) marked ∙ ap (λ (m : ℕ). cellOf true c at (take m s)) e
 
   marked-short : (offset : ℕ) (s : List ℕ) → cellShort (c .nullable) (extentOf c) offset s ≡ cellShort true (extentOf c) offset s
   marked-short offset s = ap (λ (b : Bool). cellShort b (extentOf c) offset s) marked
@@ -85,11 +85,11 @@ module _ (c : ColumnDescriptor) (n : not (c .nullable) ≡ false) where
         go [] f = refl
         go (b ∷ t) f = rw (eq-eqb b 0xFF f) refl
 
-    null-piece : (at : ℕ) → pieceIn c at s ≡ absent
-    unfolding cellPiece
+    null-piece : (at : ℕ) → cellIn c at s ≡ absent
+    unfolding cellOf
     null-piece at = marked-piece at 1 s null-need ∙ go s e
       where
-        go : (t : List ℕ) → getD t 0 0 ≡ 0xFF → cellPiece true c at (take 1 t) ≡ absent
+        go : (t : List ℕ) → getD t 0 0 ≡ 0xFF → cellOf true c at (take 1 t) ≡ absent
         go [] f = refl
         go (b ∷ t) f = rw (eq-eqb b 0xFF f) refl
 
@@ -103,11 +103,11 @@ module _ (c : ColumnDescriptor) (n : not (c .nullable) ≡ false) where
         go [] k f = absurd (omega (arith, k))
         go (b ∷ t) k f = rw (ne-eqb b 0xFF f) refl
 
-    value-piece : (at : ℕ) → pieceIn c at s ≡ valueIn c (at + 1) (drop 1 s)
-    unfolding cellPiece
+    value-piece : (at : ℕ) → cellIn c at s ≡ valueIn c (at + 1) (drop 1 s)
+    unfolding cellOf
     value-piece at = marked-piece at (1 + need (extentOf c) (drop 1 s)) s value-need ∙ go s h e
       where
-        go : (t : List ℕ) → 0 < length t → (getD t 0 0 ≡ 0xFF → ⊥) → cellPiece true c at (take (1 + need (extentOf c) (drop 1 t)) t) ≡ valueIn c (at + 1) (drop 1 t)
+        go : (t : List ℕ) → 0 < length t → (getD t 0 0 ≡ 0xFF → ⊥) → cellOf true c at (take (1 + need (extentOf c) (drop 1 t)) t) ≡ valueIn c (at + 1) (drop 1 t)
         go [] k f = absurd (omega (arith, k))
         go (b ∷ t) k f = rw (one-add, ne-eqb b 0xFF f) refl
 
@@ -140,17 +140,17 @@ module _ (c : ColumnDescriptor) (s : List ℕ) where
         go true e (x ∷ t) q k = null-need c (ap not e) s (ap (λ (l : List ℕ). getD l 0 0) q ∙ eqb-true x 0xFF k)
         go false e t q k = absurd (true≢false (sym k))
 
-    pub null-absent : 0 < length s → (at : ℕ) → pieceIn c at s ≡ absent
+    pub null-absent : 0 < length s → (at : ℕ) → cellIn c at s ≡ absent
     null-absent m at = go (c .nullable) refl s refl h
       where
-        go : (b : Bool) → c .nullable ≡ b → (t : List ℕ) → s ≡ t → isNull b t ≡ true → pieceIn c at s ≡ absent
+        go : (b : Bool) → c .nullable ≡ b → (t : List ℕ) → s ≡ t → isNull b t ≡ true → cellIn c at s ≡ absent
         go true e [] q k = absurd (omega (arith, m, ap length q))
         go true e (x ∷ t) q k = null-piece c (ap not e) s (ap (λ (l : List ℕ). getD l 0 0) q ∙ eqb-true x 0xFF k) at
         go false e t q k = absurd (true≢false (sym k))
 
-    pub absent-text : 0 < length s → pieceText c s ≡ []
-    unfolding pieceItem textOf
-    absent-text m = ap (λ (p : Piece). textOf (pieceItem ported p)) (null-absent m 0)
+    pub absent-text : 0 < length s → cellText c s ≡ []
+    unfolding cellItem itemText
+    absent-text m = ap (λ (p : Cell). itemText (cellItem ported p)) (null-absent m 0)
 
   module _ (h : isNull (c .nullable) s ≡ false) where
     pub lead-within : leadOf c ≤ length s
@@ -173,13 +173,13 @@ module _ (c : ColumnDescriptor) (s : List ℕ) where
         go true e k = value-need c (ap not e) s (some s k .0) (some s k .1)
         go false e k = omega (arith, plain-need c (ap not e) s)
 
-    pub value-stands : (at : ℕ) → pieceIn c at s ≡ valueIn c (at + leadOf c) (drop (leadOf c) s)
+    pub value-stands : (at : ℕ) → cellIn c at s ≡ valueIn c (at + leadOf c) (drop (leadOf c) s)
     value-stands at = go (c .nullable) refl h
       where
-        go : (b : Bool) → c .nullable ≡ b → isNull b s ≡ false → pieceIn c at s ≡ valueIn c (at + cond b 1 0) (drop (cond b 1 0) s)
+        go : (b : Bool) → c .nullable ≡ b → isNull b s ≡ false → cellIn c at s ≡ valueIn c (at + cond b 1 0) (drop (cond b 1 0) s)
         go true e k = value-piece c (ap not e) s (some s k .0) (some s k .1) at
         go false e k = let z : at ≡ at + 0 = omega arith in plain-piece c (ap not e) s at ∙ ap (λ (n : ℕ). valueIn c n s) z
 
-    pub value-reads : pieceText c s ≡ valueText c (drop (leadOf c) s)
-    unfolding pieceItem
-    value-reads = ap (λ (p : Piece). textOf (pieceItem ported p)) (value-stands 0)
+    pub value-reads : cellText c s ≡ valueText c (drop (leadOf c) s)
+    unfolding cellItem
+    value-reads = ap (λ (p : Cell). itemText (cellItem ported p)) (value-stands 0)

@@ -7,7 +7,7 @@ use mathlib.Core.Logic.{_⊎_}
 use lib.Dec.{eqb}
 use lib.ListN.{getD}
 use Rattle.rules.specs.Walk.{absent, Walk, done, short}
-use Rattle.piece.specs.Piece.{PlainPiece}
+use Rattle.piece.specs.Piece.{PlainCell}
 
 -- the mark of column k: its bit is 0
 unfoldable pub markAt : List ℕ → ℕ → Bool
@@ -19,5 +19,5 @@ Marks m k plain n = (j : ℕ) → markAt n j ≡ true → (markAt m j ≡ true) 
 
 -- every marked column of a walk has a text that is copied
 abbrev pub PlainMarks : List ℕ → Walk → Type 0
-PlainMarks m (done ps n) = (k : ℕ) → k < 768 → markAt m k ≡ true → PlainPiece (getD ps k absent)
+PlainMarks m (done ps n) = (k : ℕ) → k < 768 → markAt m k ≡ true → PlainCell (getD ps k absent)
 PlainMarks m (short e a) = Unit {0}

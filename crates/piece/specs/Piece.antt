@@ -1,4 +1,4 @@
--- For inner functions; no public promise rests on it. The piece of a row that a column makes of the rest of the row, and its text. Assumes nothing.
+-- For inner functions; no public promise rests on it. The cell that a column makes of the rest of the row, and its text. Assumes nothing.
 use Prim.Native.Nat.{ℕ, _+_, _≤_, _<_}
 use mathlib.Core.Path.{_≡_}
 use mathlib.Core.Bool.{Bool, true, false, cond}
@@ -9,14 +9,13 @@ use Rattle.types.specs.declared.ColumnDescriptor.{ColumnDescriptor}
 use Rattle.types.specs.declared.Db2Type.{Db2Type}
 use Rattle.types.specs.declared.Db2Type.the-variants as type
 use Rattle.types.specs.declared.Db2Value.{Db2Value}
-use Rattle.types.specs.declared.Db2Value.the-variants as value
 use Rattle.types.specs.declared.ValuePlace.{ValuePlace}
 use Rattle.types.specs.Names.{namedIn}
 use Rattle.rules.specs.declared.Extent.the-variants.{Fixed}
 use Rattle.rules.specs.Extent.{need, extentOf, typeExtent}
 use Rattle.rules.specs.Meaning.{typeItem, itemIn}
-use Rattle.rules.specs.Walk.{Piece, absent, present, columnNeed, cellPiece}
-use Rattle.rules.specs.Row.{place, partValue, textValue, startOf, textOf, pieceItem}
+use Rattle.rules.specs.Walk.{Cell, absent, present, columnNeed, cellOf}
+use Rattle.rules.specs.Row.{place, partValue, textValue, startOf, itemText, cellItem}
 use Rattle.rules.specs.Conversions.{ported}
 use Rattle.cell.specs.declared.CellItem.{CellItem}
 use Rattle.cell.specs.declared.CellItem.the-variants.{Nothing, Number, Boolean, Part, Text}
@@ -29,27 +28,27 @@ isNull true [] = true
 isNull true (b ∷ s) = eqb b 0xFF
 
 -- values of this type take n bytes and have no text, unless n is 0
-abbrev pub Numbers : ℕ → Db2Type → Type 0
-Numbers n t =
-    0 < n → ((c : ColumnDescriptor) → typeExtent t c ≡ Fixed n) × ((c : ColumnDescriptor) (s : List ℕ) → textOf (typeItem ported t c s) ≡ [])
+abbrev pub HoldsNumber : ℕ → Db2Type → Type 0
+HoldsNumber n t =
+    0 < n → ((c : ColumnDescriptor) → typeExtent t c ≡ Fixed n) × ((c : ColumnDescriptor) (s : List ℕ) → itemText (typeItem ported t c s) ≡ [])
 
 abbrev pub numberPlace : Db2Value → ValuePlace
 numberPlace v = record { value = v; external = false }
 
 -- as the walk has it, where s is the rest of the row and `at` the place of its first byte
-abbrev pub pieceIn : ColumnDescriptor → ℕ → List ℕ → Piece
-pieceIn c at s = cellPiece (c .nullable) c at (take (columnNeed c s) s)
+abbrev pub cellIn : ColumnDescriptor → ℕ → List ℕ → Cell
+cellIn c at s = cellOf (c .nullable) c at (take (columnNeed c s) s)
 
--- the piece of a value that is there, behind its indicator where the column has one; s is the rest from the value's first byte on
-abbrev pub valueIn : ColumnDescriptor → ℕ → List ℕ → Piece
+-- the cell of a value that is there, behind its indicator where the column has one; s is the rest from the value's first byte on
+abbrev pub valueIn : ColumnDescriptor → ℕ → List ℕ → Cell
 valueIn c at s = present c at (take (need (extentOf c) s) s)
 
 abbrev pub valueText : ColumnDescriptor → List ℕ → List ℕ
-valueText c s = textOf (pieceItem ported (valueIn c 0 s))
+valueText c s = itemText (cellItem ported (valueIn c 0 s))
 
--- a piece's text does not depend on where the piece is
-abbrev pub pieceText : ColumnDescriptor → List ℕ → List ℕ
-pieceText c s = textOf (pieceItem ported (pieceIn c 0 s))
+-- a cell's text does not depend on where the cell is
+abbrev pub cellText : ColumnDescriptor → List ℕ → List ℕ
+cellText c s = itemText (cellItem ported (cellIn c 0 s))
 
 -- where the text of a value within the row begins among the value's bytes: behind the two or four bytes that say its length
 abbrev pub textStart : Db2Type → ℕ
@@ -57,28 +56,28 @@ textStart t =
     cond (namedIn (type.VarChar 0 ∷ type.LongVarChar ∷ type.VarGraphic 0 ∷ []) t) 2 (cond (namedIn (type.Clob ∷ type.DbClob ∷ type.Xml ∷ []) t) 4 0)
 
 -- the text is the value's bytes from there on: writing it is copying them
-abbrev pub PlainPiece : Piece → Type 0
-PlainPiece absent = Unit {0}
-PlainPiece (present c at s) = textOf (itemIn ported c s) ≡ drop (textStart (c .«db2_type»)) s
+abbrev pub PlainCell : Cell → Type 0
+PlainCell absent = Unit {0}
+PlainCell (present c at s) = itemText (itemIn ported c s) ≡ drop (textStart (c .«db2_type»)) s
 
 -- an item as the column decoder holds it, of the value's bytes s: it lies within them, its text, and its value where s begins at place `at`
-abbrev pub Within : CellItem → List ℕ → Type 0
-Within Nothing s = Unit {0}
-Within (Number v) s = Unit {0}
-Within (Boolean b) s = Unit {0}
-Within (Part k from len) s = from + len ≤ length s
-Within (Text k reading from len) s = (from + len ≤ length s) × Readable reading len
+abbrev pub LiesWithin : CellItem → List ℕ → Type 0
+LiesWithin Nothing s = Unit {0}
+LiesWithin (Number v) s = Unit {0}
+LiesWithin (Boolean b) s = Unit {0}
+LiesWithin (Part k from len) s = from + len ≤ length s
+LiesWithin (Text k reading from len) s = (from + len ≤ length s) × Readable reading len
 
-abbrev pub itemText : CellItem → List ℕ → List ℕ
-itemText Nothing s = []
-itemText (Number v) s = []
-itemText (Boolean b) s = []
-itemText (Part k from len) s = []
-itemText (Text k reading from len) s = textBy reading (take len (drop from s))
+abbrev pub textHeld : CellItem → List ℕ → List ℕ
+textHeld Nothing s = []
+textHeld (Number v) s = []
+textHeld (Boolean b) s = []
+textHeld (Part k from len) s = []
+textHeld (Text k reading from len) s = textBy reading (take len (drop from s))
 
 abbrev pub itemValue : CellItem → List ℕ → ℕ → ℕ → Db2Value
-itemValue Nothing s at next = value.Null
+itemValue Nothing s at next = Db2Value.Null
 itemValue (Number v) s at next = v
-itemValue (Boolean b) s at next = value.Boolean b
+itemValue (Boolean b) s at next = Db2Value.Boolean b
 itemValue (Part k from len) s at next = partValue (byteSort k) (place (startOf len (at + from)) len)
-itemValue (Text k reading from len) s at next = textValue (textSort k) (place next (length (itemText (Text k reading from len) s)))
+itemValue (Text k reading from len) s at next = textValue (textSort k) (place next (length (textHeld (Text k reading from len) s)))

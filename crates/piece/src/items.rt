@@ -17,12 +17,12 @@ ghost use mathlib.Core.List.{List};
 ghost use Prim.Native.Nat.{ℕ, _+_, _≤_};
 ghost use lib.ListN.{length, drop};
 ghost use Rattle.refusal.specs.Refusal.{inputLimit};
-ghost use Rattle.buffer.specs.Buffer.{written};
+ghost use Rattle.buffer.specs.Buffer.{overwritten};
 ghost use Rattle.rules.specs.Row.{place, startOf, partValue, textValue};
 ghost use Rattle.conversion.specs.declared.Conversion.{Conversion};
 ghost use Rattle.rules.specs.Meaning.{Item};
 ghost use Rattle.cell.specs.Cell.{byteSort, textSort, textBy, Readable, Holds};
-ghost use Rattle.piece.specs.Piece.{Within, itemText, itemValue, textStart};
+ghost use Rattle.piece.specs.Piece.{LiesWithin, textHeld, itemValue, textStart};
 
 // A value, and how many bytes of text were written.
 pub struct ItemWritten {
@@ -68,7 +68,7 @@ fn reading_len(reading: Reading, s: &[u8]) -> TextLength
 fn reading_write(reading: Reading, s: &[u8], out: &mut [u8]) -> usize
     requires { ⌜ Readable reading (length (now s)) × (length (textBy reading (now s)) ≤ length (now out)) ⌝ }
     ensures count { λ r. ⌜ r ≡ length (textBy reading (now (s .entry))) ⌝ }
-    ensures bytes { λ _. ⌜ now (out .exit) ≡ written (textBy reading (now (s .entry))) (now (out .entry)) ⌝ }
+    ensures bytes { λ _. ⌜ now (out .exit) ≡ overwritten (textBy reading (now (s .entry))) (now (out .entry)) ⌝ }
 {
     match reading {
         Reading::By(conversion) => text_write(conversion, s, out),
@@ -102,9 +102,9 @@ fn text_start(t: Db2Type) -> usize
 
 // The length of the text of an item of type t, and whether the text is the bytes themselves, from text_start on.
 pub fn item_len(item: CellItem, bytes: &[u8], t: Db2Type) -> TextLength
-    requires { ⌜ (length (now bytes) ≤ inputLimit) × Within item (now bytes) ⌝ }
-    ensures len { λ r. ⌜ r .len ≡ length (itemText item (now (bytes .entry))) ⌝ }
-    ensures plain { λ r. ⌜ (r .plain ≡ true → itemText item (now (bytes .entry)) ≡ drop (textStart t) (now (bytes .entry))) ⌝ }
+    requires { ⌜ (length (now bytes) ≤ inputLimit) × LiesWithin item (now bytes) ⌝ }
+    ensures len { λ r. ⌜ r .len ≡ length (textHeld item (now (bytes .entry))) ⌝ }
+    ensures plain { λ r. ⌜ (r .plain ≡ true → textHeld item (now (bytes .entry)) ≡ drop (textStart t) (now (bytes .entry))) ⌝ }
 {
     match item {
         CellItem::Text {
@@ -131,7 +131,7 @@ pub fn item_len(item: CellItem, bytes: &[u8], t: Db2Type) -> TextLength
 
 // The same item of `count` bytes, where `plain` says that its text is the bytes themselves: read as they stand.
 pub fn item_read(item: CellItem, plain: bool, t: Db2Type, count: usize) -> CellItem
-    ensures { λ r. ⌜ ((s : List ℕ) → length s ≡ count → (plain ≡ true → itemText item s ≡ drop (textStart t) s) → (i : Item) → Holds item s i → Holds r s i) ⌝ }
+    ensures { λ r. ⌜ ((s : List ℕ) → length s ≡ count → (plain ≡ true → textHeld item s ≡ drop (textStart t) s) → (i : Item) → Holds item s i → Holds r s i) ⌝ }
 {
     if !plain {
         return item;
@@ -199,10 +199,10 @@ pub fn item_write(
     next: usize,
     out: &mut [u8],
 ) -> ItemWritten
-    requires { ⌜ (at + length (now bytes) ≤ inputLimit) × (Within item (now bytes) × (length (itemText item (now bytes)) ≤ length (now out))) ⌝ }
+    requires { ⌜ (at + length (now bytes) ≤ inputLimit) × (LiesWithin item (now bytes) × (length (textHeld item (now bytes)) ≤ length (now out))) ⌝ }
     ensures value { λ r. ⌜ r .value ≡ itemValue item (now (bytes .entry)) at next ⌝ }
-    ensures count { λ r. ⌜ r .written ≡ length (itemText item (now (bytes .entry))) ⌝ }
-    ensures bytes { λ _. ⌜ now (out .exit) ≡ written (itemText item (now (bytes .entry))) (now (out .entry)) ⌝ }
+    ensures count { λ r. ⌜ r .written ≡ length (textHeld item (now (bytes .entry))) ⌝ }
+    ensures bytes { λ _. ⌜ now (out .exit) ≡ overwritten (textHeld item (now (bytes .entry))) (now (out .entry)) ⌝ }
 {
     match item {
         CellItem::Nothing => ItemWritten {

@@ -26,13 +26,13 @@ ghost use Prim.Native.Nat.{ℕ, _+_, _<_, _≤_};
 ghost use lib.ListN.{length};
 ghost use Rattle.refusal.specs.Refusal.{inputLimit};
 ghost use Rattle.types.specs.Places.{blankValue};
-ghost use Rattle.buffer.specs.Buffer.{written};
+ghost use Rattle.buffer.specs.Buffer.{overwritten};
 ghost use Rattle.rules.specs.Extent.{need, extentOf};
 ghost use Rattle.rules.specs.Walk.{short, skipOf, columnNeed, cellShort};
-ghost use Rattle.rules.specs.Row.{pieceValue};
+ghost use Rattle.rules.specs.Row.{cellValue};
 ghost use Rattle.rules.specs.Conversions.{ported};
 ghost use Rattle.cell.specs.Inner.{mostNeed};
-ghost use Rattle.piece.specs.Piece.{isNull, Numbers, numberPlace, valueIn, valueText, pieceIn, pieceText, PlainPiece};
+ghost use Rattle.piece.specs.Piece.{isNull, HoldsNumber, numberPlace, valueIn, valueText, cellIn, cellText, PlainCell};
 ghost use Rattle.piece.specs.Marks.{markAt};
 
 // The Rust's two numbers of a row that is too short.
@@ -91,7 +91,7 @@ pub fn lead(nullable: bool) -> usize
 // The byte count of a type's values where they are numbers; else 0. Numbers are decoded where they stand: a call with a slice and a column, both
 // through memory, takes longer than the decoding.
 fn number_bytes(t: Db2Type) -> usize
-    ensures { λ r. ⌜ Numbers r t × (r ≤ 8) ⌝ }
+    ensures { λ r. ⌜ HoldsNumber r t × (r ≤ 8) ⌝ }
 {
     match t {
         Db2Type::SmallInt => 2,
@@ -173,7 +173,7 @@ fn other_length(rest: &[u8], column: ColumnDescriptor) -> PieceLength
     requires limit { ⌜ length (now rest) ≤ inputLimit ⌝ }
     ensures used { λ r. ⌜ r .used ≡ need (extentOf column) (now (rest .entry)) ⌝ }
     ensures len { λ r. ⌜ r .len ≡ length (valueText column (now (rest .entry))) ⌝ }
-    ensures plain { λ r. ⌜ (r .plain ≡ true → PlainPiece (valueIn column 0 (now (rest .entry)))) ⌝ }
+    ensures plain { λ r. ⌜ (r .plain ≡ true → PlainCell (valueIn column 0 (now (rest .entry)))) ⌝ }
 {
     let used = column_need(rest, column);
     let item = decode_column_value(rest, column);
@@ -192,7 +192,7 @@ fn value_length(rest: &[u8], column: ColumnDescriptor) -> PieceLength
     requires limit { ⌜ length (now rest) ≤ inputLimit ⌝ }
     ensures used { λ r. ⌜ r .used ≡ need (extentOf column) (now (rest .entry)) ⌝ }
     ensures len { λ r. ⌜ r .len ≡ length (valueText column (now (rest .entry))) ⌝ }
-    ensures plain { λ r. ⌜ (r .plain ≡ true → PlainPiece (valueIn column 0 (now (rest .entry)))) ⌝ }
+    ensures plain { λ r. ⌜ (r .plain ≡ true → PlainCell (valueIn column 0 (now (rest .entry)))) ⌝ }
 {
     let t = column.db2_type;
     let n = number_bytes(t);
@@ -211,8 +211,8 @@ pub fn piece_length(rest: &[u8], column: ColumnDescriptor) -> PieceLength
     requires there { ⌜ columnNeed column (now rest) ≤ length (now rest) ⌝ }
     requires limit { ⌜ length (now rest) ≤ inputLimit ⌝ }
     ensures used { λ r. ⌜ r .used ≡ columnNeed column (now (rest .entry)) ⌝ }
-    ensures len { λ r. ⌜ r .len ≡ length (pieceText column (now (rest .entry))) ⌝ }
-    ensures plain { λ r. ⌜ ((at : ℕ) → r .plain ≡ true → PlainPiece (pieceIn column at (now (rest .entry)))) ⌝ }
+    ensures len { λ r. ⌜ r .len ≡ length (cellText column (now (rest .entry))) ⌝ }
+    ensures plain { λ r. ⌜ ((at : ℕ) → r .plain ≡ true → PlainCell (cellIn column at (now (rest .entry)))) ⌝ }
 {
     if is_null(rest, column.nullable) {
         return PieceLength {
@@ -258,11 +258,11 @@ fn other_write(
     requires there { ⌜ need (extentOf column) (now rest) ≤ length (now rest) ⌝ }
     requires limit { ⌜ at + length (now rest) ≤ inputLimit ⌝ }
     requires room { ⌜ length (valueText column (now rest)) ≤ length (now out) ⌝ }
-    requires plain { ⌜ (k < 768) × (markAt (now marks) k ≡ true → PlainPiece (valueIn column at (now rest))) ⌝ }
-    ensures place { λ r. ⌜ r .place ≡ pieceValue ported (valueIn column at (now (rest .entry))) next ⌝ }
+    requires plain { ⌜ (k < 768) × (markAt (now marks) k ≡ true → PlainCell (valueIn column at (now rest))) ⌝ }
+    ensures place { λ r. ⌜ r .place ≡ cellValue ported (valueIn column at (now (rest .entry))) next ⌝ }
     ensures used { λ r. ⌜ r .used ≡ need (extentOf column) (now (rest .entry)) ⌝ }
     ensures count { λ r. ⌜ r .written ≡ length (valueText column (now (rest .entry))) ⌝ }
-    ensures bytes { λ _. ⌜ now (out .exit) ≡ written (valueText column (now (rest .entry))) (now (out .entry)) ⌝ }
+    ensures bytes { λ _. ⌜ now (out .exit) ≡ overwritten (valueText column (now (rest .entry))) (now (out .entry)) ⌝ }
 {
     let used = column_need(rest, column);
     let found = decode_column_value(rest, column);
@@ -293,11 +293,11 @@ pub fn value_write(
     requires there { ⌜ need (extentOf column) (now rest) ≤ length (now rest) ⌝ }
     requires limit { ⌜ at + length (now rest) ≤ inputLimit ⌝ }
     requires room { ⌜ length (valueText column (now rest)) ≤ length (now out) ⌝ }
-    requires plain { ⌜ (k < 768) × (markAt (now marks) k ≡ true → PlainPiece (valueIn column at (now rest))) ⌝ }
-    ensures place { λ r. ⌜ r .place ≡ pieceValue ported (valueIn column at (now (rest .entry))) next ⌝ }
+    requires plain { ⌜ (k < 768) × (markAt (now marks) k ≡ true → PlainCell (valueIn column at (now rest))) ⌝ }
+    ensures place { λ r. ⌜ r .place ≡ cellValue ported (valueIn column at (now (rest .entry))) next ⌝ }
     ensures used { λ r. ⌜ r .used ≡ need (extentOf column) (now (rest .entry)) ⌝ }
     ensures count { λ r. ⌜ r .written ≡ length (valueText column (now (rest .entry))) ⌝ }
-    ensures bytes { λ _. ⌜ now (out .exit) ≡ written (valueText column (now (rest .entry))) (now (out .entry)) ⌝ }
+    ensures bytes { λ _. ⌜ now (out .exit) ≡ overwritten (valueText column (now (rest .entry))) (now (out .entry)) ⌝ }
 {
     let t = column.db2_type;
     let order = column.byte_order;
@@ -324,12 +324,12 @@ pub fn piece_write(
 ) -> PieceWritten
     requires there { ⌜ columnNeed column (now rest) ≤ length (now rest) ⌝ }
     requires limit { ⌜ at + length (now rest) ≤ inputLimit ⌝ }
-    requires room { ⌜ length (pieceText column (now rest)) ≤ length (now out) ⌝ }
-    requires plain { ⌜ (k < 768) × (markAt (now marks) k ≡ true → PlainPiece (pieceIn column at (now rest))) ⌝ }
-    ensures place { λ r. ⌜ r .place ≡ pieceValue ported (pieceIn column at (now (rest .entry))) next ⌝ }
+    requires room { ⌜ length (cellText column (now rest)) ≤ length (now out) ⌝ }
+    requires plain { ⌜ (k < 768) × (markAt (now marks) k ≡ true → PlainCell (cellIn column at (now rest))) ⌝ }
+    ensures place { λ r. ⌜ r .place ≡ cellValue ported (cellIn column at (now (rest .entry))) next ⌝ }
     ensures used { λ r. ⌜ r .used ≡ columnNeed column (now (rest .entry)) ⌝ }
-    ensures count { λ r. ⌜ r .written ≡ length (pieceText column (now (rest .entry))) ⌝ }
-    ensures bytes { λ _. ⌜ now (out .exit) ≡ written (pieceText column (now (rest .entry))) (now (out .entry)) ⌝ }
+    ensures count { λ r. ⌜ r .written ≡ length (cellText column (now (rest .entry))) ⌝ }
+    ensures bytes { λ _. ⌜ now (out .exit) ≡ overwritten (cellText column (now (rest .entry))) (now (out .entry)) ⌝ }
 {
     if is_null(rest, column.nullable) {
         return null_piece();

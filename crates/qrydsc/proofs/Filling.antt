@@ -12,12 +12,12 @@ use Rattle.refusal.specs.Refusal.{accepted}
 use Rattle.types.specs.declared.ColumnDescriptor.{ColumnDescriptor}
 use Rattle.types.specs.declared.Columns.{Columns}
 use Rattle.types.specs.Places.{maxColumns, filled, blankColumn, columnList}
-use Rattle.qrydsc.specs.Qrydsc.{number, numbered, DescriptionTold, refusal, listed}
+use Rattle.qrydsc.specs.Qrydsc.{withIndex, numbered, DescriptionTold, refusedDescription, listAnswer}
 
 -- places cs of which k are used, and columns that are still to be put there
 unfoldable pub fill : List ColumnDescriptor → ℕ → List ColumnDescriptor → DescriptionTold
 fill cs k [] = record { outcome = accepted; columns = record { columns = cs; count = k } }
-fill cs k (d ∷ ds) = cond (ltb k maxColumns) (fill (set cs k (number k d)) (k + 1) ds) (refusal 2 [])
+fill cs k (d ∷ ds) = cond (ltb k maxColumns) (fill (set cs k (withIndex k d)) (k + 1) ds) (refusedDescription 2 [])
 
 filled-set : {A : Type 0} (b : A) (xs : List A) (x : A) → length xs < maxColumns → set (filled b xs) (length xs) x ≡ filled b (xs ++ (x ∷ []))
 unfolding filled
@@ -30,16 +30,16 @@ filled-set {A} b xs x h =
 
 abbrev answer : List ColumnDescriptor → List ColumnDescriptor → DescriptionTold
 answer xs ds =
-    cond (ltb maxColumns (length xs + length ds)) (refusal 2 [])
+    cond (ltb maxColumns (length xs + length ds)) (refusedDescription 2 [])
     (record { outcome = accepted; columns = columnList (xs ++ numbered (length xs) ds) })
 
 fill-after : (ds xs : List ColumnDescriptor) → length xs ≤ maxColumns → fill (filled blankColumn xs) (length xs) ds ≡ answer xs ds
 unfolding fill numbered columnList
 fill-after [] xs h = rw (le-ltb maxColumns (length xs + 0) (omega arith), append-nil)
-fill-after (d ∷ ds) xs h = go (fill-after ds (xs ++ (number (length xs) d ∷ []))) (ltb (length xs) maxColumns) refl
+fill-after (d ∷ ds) xs h = go (fill-after ds (xs ++ (withIndex (length xs) d ∷ []))) (ltb (length xs) maxColumns) refl
   where
     x : ColumnDescriptor
-    x = number (length xs) d
+    x = withIndex (length xs) d
 
     go : (length (xs ++ (x ∷ [])) ≤ maxColumns
         → fill (filled blankColumn (xs ++ (x ∷ []))) (length (xs ++ (x ∷ []))) ds ≡ answer (xs ++ (x ∷ [])) ds)
@@ -57,6 +57,6 @@ fill-after (d ∷ ds) xs h = go (fill-after ds (xs ++ (number (length xs) d ∷ 
         rw (t, lt-ltb maxColumns (length xs + suc (length ds)) (omega arith))
 
 -- from blank places
-pub fill-all : (ds : List ColumnDescriptor) → fill (replicate maxColumns blankColumn) 0 ds ≡ listed ds
-unfolding filled listed
+pub fill-all : (ds : List ColumnDescriptor) → fill (replicate maxColumns blankColumn) 0 ds ≡ listAnswer ds
+unfolding filled listAnswer
 fill-all ds = let z : 0 + length ds ≡ length ds = omega arith in fill-after ds [] (omega arith) ∙ rw z

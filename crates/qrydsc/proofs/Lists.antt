@@ -14,7 +14,7 @@ use Rattle.types.specs.declared.ColumnDescriptor.{ColumnDescriptor}
 use Rattle.types.specs.declared.Columns.{Columns}
 use Rattle.types.specs.Places.{maxColumns, filled, blankColumn, columnList}
 use Rattle.triplets.specs.Descriptors.{columnsOf}
-use Rattle.qrydsc.specs.Qrydsc.{number, numbered, DescriptionTold, listed, maxQrydsc, description}
+use Rattle.qrydsc.specs.Qrydsc.{withIndex, numbered, DescriptionTold, listAnswer, maxQrydsc, description}
 
 -- the column at a place
 abbrev pub columnAt : Columns → ℕ → ColumnDescriptor
@@ -63,11 +63,11 @@ ordered-none : Ordered (columnList [])
 unfolding numbered
 ordered-none = ordered [] (omega arith)
 
-ordered-listed : (cs : List ColumnDescriptor) → Ordered (listed cs .columns)
-unfolding listed
+ordered-listed : (cs : List ColumnDescriptor) → Ordered (listAnswer cs .columns)
+unfolding listAnswer
 ordered-listed cs = go (ltb maxColumns (length cs)) refl
   where
-    go : (b : Bool) → ltb maxColumns (length cs) ≡ b → Ordered (listed cs .columns)
+    go : (b : Bool) → ltb maxColumns (length cs) ≡ b → Ordered (listAnswer cs .columns)
     go true t = rw t ordered-none
     go false t = rw t (ordered cs (ltb-false maxColumns (length cs) t))
 

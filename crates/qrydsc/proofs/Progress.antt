@@ -15,15 +15,15 @@ use Rattle.triplets.specs.declared.Cursor.the-variants as cursor
 use Rattle.triplets.specs.declared.Step.the-variants as step
 use Rattle.triplets.specs.Descriptors.{noEntries, declare, columnsFrom, columnsOf}
 use Rattle.triplets.specs.Triplets.{reading}
-use Rattle.triplets.specs.Steps.{toCome, Within, Goes, Leads}
+use Rattle.triplets.specs.Steps.{toCome, CursorWithin, Goes, Leads}
 use Rattle.triplets.proofs.Slices.{slice-all}
-use Rattle.qrydsc.specs.Qrydsc.{number, refusal, listed}
+use Rattle.qrydsc.specs.Qrydsc.{withIndex, refusedDescription, listAnswer}
 use Rattle.qrydsc.proofs.Filling.{fill, fill-all}
 
 -- places cs of which k are used, with an environment, at a cursor
 pub record Progress (s : List ℕ) (cs : List ColumnDescriptor) (k : ℕ) (env : List EnvEntry) (c : Cursor) : Type 0 where
-  pub within : Within s c
-  pub same : fill cs k (toCome s env c) ≡ listed (columnsOf s)
+  pub within : CursorWithin s c
+  pub same : fill cs k (toCome s env c) ≡ listAnswer (columnsOf s)
 
 -- at the start all columns are to come
 pub all-to-come : (s : List ℕ) → toCome s noEntries (cursor.Outer pending.Nothing 0) ≡ columnsOf s
@@ -34,7 +34,7 @@ pub progress-start : (s : List ℕ) → Progress s (replicate maxColumns blankCo
 progress-start s = record { within = omega arith; same = rw (all-to-come s) (fill-all (columnsOf s)) }
 
 module _ (s : List ℕ) (cs : List ColumnDescriptor) (k : ℕ) (env : List EnvEntry) (c : Cursor) (i : Progress s cs k env c) where
-  pub progress-end : Leads s c step.End → fill cs k [] ≡ listed (columnsOf s)
+  pub progress-end : Leads s c step.End → fill cs k [] ≡ listAnswer (columnsOf s)
   progress-end h = (rw (h env) at (i .same))
 
   pub progress-skip : (n : Cursor) → Leads s c (step.Skip n) → Progress s cs k env n
@@ -46,10 +46,10 @@ module _ (s : List ℕ) (cs : List ColumnDescriptor) (k : ℕ) (env : List EnvEn
 
   -- a column more
   module _ (d : List EnvEntry → ColumnDescriptor) (n : Cursor) (g : Goes s c n (λ e. d e ∷ toCome s e n)) where
-    pub progress-full : maxColumns ≤ k → refusal 2 [] ≡ listed (columnsOf s)
+    pub progress-full : maxColumns ≤ k → refusedDescription 2 [] ≡ listAnswer (columnsOf s)
     unfolding fill
     progress-full h = (rw (g .same env, le-ltb k maxColumns h) at (i .same))
 
-    pub progress-column : k < maxColumns → Progress s (set cs k (number k (d env))) (k + 1) env n
+    pub progress-column : k < maxColumns → Progress s (set cs k (withIndex k (d env))) (k + 1) env n
     unfolding fill
     progress-column h = record { within = g .within; same = (rw (g .same env, lt-ltb k maxColumns h) at (i .same)) }

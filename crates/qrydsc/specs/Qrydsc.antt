@@ -12,8 +12,8 @@ use Rattle.triplets.specs.Descriptors.{columnsOf}
 use Rattle.qrydsc.specs.declared.Description.{Description}
 
 -- a column with its number
-abbrev pub number : ℕ → ColumnDescriptor → ColumnDescriptor
-number k c =
+abbrev pub withIndex : ℕ → ColumnDescriptor → ColumnDescriptor
+withIndex k c =
     record {
       «column_index» = k;
       «drda_type» = c .«drda_type»;
@@ -30,7 +30,7 @@ number k c =
 -- columns numbered in order, from k on
 unfoldable pub numbered : ℕ → List ColumnDescriptor → List ColumnDescriptor
 numbered k [] = []
-numbered k (c ∷ cs) = number k c ∷ numbered (k + 1) cs
+numbered k (c ∷ cs) = withIndex k c ∷ numbered (k + 1) cs
 
 -- an answer by the rules' numbers: what is said of the description, and the column list
 pub record DescriptionTold : Type 0 where
@@ -41,17 +41,17 @@ abbrev pub toldDescription : Description → DescriptionTold
 toldDescription d = record { outcome = told (d .outcome); columns = d .columns }
 
 -- H4, H7: no column, and every place blank
-abbrev pub refusal : ℕ → List ℕ → DescriptionTold
-refusal n vs = record { outcome = refused n vs; columns = columnList [] }
+abbrev pub refusedDescription : ℕ → List ℕ → DescriptionTold
+refusedDescription n vs = record { outcome = refused n vs; columns = columnList [] }
 
 -- the answer to a list of columns: refusal 2, else the list, numbered from 0
-unfoldable pub listed : List ColumnDescriptor → DescriptionTold
-listed cs =
-    cond (ltb maxColumns (length cs)) (refusal 2 []) (record { outcome = accepted; columns = columnList (numbered 0 cs) })
+unfoldable pub listAnswer : List ColumnDescriptor → DescriptionTold
+listAnswer cs =
+    cond (ltb maxColumns (length cs)) (refusedDescription 2 []) (record { outcome = accepted; columns = columnList (numbered 0 cs) })
 
 -- the most bytes of a description: refusal 1 above it
 abbrev pub maxQrydsc : ℕ
 maxQrydsc = 65536
 
 unfoldable pub description : List ℕ → DescriptionTold
-description s = cond (ltb maxQrydsc (length s)) (refusal 1 []) (listed (columnsOf s))
+description s = cond (ltb maxQrydsc (length s)) (refusedDescription 1 []) (listAnswer (columnsOf s))

@@ -15,7 +15,7 @@ use types::ReferenceLength;
 ghost use mathlib.Core.Path.{_≡_};
 ghost use Rattle.refusal.specs.Refusal.{refusalNumber, refusalValues};
 ghost use Rattle.types.specs.Places.{blankColumn};
-ghost use Rattle.qrydsc.specs.Qrydsc.{toldDescription, description, refusal};
+ghost use Rattle.qrydsc.specs.Qrydsc.{toldDescription, description, refusedDescription};
 
 // How many bytes a description may have. specs/Qrydsc.antt calls it maxQrydsc.
 pub const MAX_QRYDSC: usize = 65536;
@@ -44,7 +44,7 @@ fn blank_column() -> ColumnDescriptor
 }
 
 fn refused(r: Refusal) -> Description
-    ensures { λ d. ⌜ toldDescription d ≡ refusal (refusalNumber r) (refusalValues r) ⌝ }
+    ensures { λ d. ⌜ toldDescription d ≡ refusedDescription (refusalNumber r) (refusalValues r) ⌝ }
 {
     let blank = blank_column();
     let columns = [blank; MAX_COLUMNS];

@@ -41,14 +41,14 @@ told Accepted = accepted
 told (Refused r) = refused (refusalNumber r) (refusalValues r)
 
 -- the refusal's number, and 0 where there is none
-abbrev pub number : Told → ℕ
-number accepted = 0
-number (refused n vs) = n
+abbrev pub toldNumber : Told → ℕ
+toldNumber accepted = 0
+toldNumber (refused n vs) = n
 
--- the refusal's value at a place, from 0; and 0 where it has none
-abbrev pub value : Told → ℕ → ℕ
-value accepted place = 0
-value (refused n vs) place = getD vs place 0
+-- the refusal's value number k, from 0; and 0 where it has none
+abbrev pub toldValue : Told → ℕ → ℕ
+toldValue accepted k = 0
+toldValue (refused n vs) k = getD vs k 0
 
 -- the most bytes of a row, and for a text conversion called alone: refusal 4 above it
 abbrev pub inputLimit : ℕ

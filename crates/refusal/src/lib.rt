@@ -2,7 +2,7 @@
 // crate takes a Refusal apart. It has no text for people: the numbers are those of docs/RULES.md, "Refusals".
 ghost use mathlib.Core.Path.{_≡_};
 ghost use lib.ListN.{getD};
-ghost use Rattle.refusal.specs.Refusal.{refusalNumber, refusalValues, told, number, value};
+ghost use Rattle.refusal.specs.Refusal.{refusalNumber, refusalValues, told, toldNumber, toldValue};
 
 // The most bytes of a row, and for a text conversion called alone.
 pub const INPUT_LIMIT: usize = 1048576;
@@ -116,7 +116,7 @@ pub enum Outcome {
 impl Outcome {
     // The refusal's number, and 0 where there is none.
     pub fn number(self) -> u32
-        ensures { λ r. ⌜ r ≡ number (told self) ⌝ }
+        ensures { λ r. ⌜ r ≡ toldNumber (told self) ⌝ }
     {
         match self {
             Outcome::Accepted => 0,
@@ -126,7 +126,7 @@ impl Outcome {
 
     // The refusal's first value, and 0 where it has none.
     pub fn first_value(self) -> usize
-        ensures { λ r. ⌜ r ≡ value (told self) 0 ⌝ }
+        ensures { λ r. ⌜ r ≡ toldValue (told self) 0 ⌝ }
     {
         match self {
             Outcome::Accepted => 0,
@@ -136,7 +136,7 @@ impl Outcome {
 
     // The refusal's second value, and 0 where it has none.
     pub fn second_value(self) -> usize
-        ensures { λ r. ⌜ r ≡ value (told self) 1 ⌝ }
+        ensures { λ r. ⌜ r ≡ toldValue (told self) 1 ⌝ }
     {
         match self {
             Outcome::Accepted => 0,

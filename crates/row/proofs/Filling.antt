@@ -7,10 +7,10 @@ use lib.ListN.{length, take, drop, set, replicate}
 use Rattle.types.specs.declared.ColumnDescriptor.{ColumnDescriptor}
 use Rattle.types.specs.declared.ValuePlace.{ValuePlace}
 use Rattle.types.specs.Places.{maxColumns, filled, blankValue}
-use Rattle.buffer.specs.Buffer.{written}
+use Rattle.buffer.specs.Buffer.{overwritten}
 use Rattle.buffer.proofs.Writing.{Writing, fits}
-use Rattle.rules.specs.Walk.{columnNeed, Piece, done, walkBody}
-use Rattle.rules.specs.Row.{pieceValue, rowValues, rowTexts}
+use Rattle.rules.specs.Walk.{columnNeed, Cell, done, walkBody}
+use Rattle.rules.specs.Row.{cellValue, rowValues, rowTexts}
 use Rattle.rules.specs.Conversions.{ported}
 use Rattle.rules.proofs.Walks.{piecesOf}
 use Rattle.rules.proofs.Progress.{pieceAt, textIn, Placing, placing-start, placing-step, placing-end, placed-start, placed-step}
@@ -21,11 +21,11 @@ next-within w = omega (arith, fits w)
 
 -- the columns cs of the input s, whose walk ends at `end`; d is the text buffer as it was
 module _ (cs : List ColumnDescriptor) (start : ℕ) (s : List ℕ) (end : ℕ) (d : List ℕ) where
-  abbrev pub pieces : List Piece
+  abbrev pub pieces : List Cell
   pieces = piecesOf (walkBody cs start s)
 
   pub record Filling (places : List ValuePlace) (i at next : ℕ) (out : List ℕ) : Type 0 where
-    pub passed : List Piece
+    pub passed : List Cell
     pub placing : Placing ported cs start s pieces end d passed i at next out
     pub placed : places ≡ filled blankValue (rowValues ported passed 0)
 
@@ -40,8 +40,8 @@ module _ (cs : List ColumnDescriptor) (start : ℕ) (s : List ℕ) (end : ℕ) (
 
   pub filling-step : {places : List ValuePlace} {i at next : ℕ} {out : List ℕ} → (f : Filling places i at next out)
       → (c : ColumnDescriptor) → drop i cs ≡ c ∷ drop (i + 1) cs → (r : List ℕ) → r ≡ drop at s → i < maxColumns
-      → (v : ValuePlace) → v ≡ pieceValue ported (pieceAt c at r) next → (n k : ℕ) → n ≡ columnNeed c r → k ≡ length (textIn ported c r)
-      → (ys : List ℕ) → ys ≡ written (textIn ported c r) (take (length out - next) (drop next out))
+      → (v : ValuePlace) → v ≡ cellValue ported (pieceAt c at r) next → (n k : ℕ) → n ≡ columnNeed c r → k ≡ length (textIn ported c r)
+      → (ys : List ℕ) → ys ≡ overwritten (textIn ported c r) (take (length out - next) (drop next out))
       → Filling (set places i v) (i + 1) (at + n) (next + k) (take next out ++ (ys ++ drop (length out - next) (drop next out)))
   filling-step {places} {i} {at} {next} {out} f c e r q h v g n k y z ys w =
       record {
@@ -51,7 +51,7 @@ module _ (cs : List ColumnDescriptor) (start : ℕ) (s : List ℕ) (end : ℕ) (
       }
 
   pub filling-end : {places : List ValuePlace} {i at next : ℕ} {out : List ℕ} → Filling places i at next out → length cs ≤ i
-      → (places ≡ filled blankValue (rowValues ported pieces 0)) × (at ≡ end) × (out ≡ written (rowTexts ported pieces) d)
+      → (places ≡ filled blankValue (rowValues ported pieces 0)) × (at ≡ end) × (out ≡ overwritten (rowTexts ported pieces) d)
   filling-end f h =
       let e = placing-end ported cs start s pieces end d (f .placing) h in
-      (f .placed ∙ ap (λ (l : List Piece). filled blankValue (rowValues ported l 0)) (sym (e .0)), sym (e .1), e .2)
+      (f .placed ∙ ap (λ (l : List Cell). filled blankValue (rowValues ported l 0)) (sym (e .0)), sym (e .1), e .2)

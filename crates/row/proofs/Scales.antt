@@ -17,7 +17,7 @@ use Rattle.rules.specs.Row.{covered, rowTexts}
 use Rattle.rules.specs.Conversions.{ported}
 use Rattle.rules.proofs.Walks.{piecesOf}
 use Rattle.rules.proofs.Progress.{end-within}
-use Rattle.piece.proofs.Bound.{Scaled, AllScaled, Bytes, texts-bound}
+use Rattle.piece.proofs.Bound.{Scaled, AllScaled, AreBytes, texts-bound}
 use Rattle.row.specs.Whole.{Whole}
 use Rattle.row.proofs.Wholes.{whole-is}
 
@@ -38,7 +38,7 @@ covered-scaled (suc n) [] h = tt
 covered-scaled (suc n) (c ∷ cs) h = (h .0, covered-scaled n cs (h .1))
 
 -- the texts of a row of the columns l, all of which have their bytes
-pub covered-bound : (l : Columns) → l .count ≤ length (l .columns) → AllScaled (l .columns) → (start end : ℕ) (s : List ℕ) → Bytes s → start ≤ length s
+pub covered-bound : (l : Columns) → l .count ≤ length (l .columns) → AllScaled (l .columns) → (start end : ℕ) (s : List ℕ) → AreBytes s → start ≤ length s
     → Whole (walkBody (covered l) start s) end → length (rowTexts ported (piecesOf (walkBody (covered l) start s))) ≤ 3 * (end - start) + 258 * l .count
 covered-bound l enough scaled start end s bytes h w =
     let within = end-within (covered l) start s _ end h (whole-is w) in

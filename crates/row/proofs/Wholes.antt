@@ -5,27 +5,27 @@ use mathlib.Core.List.{List, [], _∷_}
 use lib.ListN.{length}
 use borrow.Author.Tests.{lt-ltb, le-ltb}
 use Rattle.types.specs.declared.ColumnDescriptor.{ColumnDescriptor}
-use Rattle.rules.specs.Walk.{Piece, Walk, done, short, walkBody}
-use Rattle.rules.specs.Row.{rowTexts, refusal, acceptance, walkDecision, bodyDecision}
+use Rattle.rules.specs.Walk.{Cell, Walk, done, short, walkBody}
+use Rattle.rules.specs.Row.{rowTexts, refuse, accept, walkDecision, bodyDecision}
 use Rattle.rules.specs.Conversions.{ported}
 use Rattle.rules.proofs.Walks.{piecesOf}
 use Rattle.row.specs.Whole.{Whole}
 
 pub whole-is : {w : Walk} {end : ℕ} → Whole w end → w ≡ done (piecesOf w) end
-whole-is {w} {end} h = h .is ∙ ap (λ (ps : List Piece). done ps end) (sym (ap piecesOf (h .is)))
+whole-is {w} {end} h = h .is ∙ ap (λ (ps : List Cell). done ps end) (sym (ap piecesOf (h .is)))
 
 -- ---- what is decided for the text buffer d
 
 module _ (cs : List ColumnDescriptor) (start : ℕ) (s d : List ℕ) where
-  pub decided-short : {x y : ℕ} → walkBody cs start s ≡ short x y → bodyDecision ported cs start s d ≡ refusal 8 (x ∷ y ∷ [])
+  pub decided-short : {x y : ℕ} → walkBody cs start s ≡ short x y → bodyDecision ported cs start s d ≡ refuse 8 (x ∷ y ∷ [])
   unfolding bodyDecision walkDecision
   decided-short e = rw e
 
-  module _ {ps : List Piece} {end : ℕ} (e : walkBody cs start s ≡ done ps end) where
-    pub decided-lacking : {n : ℕ} → n ≡ length (rowTexts ported ps) → length d < n → bodyDecision ported cs start s d ≡ refusal 9 (n ∷ [])
+  module _ {ps : List Cell} {end : ℕ} (e : walkBody cs start s ≡ done ps end) where
+    pub decided-lacking : {n : ℕ} → n ≡ length (rowTexts ported ps) → length d < n → bodyDecision ported cs start s d ≡ refuse 9 (n ∷ [])
     unfolding bodyDecision walkDecision
     decided-lacking {n} q h = rw (e, ← q, lt-ltb (length d) n h)
 
-    pub decided-accepted : length (rowTexts ported ps) ≤ length d → bodyDecision ported cs start s d ≡ acceptance ps end
+    pub decided-accepted : length (rowTexts ported ps) ≤ length d → bodyDecision ported cs start s d ≡ accept ps end
     unfolding bodyDecision walkDecision
     decided-accepted h = rw (e, le-ltb (length d) (length (rowTexts ported ps)) h)

@@ -13,10 +13,10 @@ use Rattle.conversion.specs.declared.Conversion.{Conversion}
 use Rattle.conversion.specs.Conversion.{textIn, characterText}
 use Rattle.rules.specs.Extent.{be16, need, extentOf}
 use Rattle.rules.specs.Meaning.{itemIn, varyingItem, isEmptyLob, refersIn}
-use Rattle.rules.specs.Row.{valueOf, textOf, pieceItem, pieceValue}
+use Rattle.rules.specs.Row.{valueOf, itemText, cellItem, cellValue}
 use Rattle.rules.specs.Conversions.{ported}
 use Rattle.rules.proofs.Walks.{drop-take}
-use Rattle.piece.specs.Piece.{valueIn, valueText, textStart, PlainPiece}
+use Rattle.piece.specs.Piece.{valueIn, valueText, textStart, PlainCell}
 use Rattle.words.specs.Words.{typeNamed}
 use Rattle.words.specs.Reading.{columnNamed}
 use Rattle.row_words.specs.Passes.{typeNumbers, timestampBytes, charactersIn, wordsSet, threeSet}
@@ -43,33 +43,33 @@ module _ (a b : ℕ) (s : List ℕ) where
     pub starts : from ≡ textStart (columnNamed a b .«db2_type»)
     pub takes : n ≡ need (extentOf (columnNamed a b)) s
     pub reads : t ≡ valueText (columnNamed a b) s
-    pub put : (v : List ℕ) (q at next : ℕ) → wordsSet v q kind next (length t) ≡ threeSet v q (pieceValue ported (valueIn (columnNamed a b) at s) next)
+    pub put : (v : List ℕ) (q at next : ℕ) → wordsSet v q kind next (length t) ≡ threeSet v q (cellValue ported (valueIn (columnNamed a b) at s) next)
 
   -- the bytes that are copied
-  pub copied : {from n kind : ℕ} {t : List ℕ} → Reads from n kind t → (at : ℕ) → PlainPiece (valueIn (columnNamed a b) at s) → t ≡ drop from (take n s)
-  unfolding pieceItem
+  pub copied : {from n kind : ℕ} {t : List ℕ} → Reads from n kind t → (at : ℕ) → PlainCell (valueIn (columnNamed a b) at s) → t ≡ drop from (take n s)
+  unfolding cellItem
   copied {from} {n} {kind} {t} r at p =
       r .reads ∙ p
       ∙ ap (λ (m : ℕ). drop m (take (need (extentOf (columnNamed a b)) s) s)) (sym (r .starts)) ∙ ap (λ (m : ℕ). drop from (take m s)) (sym (r .takes))
 
   pub decimal-reads : a % 2 ^ 8 ≡ 5 → Reads 0 (packedLength (typeNumbers a % 2 ^ 8)) 8 (decimalText (typeNumbers a / 2 ^ 8) (take (packedLength (typeNumbers a % 2 ^ 8)) s))
-  unfolding columnNamed typeNamed need pieceItem textOf pieceValue itemIn valueOf refersIn isEmptyLob
+  unfolding columnNamed typeNamed need cellItem itemText cellValue itemIn valueOf refersIn isEmptyLob
   decimal-reads e = record { starts = rw e; takes = rw e; reads = rw e; put = λ v q at next. rw e }
 
   pub char-reads : a % 2 ^ 8 ≡ 7 → Reads 0 (typeNumbers a) 9 (charactersIn b 0 (typeNumbers a) s)
-  unfolding columnNamed typeNamed need pieceItem textOf pieceValue itemIn valueOf refersIn isEmptyLob
+  unfolding columnNamed typeNamed need cellItem itemText cellValue itemIn valueOf refersIn isEmptyLob
   char-reads e = record { starts = rw e; takes = rw e; reads = rw e; put = λ v q at next. rw e }
 
   pub date-reads : a % 2 ^ 8 ≡ 15 → Reads 0 10 15 (charactersIn b 0 10 s)
-  unfolding columnNamed typeNamed need pieceItem textOf pieceValue itemIn valueOf refersIn isEmptyLob
+  unfolding columnNamed typeNamed need cellItem itemText cellValue itemIn valueOf refersIn isEmptyLob
   date-reads e = record { starts = rw e; takes = rw e; reads = rw e; put = λ v q at next. rw e }
 
   pub time-reads : a % 2 ^ 8 ≡ 16 → Reads 0 8 16 (charactersIn b 0 8 s)
-  unfolding columnNamed typeNamed need pieceItem textOf pieceValue itemIn valueOf refersIn isEmptyLob
+  unfolding columnNamed typeNamed need cellItem itemText cellValue itemIn valueOf refersIn isEmptyLob
   time-reads e = record { starts = rw e; takes = rw e; reads = rw e; put = λ v q at next. rw e }
 
   pub timestamp-reads : a % 2 ^ 8 ≡ 17 → Reads 0 (timestampBytes b) 17 (charactersIn b 0 (timestampBytes b) s)
-  unfolding columnNamed typeNamed need pieceItem textOf pieceValue itemIn valueOf refersIn isEmptyLob
+  unfolding columnNamed typeNamed need cellItem itemText cellValue itemIn valueOf refersIn isEmptyLob
   timestamp-reads e = record { starts = rw e; takes = rw e; reads = rw e; put = λ v q at next. rw e }
 
   -- a VarChar within the row
@@ -79,5 +79,5 @@ module _ (a b : ℕ) (s : List ℕ) where
     counted-need = rw (e, k)
 
     pub varchar-reads : (n : ℕ) → n ≡ need (extentOf (columnNamed a b)) s → Reads 2 n 10 (charactersIn b 2 n s)
-    unfolding columnNamed typeNamed need pieceItem textOf pieceValue itemIn varyingItem valueOf refersIn isEmptyLob
+    unfolding columnNamed typeNamed need cellItem itemText cellValue itemIn varyingItem valueOf refersIn isEmptyLob
     varchar-reads n f = record { starts = rw e; takes = f; reads = rw (f, e, k); put = λ v q at next. rw (f, e, k) }

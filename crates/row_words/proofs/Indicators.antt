@@ -5,17 +5,17 @@ use mathlib.Core.Bool.{Bool, false, cond}
 use mathlib.Core.List.{List}
 use Rattle.types.specs.Places.{blankValue}
 use Rattle.rules.specs.Extent.{need, extentOf}
-use Rattle.rules.specs.Walk.{Piece, absent, columnNeed, cellPiece}
-use Rattle.rules.specs.Row.{textOf, pieceItem, pieceValue}
+use Rattle.rules.specs.Walk.{Cell, absent, columnNeed, cellOf}
+use Rattle.rules.specs.Row.{itemText, cellItem, cellValue}
 use Rattle.rules.specs.Conversions.{ported}
-use Rattle.piece.specs.Piece.{isNull, pieceIn, valueIn, pieceText, valueText}
+use Rattle.piece.specs.Piece.{isNull, cellIn, valueIn, cellText, valueText}
 use Rattle.piece.proofs.PieceLaws.{leadOf}
 use Rattle.words.specs.Reading.{columnNamed}
 use Rattle.row_words.specs.Passes.{isNullable, wordsSet, threeSet}
 
 -- Null is three zeros
-pub absent-words : (v : List ℕ) (q next : ℕ) → wordsSet v q 0 0 0 ≡ threeSet v q (pieceValue ported absent next)
-unfolding pieceValue blankValue
+pub absent-words : (v : List ℕ) (q next : ℕ) → wordsSet v q 0 0 0 ≡ threeSet v q (cellValue ported absent next)
+unfolding cellValue blankValue
 absent-words v q next = refl
 
 module _ (a b : ℕ) where
@@ -41,9 +41,9 @@ module _ (a b : ℕ) where
     unfolding columnNeed
     plain-takes = rw plain
 
-    pub plain-stands : (at : ℕ) → valueIn (columnNamed a b) at s ≡ pieceIn (columnNamed a b) at s
-    unfolding columnNeed cellPiece
+    pub plain-stands : (at : ℕ) → valueIn (columnNamed a b) at s ≡ cellIn (columnNamed a b) at s
+    unfolding columnNeed cellOf
     plain-stands at = rw plain
 
-    pub plain-reads : valueText (columnNamed a b) s ≡ pieceText (columnNamed a b) s
-    plain-reads = ap (λ (p : Piece). textOf (pieceItem ported p)) (plain-stands 0)
+    pub plain-reads : valueText (columnNamed a b) s ≡ cellText (columnNamed a b) s
+    plain-reads = ap (λ (p : Cell). itemText (cellItem ported p)) (plain-stands 0)

@@ -8,7 +8,7 @@ use lib.ListN.{getD, take}
 use Rattle.numbers.specs.Number.{numberValue, smallIntIn, integerIn, bigIntIn, realIn, doubleIn}
 use Rattle.rules.specs.Extent.{need, extentOf}
 use Rattle.rules.specs.Meaning.{itemIn, isEmptyLob, refersIn}
-use Rattle.rules.specs.Row.{valueOf, textOf, pieceItem, pieceValue}
+use Rattle.rules.specs.Row.{valueOf, itemText, cellItem, cellValue}
 use Rattle.rules.specs.Conversions.{ported}
 use Rattle.piece.specs.Piece.{valueIn, valueText}
 use Rattle.words.specs.Words.{typeNamed}
@@ -62,7 +62,7 @@ module _ (a b : ℕ) (h : a % 2 ^ 8 < 5) where
       by (suc (suc (suc (suc (suc k))))) e l = absurd (omega arith)
 
   pub number-text : (s : List ℕ) → [] ≡ valueText (columnNamed a b) s
-  unfolding columnNamed typeNamed need textOf pieceItem itemIn
+  unfolding columnNamed typeNamed need itemText cellItem itemIn
   number-text s = by (a % 2 ^ 8) refl h
     where
       by : (k : ℕ) → a % 2 ^ 8 ≡ k → k < 5 → [] ≡ valueText (columnNamed a b) s
@@ -74,22 +74,22 @@ module _ (a b : ℕ) (h : a % 2 ^ 8 < 5) where
       by (suc (suc (suc (suc (suc k))))) e l = absurd (omega arith)
 
 module _ (a b : ℕ) (s : List ℕ) (at next : ℕ) where
-  pub small-int-value : a % 2 ^ 8 ≡ 0 → pieceValue ported (valueIn (columnNamed a b) at s) next ≡ record { value = numberValue (smallIntIn (columnNamed a b .«byte_order») (take 2 s)); external = false }
-  unfolding columnNamed typeNamed need pieceValue itemIn valueOf refersIn isEmptyLob
+  pub small-int-value : a % 2 ^ 8 ≡ 0 → cellValue ported (valueIn (columnNamed a b) at s) next ≡ record { value = numberValue (smallIntIn (columnNamed a b .«byte_order») (take 2 s)); external = false }
+  unfolding columnNamed typeNamed need cellValue itemIn valueOf refersIn isEmptyLob
   small-int-value e = rw e
 
-  pub integer-value : a % 2 ^ 8 ≡ 1 → pieceValue ported (valueIn (columnNamed a b) at s) next ≡ record { value = numberValue (integerIn (columnNamed a b .«byte_order») (take 4 s)); external = false }
-  unfolding columnNamed typeNamed need pieceValue itemIn valueOf refersIn isEmptyLob
+  pub integer-value : a % 2 ^ 8 ≡ 1 → cellValue ported (valueIn (columnNamed a b) at s) next ≡ record { value = numberValue (integerIn (columnNamed a b .«byte_order») (take 4 s)); external = false }
+  unfolding columnNamed typeNamed need cellValue itemIn valueOf refersIn isEmptyLob
   integer-value e = rw e
 
-  pub big-int-value : a % 2 ^ 8 ≡ 2 → pieceValue ported (valueIn (columnNamed a b) at s) next ≡ record { value = numberValue (bigIntIn (columnNamed a b .«byte_order») (take 8 s)); external = false }
-  unfolding columnNamed typeNamed need pieceValue itemIn valueOf refersIn isEmptyLob
+  pub big-int-value : a % 2 ^ 8 ≡ 2 → cellValue ported (valueIn (columnNamed a b) at s) next ≡ record { value = numberValue (bigIntIn (columnNamed a b .«byte_order») (take 8 s)); external = false }
+  unfolding columnNamed typeNamed need cellValue itemIn valueOf refersIn isEmptyLob
   big-int-value e = rw e
 
-  pub real-value : a % 2 ^ 8 ≡ 3 → pieceValue ported (valueIn (columnNamed a b) at s) next ≡ record { value = numberValue (realIn (columnNamed a b .«byte_order») (take 4 s)); external = false }
-  unfolding columnNamed typeNamed need pieceValue itemIn valueOf refersIn isEmptyLob
+  pub real-value : a % 2 ^ 8 ≡ 3 → cellValue ported (valueIn (columnNamed a b) at s) next ≡ record { value = numberValue (realIn (columnNamed a b .«byte_order») (take 4 s)); external = false }
+  unfolding columnNamed typeNamed need cellValue itemIn valueOf refersIn isEmptyLob
   real-value e = rw e
 
-  pub double-value : a % 2 ^ 8 ≡ 4 → pieceValue ported (valueIn (columnNamed a b) at s) next ≡ record { value = numberValue (doubleIn (columnNamed a b .«byte_order») (take 8 s)); external = false }
-  unfolding columnNamed typeNamed need pieceValue itemIn valueOf refersIn isEmptyLob
+  pub double-value : a % 2 ^ 8 ≡ 4 → cellValue ported (valueIn (columnNamed a b) at s) next ≡ record { value = numberValue (doubleIn (columnNamed a b .«byte_order») (take 8 s)); external = false }
+  unfolding columnNamed typeNamed need cellValue itemIn valueOf refersIn isEmptyLob
   double-value e = rw e

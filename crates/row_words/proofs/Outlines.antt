@@ -6,8 +6,8 @@ use native.Mathlib.Omega.{arith}
 use borrow.Author.Tests.{lt-ltb, le-ltb}
 use lib.ListN.{length}
 use Rattle.types.specs.declared.ColumnDescriptor.{ColumnDescriptor}
-use Rattle.rules.specs.Walk.{Piece, Walk, done, short, walkBody}
-use Rattle.rules.specs.Row.{Decision, refusal, acceptance, rowTexts, walkDecision, bodyDecision}
+use Rattle.rules.specs.Walk.{Cell, Walk, done, short, walkBody}
+use Rattle.rules.specs.Row.{Decision, refuse, accept, rowTexts, walkDecision, bodyDecision}
 use Rattle.rules.specs.Conversions.{ported}
 use Rattle.rules.proofs.Walks.{piecesOf}
 use Rattle.row_words.specs.declared.Walked.{Walked}
@@ -26,7 +26,7 @@ is-short x y (short p q) h = cc
 
 -- ---- what is decided
 module _ (cs : List ColumnDescriptor) (start : ℕ) (s d : List ℕ) where
-  pub decided-short : (x y : ℕ) → Short x y ≡ outline (walkBody cs start s) → bodyDecision ported cs start s d ≡ refusal 8 (x ∷ y ∷ [])
+  pub decided-short : (x y : ℕ) → Short x y ≡ outline (walkBody cs start s) → bodyDecision ported cs start s d ≡ refuse 8 (x ∷ y ∷ [])
   unfolding bodyDecision walkDecision
   decided-short x y h = rw (is-short x y (walkBody cs start s) h)
 
@@ -35,13 +35,13 @@ module _ (cs : List ColumnDescriptor) (start : ℕ) (s d : List ℕ) where
     unfolding bodyDecision
     by-texts = ap (λ (w : Walk). walkDecision ported w d) (is-done n (walkBody cs start s) h)
 
-    pub decided-text : (k : ℕ) → length d < k → k ≡ length (textsOf (walkBody cs start s)) → bodyDecision ported cs start s d ≡ refusal 9 (k ∷ [])
+    pub decided-text : (k : ℕ) → length d < k → k ≡ length (textsOf (walkBody cs start s)) → bodyDecision ported cs start s d ≡ refuse 9 (k ∷ [])
     unfolding walkDecision
     decided-text k l e =
         let q : k ≡ length (rowTexts ported (piecesOf (walkBody cs start s))) = e ∙ ap length (texts-are (walkBody cs start s)) in
         by-texts ∙ rw (← q, lt-ltb (length d) k l)
 
-    pub decided-accepted : length (textsOf (walkBody cs start s)) ≤ length d → bodyDecision ported cs start s d ≡ acceptance (piecesOf (walkBody cs start s)) n
+    pub decided-accepted : length (textsOf (walkBody cs start s)) ≤ length d → bodyDecision ported cs start s d ≡ accept (piecesOf (walkBody cs start s)) n
     unfolding walkDecision
     decided-accepted l =
         by-texts ∙ rw (le-ltb (length d) (length (rowTexts ported (piecesOf (walkBody cs start s)))) (rw (texts-are (walkBody cs start s)) at l))

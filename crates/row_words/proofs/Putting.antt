@@ -7,19 +7,19 @@ use native.Mathlib.Omega.{arith}
 use lib.ListN.{length, take, drop, set, length-append, length-drop}
 use Rattle.types.specs.declared.ColumnDescriptor.{ColumnDescriptor}
 use Rattle.types.specs.declared.ValuePlace.{ValuePlace}
-use Rattle.buffer.specs.Buffer.{written}
+use Rattle.buffer.specs.Buffer.{overwritten}
 use Rattle.buffer.proofs.Writing as writing
-use Rattle.rules.specs.Walk.{Piece, columnNeed, done, walkBody}
-use Rattle.rules.specs.Row.{pieceValue, rowValues, rowTexts}
+use Rattle.rules.specs.Walk.{Cell, columnNeed, done, walkBody}
+use Rattle.rules.specs.Row.{cellValue, rowValues, rowTexts}
 use Rattle.rules.specs.Conversions.{ported}
 use Rattle.rules.proofs.Progress.{pieceAt, textIn, Placing, placing-start, placing-step, placing-end, values-next, values-length}
 use Rattle.words.specs.Values.{kindWord, numberWord, lengthWord, packValues}
 use Rattle.words.proofs.Packed.{values-packed, stored-value}
 
 -- the row s from `start` on, whose walk is done; the text buffer was d and the words were v
-module _ (cs : List ColumnDescriptor) (start : ℕ) (s : List ℕ) (ps : List Piece) (end : ℕ) (d v : List ℕ) where
+module _ (cs : List ColumnDescriptor) (start : ℕ) (s : List ℕ) (ps : List Cell) (end : ℕ) (d v : List ℕ) where
   pub record Putting (i at next : ℕ) (out words : List ℕ) : Type 0 where
-    pub passed : List Piece
+    pub passed : List Cell
     pub placing : Placing ported cs start s ps end d passed i at next out
     pub values : words ≡ packValues (rowValues ported passed 0) ++ drop (3 * i) v
 
@@ -37,8 +37,8 @@ module _ (cs : List ColumnDescriptor) (start : ℕ) (s : List ℕ) (ps : List Pi
         ∙ omega (arith, packed-length, length-drop (3 * i) v)
 
     module _ (c : ColumnDescriptor) (e : drop i cs ≡ c ∷ drop (i + 1) cs) (r : List ℕ) (q : r ≡ drop at s) where
-      pub putting-step : (n k : ℕ) → n ≡ columnNeed c r → k ≡ length (textIn ported c r) → (ys : List ℕ) → ys ≡ written (textIn ported c r) (take (length out - next) (drop next out))
-          → 3 * i + 3 ≤ length v → (x : ValuePlace) → x ≡ pieceValue ported (pieceAt c at r) next
+      pub putting-step : (n k : ℕ) → n ≡ columnNeed c r → k ≡ length (textIn ported c r) → (ys : List ℕ) → ys ≡ overwritten (textIn ported c r) (take (length out - next) (drop next out))
+          → 3 * i + 3 ≤ length v → (x : ValuePlace) → x ≡ cellValue ported (pieceAt c at r) next
           → Putting (i + 1) (at + n) (next + k) (take next out ++ (ys ++ drop (length out - next) (drop next out)))
           (set (set (set words (3 * i) (kindWord x)) (3 * i + 1) (numberWord (x .value))) (3 * i + 2) (lengthWord (x .value)))
       putting-step n k y z ys w room x f =
@@ -56,8 +56,8 @@ module _ (cs : List ColumnDescriptor) (start : ℕ) (s : List ℕ) (ps : List Pi
 
     pub record Put : Type 0 where
       pub sum : next ≡ length (rowTexts ported ps)
-      pub texts : out ≡ written (rowTexts ported ps) d
-      pub words-are : words ≡ written (packValues (rowValues ported ps 0)) v
+      pub texts : out ≡ overwritten (rowTexts ported ps) d
+      pub words-are : words ≡ overwritten (packValues (rowValues ported ps 0)) v
 
     pub putting-end : length cs ≤ i → Put
     putting-end h =

@@ -10,8 +10,8 @@ use Rattle.types.specs.declared.Db2Type.the-variants as type
 use Rattle.types.specs.declared.ColumnDescriptor.{ColumnDescriptor}
 use Rattle.types.specs.declared.ValuePlace.{ValuePlace}
 use Rattle.types.specs.Names.{namedIn}
-use Rattle.rules.specs.Walk.{Piece, Walk, done, short}
-use Rattle.rules.specs.Row.{Decision, refusal, acceptance, rowTexts}
+use Rattle.rules.specs.Walk.{Cell, Walk, done, short}
+use Rattle.rules.specs.Row.{Decision, refuse, accept, rowTexts}
 use Rattle.rules.specs.Conversions.{ported}
 use Rattle.conversion.specs.Conversion.{characterText}
 use Rattle.words.specs.Reading.{columnNamed}
@@ -79,6 +79,6 @@ outline (short expected actual) = Short expected actual
 
 -- what an outcome says of a decision
 abbrev pub Says : RowOutcome → Decision → Type 0
-Says (Accepted used written) d = (ps : List Piece) × ((d ≡ acceptance ps used) × (written ≡ length (rowTexts ported ps)))
-Says (TooShort expected actual) d = d ≡ refusal 8 (expected ∷ actual ∷ [])
-Says (TextTooShort needed) d = d ≡ refusal 9 (needed ∷ [])
+Says (Accepted used written) d = (ps : List Cell) × ((d ≡ accept ps used) × (written ≡ length (rowTexts ported ps)))
+Says (TooShort expected actual) d = d ≡ refuse 8 (expected ∷ actual ∷ [])
+Says (TextTooShort needed) d = d ≡ refuse 9 (needed ∷ [])

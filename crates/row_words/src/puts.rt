@@ -32,14 +32,14 @@ ghost use mathlib.Core.Bool.{true, false};
 ghost use Prim.Native.Nat.{ℕ, _+_, _/_, _%_, _<_, _≤_, _^_};
 ghost use lib.ListN.{length, take, drop};
 ghost use Rattle.refusal.specs.Refusal.{inputLimit};
-ghost use Rattle.buffer.specs.Buffer.{written};
+ghost use Rattle.buffer.specs.Buffer.{overwritten};
 ghost use Rattle.rules.specs.Extent.{need, extentOf};
 ghost use Rattle.rules.specs.Walk.{columnNeed};
-ghost use Rattle.rules.specs.Row.{pieceValue};
+ghost use Rattle.rules.specs.Row.{cellValue};
 ghost use Rattle.rules.specs.Conversions.{ported};
 ghost use Rattle.conversion.specs.Conversion.{textIn, characterText};
 ghost use Rattle.piece.specs.Marks.{markAt};
-ghost use Rattle.piece.specs.Piece.{valueIn, valueText, pieceIn, pieceText, PlainPiece};
+ghost use Rattle.piece.specs.Piece.{valueIn, valueText, cellIn, cellText, PlainCell};
 ghost use Rattle.words.specs.Reading.{columnNamed};
 ghost use Rattle.row_words.specs.Passes.{numberBytes, wordsSet, threeSet, charactersIn};
 
@@ -78,7 +78,7 @@ fn put_value(values: &mut [u64], at: usize, place: ValuePlace)
 fn number_value(rest: &[u8], first: u64, second: u64) -> Db2Value
     requires tag { ⌜ first % 2 ^ 8 < 5 ⌝ }
     requires there { ⌜ numberBytes first ≤ length (now rest) ⌝ }
-    ensures { λ r. ⌜ ((at next : ℕ) → pieceValue ported (valueIn (columnNamed first second) at (now (rest .entry))) next ≡ record { value = r; external = false }) ⌝ }
+    ensures { λ r. ⌜ ((at next : ℕ) → cellValue ported (valueIn (columnNamed first second) at (now (rest .entry))) next ≡ record { value = r; external = false }) ⌝ }
 {
     let column = column_named(first, second);
     let order = column.byte_order;
@@ -97,7 +97,7 @@ fn put_number(rest: &[u8], first: u64, second: u64, values: &mut [u64], place: u
     requires there { ⌜ numberBytes first ≤ length (now rest) ⌝ }
     requires words { ⌜ place + 2 < length (now values) ⌝ }
     ensures used { λ r. ⌜ r ≡ numberBytes first ⌝ }
-    ensures values { λ _. ⌜ ((at next : ℕ) → now (values .exit) ≡ threeSet (now (values .entry)) place (pieceValue ported (valueIn (columnNamed first second) at (now (rest .entry))) next)) ⌝ }
+    ensures values { λ _. ⌜ ((at next : ℕ) → now (values .exit) ≡ threeSet (now (values .entry)) place (cellValue ported (valueIn (columnNamed first second) at (now (rest .entry))) next)) ⌝ }
 {
     let value = number_value(rest, first, second);
     put_value(
@@ -144,7 +144,7 @@ fn put_characters(
     requires plain { ⌜ (k < 768) × (markAt (now marks) k ≡ true → charactersIn second from used (now rest) ≡ drop from (take used (now rest))) ⌝ }
     ensures used { λ r. ⌜ r .used ≡ used ⌝ }
     ensures count { λ r. ⌜ r .written ≡ length (charactersIn second from used (now (rest .entry))) ⌝ }
-    ensures bytes { λ _. ⌜ now (out .exit) ≡ written (charactersIn second from used (now (rest .entry))) (now (out .entry)) ⌝ }
+    ensures bytes { λ _. ⌜ now (out .exit) ≡ overwritten (charactersIn second from used (now (rest .entry))) (now (out .entry)) ⌝ }
     ensures values { λ _. ⌜ now (values .exit) ≡ wordsSet (now (values .entry)) place kind next (length (charactersIn second from used (now (rest .entry)))) ⌝ }
 {
     let bytes = &rest[from..used];
@@ -169,8 +169,8 @@ fn put_decimal(
     requires words { ⌜ place + 2 < length (now values) ⌝ }
     ensures used { λ r. ⌜ r .used ≡ need (extentOf (columnNamed first second)) (now (rest .entry)) ⌝ }
     ensures count { λ r. ⌜ r .written ≡ length (valueText (columnNamed first second) (now (rest .entry))) ⌝ }
-    ensures bytes { λ _. ⌜ now (out .exit) ≡ written (valueText (columnNamed first second) (now (rest .entry))) (now (out .entry)) ⌝ }
-    ensures values { λ _. ⌜ ((at : ℕ) → now (values .exit) ≡ threeSet (now (values .entry)) place (pieceValue ported (valueIn (columnNamed first second) at (now (rest .entry))) next)) ⌝ }
+    ensures bytes { λ _. ⌜ now (out .exit) ≡ overwritten (valueText (columnNamed first second) (now (rest .entry))) (now (out .entry)) ⌝ }
+    ensures values { λ _. ⌜ ((at : ℕ) → now (values .exit) ≡ threeSet (now (values .entry)) place (cellValue ported (valueIn (columnNamed first second) at (now (rest .entry))) next)) ⌝ }
 {
     let used = decimal_bytes(first);
     let n = decimal_write(&rest[..used], (first / 0x100 % 0x1_0000 / 0x100) as u8, out);
@@ -195,11 +195,11 @@ fn put_other(
     requires limit { ⌜ at + length (now rest) ≤ inputLimit ⌝ }
     requires room { ⌜ length (valueText (columnNamed first second) (now rest)) ≤ length (now out) ⌝ }
     requires words { ⌜ place + 2 < length (now values) ⌝ }
-    requires plain { ⌜ (k < 768) × (markAt (now marks) k ≡ true → PlainPiece (valueIn (columnNamed first second) at (now rest))) ⌝ }
+    requires plain { ⌜ (k < 768) × (markAt (now marks) k ≡ true → PlainCell (valueIn (columnNamed first second) at (now rest))) ⌝ }
     ensures used { λ r. ⌜ r .used ≡ need (extentOf (columnNamed first second)) (now (rest .entry)) ⌝ }
     ensures count { λ r. ⌜ r .written ≡ length (valueText (columnNamed first second) (now (rest .entry))) ⌝ }
-    ensures bytes { λ _. ⌜ now (out .exit) ≡ written (valueText (columnNamed first second) (now (rest .entry))) (now (out .entry)) ⌝ }
-    ensures values { λ _. ⌜ now (values .exit) ≡ threeSet (now (values .entry)) place (pieceValue ported (valueIn (columnNamed first second) at (now (rest .entry))) next) ⌝ }
+    ensures bytes { λ _. ⌜ now (out .exit) ≡ overwritten (valueText (columnNamed first second) (now (rest .entry))) (now (out .entry)) ⌝ }
+    ensures values { λ _. ⌜ now (values .exit) ≡ threeSet (now (values .entry)) place (cellValue ported (valueIn (columnNamed first second) at (now (rest .entry))) next) ⌝ }
 {
     let column = column_named(first, second);
     let p = value_write(rest, at, column, marks, k, next, out);
@@ -227,11 +227,11 @@ fn put_varchar(
     requires limit { ⌜ at + length (now rest) ≤ inputLimit ⌝ }
     requires room { ⌜ length (valueText (columnNamed first second) (now rest)) ≤ length (now out) ⌝ }
     requires words { ⌜ place + 2 < length (now values) ⌝ }
-    requires plain { ⌜ (k < 768) × (markAt (now marks) k ≡ true → PlainPiece (valueIn (columnNamed first second) at (now rest))) ⌝ }
+    requires plain { ⌜ (k < 768) × (markAt (now marks) k ≡ true → PlainCell (valueIn (columnNamed first second) at (now rest))) ⌝ }
     ensures used { λ r. ⌜ r .used ≡ need (extentOf (columnNamed first second)) (now (rest .entry)) ⌝ }
     ensures count { λ r. ⌜ r .written ≡ length (valueText (columnNamed first second) (now (rest .entry))) ⌝ }
-    ensures bytes { λ _. ⌜ now (out .exit) ≡ written (valueText (columnNamed first second) (now (rest .entry))) (now (out .entry)) ⌝ }
-    ensures values { λ _. ⌜ now (values .exit) ≡ threeSet (now (values .entry)) place (pieceValue ported (valueIn (columnNamed first second) at (now (rest .entry))) next) ⌝ }
+    ensures bytes { λ _. ⌜ now (out .exit) ≡ overwritten (valueText (columnNamed first second) (now (rest .entry))) (now (out .entry)) ⌝ }
+    ensures values { λ _. ⌜ now (values .exit) ≡ threeSet (now (values .entry)) place (cellValue ported (valueIn (columnNamed first second) at (now (rest .entry))) next) ⌝ }
 {
     if is_header(first) {
         return put_other(rest, at, first, second, marks, k, next, out, values, place);
@@ -269,11 +269,11 @@ fn put_there(
     requires limit { ⌜ at + length (now rest) ≤ inputLimit ⌝ }
     requires room { ⌜ length (valueText (columnNamed first second) (now rest)) ≤ length (now out) ⌝ }
     requires words { ⌜ place + 2 < length (now values) ⌝ }
-    requires plain { ⌜ (k < 768) × (markAt (now marks) k ≡ true → PlainPiece (valueIn (columnNamed first second) at (now rest))) ⌝ }
+    requires plain { ⌜ (k < 768) × (markAt (now marks) k ≡ true → PlainCell (valueIn (columnNamed first second) at (now rest))) ⌝ }
     ensures used { λ r. ⌜ r .used ≡ need (extentOf (columnNamed first second)) (now (rest .entry)) ⌝ }
     ensures count { λ r. ⌜ r .written ≡ length (valueText (columnNamed first second) (now (rest .entry))) ⌝ }
-    ensures bytes { λ _. ⌜ now (out .exit) ≡ written (valueText (columnNamed first second) (now (rest .entry))) (now (out .entry)) ⌝ }
-    ensures values { λ _. ⌜ now (values .exit) ≡ threeSet (now (values .entry)) place (pieceValue ported (valueIn (columnNamed first second) at (now (rest .entry))) next) ⌝ }
+    ensures bytes { λ _. ⌜ now (out .exit) ≡ overwritten (valueText (columnNamed first second) (now (rest .entry))) (now (out .entry)) ⌝ }
+    ensures values { λ _. ⌜ now (values .exit) ≡ threeSet (now (values .entry)) place (cellValue ported (valueIn (columnNamed first second) at (now (rest .entry))) next) ⌝ }
 {
     match first % 0x100 {
         0..=4 => {
@@ -343,13 +343,13 @@ pub fn put_column(
 ) -> Taken
     requires there { ⌜ columnNeed (columnNamed first second) (now rest) ≤ length (now rest) ⌝ }
     requires limit { ⌜ at + length (now rest) ≤ inputLimit ⌝ }
-    requires room { ⌜ length (pieceText (columnNamed first second) (now rest)) ≤ length (now out) ⌝ }
+    requires room { ⌜ length (cellText (columnNamed first second) (now rest)) ≤ length (now out) ⌝ }
     requires words { ⌜ place + 2 < length (now values) ⌝ }
-    requires plain { ⌜ (k < 768) × (markAt (now marks) k ≡ true → PlainPiece (pieceIn (columnNamed first second) at (now rest))) ⌝ }
+    requires plain { ⌜ (k < 768) × (markAt (now marks) k ≡ true → PlainCell (cellIn (columnNamed first second) at (now rest))) ⌝ }
     ensures used { λ r. ⌜ r .used ≡ columnNeed (columnNamed first second) (now (rest .entry)) ⌝ }
-    ensures count { λ r. ⌜ r .written ≡ length (pieceText (columnNamed first second) (now (rest .entry))) ⌝ }
-    ensures bytes { λ _. ⌜ now (out .exit) ≡ written (pieceText (columnNamed first second) (now (rest .entry))) (now (out .entry)) ⌝ }
-    ensures values { λ _. ⌜ now (values .exit) ≡ threeSet (now (values .entry)) place (pieceValue ported (pieceIn (columnNamed first second) at (now (rest .entry))) next) ⌝ }
+    ensures count { λ r. ⌜ r .written ≡ length (cellText (columnNamed first second) (now (rest .entry))) ⌝ }
+    ensures bytes { λ _. ⌜ now (out .exit) ≡ overwritten (cellText (columnNamed first second) (now (rest .entry))) (now (out .entry)) ⌝ }
+    ensures values { λ _. ⌜ now (values .exit) ≡ threeSet (now (values .entry)) place (cellValue ported (cellIn (columnNamed first second) at (now (rest .entry))) next) ⌝ }
 {
     let width = number_width(first);
     if 0 < width {

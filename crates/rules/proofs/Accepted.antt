@@ -12,7 +12,7 @@ use lib.ListN.{length, getD, take, drop, replicate, length-append, length-drop, 
 use lib.Dec.{leb, eqb}
 use borrow.Author.Tests.{ltb-false}
 use lib.Ieee.{binary32, binary64, nanBits, ofBits}
-use Rattle.buffer.specs.Buffer.{written}
+use Rattle.buffer.specs.Buffer.{overwritten}
 use Rattle.types.specs.declared.Db2Type.{Db2Type}
 use Rattle.types.specs.declared.Db2Type.the-variants as type
 use Rattle.types.specs.declared.Place.{Place}
@@ -21,13 +21,13 @@ use Rattle.types.specs.declared.Columns.{Columns}
 use Rattle.types.specs.declared.ValuePlace.{ValuePlace}
 use Rattle.types.specs.Names.{isDecFloat}
 use Rattle.types.specs.Places.{maxColumns, filled, blankColumn, blankValue}
-use Rattle.types.specs.Held.{Held, bits, row, textBuffer, held}
+use Rattle.types.specs.Held.{Held, bits, inRow, inText, held}
 use Rattle.numbers.specs.Number.{Number, numberValue, realOf, doubleOf}
 use Rattle.rules.specs.declared.Extent.{Extent}
 use Rattle.rules.specs.Extent.{extentOf}
-use Rattle.rules.specs.Meaning.{ByteSort, TextSort, Item, nothing, number, boolean, part, text, Conversions, itemIn}
-use Rattle.rules.specs.Walk.{columnNeed, Piece, absent, present, cellPiece, Walk, done, short, consPiece, cellShort, walk, walkBody, walkRow, skipOf}
-use Rattle.rules.specs.Row.{Decision, refusal, acceptance, covered, partValue, textValue, valueOf, textOf, pieceItem, pieceValue, rowValues, rowTexts, anyDecFloat, rowDecision, answerOf, textAfter, answerWith, textWith}
+use Rattle.rules.specs.Meaning.{ByteSort, TextSort, Item, nothing, numeric, boolean, part, text, Conversions, itemIn}
+use Rattle.rules.specs.Walk.{columnNeed, Cell, absent, present, cellOf, Walk, done, short, consCell, cellShort, walk, walkBody, walkRow, skipOf}
+use Rattle.rules.specs.Row.{Decision, refuse, accept, covered, partValue, textValue, valueOf, itemText, cellItem, cellValue, rowValues, rowTexts, anyDecFloat, rowDecision, answerOf, textAfter, answerWith, textWith}
 use Rattle.rules.specs.Conversions.{ported, rowAnswer, rowText}
 use Rattle.rules.specs.Sorts.{Sort, sortOf, sortsOf, Among, AllowsSort, Allows}
 use Rattle.rules.specs.Accepted.{Fits, AllPlaces, SameLength, UsedFits, PlacesFit, SortsAllowed}
@@ -40,8 +40,8 @@ use Rattle.rules.proofs.Demand3.{facts}
 
 -- ---- all places, and the buffer's length
 
-cons-count : (p : Piece) (w : Walk) (n : ℕ) → length (piecesOf w) ≤ n → length (piecesOf (consPiece p w)) ≤ suc n
-unfolding consPiece
+cons-count : (p : Cell) (w : Walk) (n : ℕ) → length (piecesOf w) ≤ n → length (piecesOf (consCell p w)) ≤ suc n
+unfolding consCell
 cons-count p (done ps k) n h = omega arith
 cons-count p (short e a) n h = omega arith
 
@@ -60,16 +60,16 @@ unfolding walk
 walk-count start [] at s = omega arith
 walk-count start (c ∷ cs) at s =
     let k = columnNeed c s in
-    let p = cellPiece (c .nullable) c at (take k s) in
+    let p = cellOf (c .nullable) c at (take k s) in
     let rest = walk start cs (at + k) (drop k s) in
-    cond-count (leb k (length s)) (consPiece p rest) (cellShort (c .nullable) (extentOf c) (at - start) s) (suc (length cs))
+    cond-count (leb k (length s)) (consCell p rest) (cellShort (c .nullable) (extentOf c) (at - start) s) (suc (length cs))
     (cons-count p rest (length cs) (walk-count start cs (at + k) (drop k s)))
     (omega (arith, short-count (c .nullable) (extentOf c) (at - start) s))
 
-values-count : (L : Conversions) (ps : List Piece) (next : ℕ) → length (rowValues L ps next) ≡ length ps
+values-count : (L : Conversions) (ps : List Cell) (next : ℕ) → length (rowValues L ps next) ≡ length ps
 unfolding rowValues
 values-count L [] next = refl
-values-count L (p ∷ ps) next = ap suc (values-count L ps (next + length (textOf (pieceItem L p))))
+values-count L (p ∷ ps) next = ap suc (values-count L ps (next + length (itemText (cellItem L p))))
 
 filled-count : (vs : List ValuePlace) → length vs ≤ maxColumns → length (filled blankValue vs) ≡ maxColumns
 unfolding filled
@@ -79,7 +79,7 @@ filled-count vs h =
 
 module _ (L : Conversions) (columns : Columns) (s d : List ℕ) where
   -- what an acceptance shows
-  taken : (ps : List Piece) (n : ℕ) → rowDecision L columns s d ≡ acceptance ps n → (length ps ≤ maxColumns) × (length (rowTexts L ps) ≤ length d)
+  taken : (ps : List Cell) (n : ℕ) → rowDecision L columns s d ≡ accept ps n → (length ps ≤ maxColumns) × (length (rowTexts L ps) ≤ length d)
   unfolding answerOf walkBody
   taken ps n e =
       let f = facts L columns s d (ap (λ (x : Decision). answerOf L x .outcome) e) in
@@ -90,13 +90,13 @@ module _ (L : Conversions) (columns : Columns) (s d : List ℕ) where
 
   places-count : (x : Decision) → rowDecision L columns s d ≡ x → length (answerOf L x .places) ≡ maxColumns
   unfolding answerOf
-  places-count (refusal n vs) e = filled-count [] (omega arith)
-  places-count (acceptance ps n) e = filled-count (rowValues L ps 0) (omega (arith, values-count L ps 0, taken ps n e .0))
+  places-count (refuse n vs) e = filled-count [] (omega arith)
+  places-count (accept ps n) e = filled-count (rowValues L ps 0) (omega (arith, values-count L ps 0, taken ps n e .0))
 
   text-length : (x : Decision) → rowDecision L columns s d ≡ x → length (textAfter L x d) ≡ length d
   unfolding textAfter
-  text-length (refusal n vs) e = refl
-  text-length (acceptance ps n) e =
+  text-length (refuse n vs) e = refl
+  text-length (accept ps n) e =
       let ts = rowTexts L ps in
       omega (arith, length-append ts (drop (length ts) d), length-drop (length ts) d, taken ps n e .1)
 
@@ -104,8 +104,8 @@ module _ (L : Conversions) (columns : Columns) (s d : List ℕ) where
 
 within-fits : (v : Held) (n m : ℕ) (s d : List ℕ) → Within n m v → n ≤ length s → m ≤ length d → Fits v s d
 within-fits (bits b) n m s d h k l = tt
-within-fits (row p) n m s d h k l = omega arith
-within-fits (textBuffer p) n m s d h k l = omega arith
+within-fits (inRow p) n m s d h k l = omega arith
+within-fits (inText p) n m s d h k l = omega arith
 
 pub places-fit-with : (L : Conversions) → PlacesFit (answerWith L) (textWith L)
 unfolding answerOf textAfter
@@ -114,7 +114,7 @@ places-fit-with L columns s d e i =
     let w = walkRow (covered columns) s in
     let ts = rowTexts L (piecesOf w) in
     rw (f .decided)
-    (within-fits (held (getD (filled blankValue (rowValues L (piecesOf w) 0)) i blankValue .value)) (usedOf w) (length ts) s (written ts d)
+    (within-fits (held (getD (filled blankValue (rowValues L (piecesOf w) 0)) i blankValue .value)) (usedOf w) (length ts) s (overwritten ts d)
     (places-within L (usedOf w) (piecesOf w) (row-placed (covered columns) s (f .over)) i)
     (row-used (covered columns) s (f .over) .1)
     (omega (arith, length-append ts (drop (length ts) d))))
@@ -174,27 +174,27 @@ module _ (L : Conversions) (ns : Numbers L NumberSort) where
       → Item-of (sortsOf (c .«db2_type»)) n (NumberSort (c .«db2_type»)) (Nothing (c .«db2_type»)) x → (at next : ℕ) → Allows c (valueOf x at next)
   unfolding valueOf
   value-allowed c plain n nothing h at next = ⊎-elim inr (λ e. absurd (true≢false (sym e ∙ plain))) h
-  value-allowed c plain n (number x) h at next = known-allowed c (sortOf (numberValue x)) h
+  value-allowed c plain n (numeric x) h at next = known-allowed c (sortOf (numberValue x)) h
   value-allowed c plain n (boolean b) h at next = h
   value-allowed c plain n (part k from l) h at next = rw part-sort (h .0)
   value-allowed c plain n (text k t) h at next = rw text-sort h
 
   present-allowed : (c : ColumnDescriptor) → isDecFloat c ≡ false → (at : ℕ) (s : List ℕ) (next : ℕ)
-      → Allows c (pieceValue L (present c at s) next .value)
-  unfolding pieceValue itemIn
+      → Allows c (cellValue L (present c at s) next .value)
+  unfolding cellValue itemIn
   present-allowed c plain at s next = value-allowed c plain (length s) (itemIn L c s) (item-of L NumberSort ns (c .«db2_type») c s) at next
 
-  absent-allowed : (c : ColumnDescriptor) → c .nullable ≡ true → (next : ℕ) → Allows c (pieceValue L absent next .value)
-  unfolding pieceValue blankValue
+  absent-allowed : (c : ColumnDescriptor) → c .nullable ≡ true → (next : ℕ) → Allows c (cellValue L absent next .value)
+  unfolding cellValue blankValue
   absent-allowed c e next = inl e
 
   piece-allowed : (c : ColumnDescriptor) → isDecFloat c ≡ false → (t : Bool) → c .nullable ≡ t → (at : ℕ) (s : List ℕ) (next : ℕ)
-      → Allows c (pieceValue L (cellPiece t c at s) next .value)
-  unfolding cellPiece
+      → Allows c (cellValue L (cellOf t c at s) next .value)
+  unfolding cellOf
   piece-allowed c plain true e at [] next = absent-allowed c e next
   piece-allowed c plain true e at (b ∷ s) next = go (eqb b 255)
     where
-      go : (t : Bool) → Allows c (pieceValue L (cond t absent (present c (at + 1) s)) next .value)
+      go : (t : Bool) → Allows c (cellValue L (cond t absent (present c (at + 1) s)) next .value)
       go true = absent-allowed c e next
       go false = present-allowed c plain (at + 1) s next
   piece-allowed c plain false e at s next = present-allowed c plain at s next
@@ -204,10 +204,10 @@ module _ (L : Conversions) (ns : Numbers L NumberSort) where
   AllAllowed (c ∷ cs) [] = ⊥
   AllAllowed (c ∷ cs) (v ∷ vs) = Allows c (v .value) × AllAllowed cs vs
 
-  cons-allowed : (c : ColumnDescriptor) (cs : List ColumnDescriptor) (p : Piece) (w : Walk) (next : ℕ) → isDone w ≡ true → Allows c (pieceValue L p next .value)
-      → ((k : ℕ) → AllAllowed cs (rowValues L (piecesOf w) k)) → AllAllowed (c ∷ cs) (rowValues L (piecesOf (consPiece p w)) next)
-  unfolding consPiece rowValues
-  cons-allowed c cs p (done ps n) next o h hs = (h, hs (next + length (textOf (pieceItem L p))))
+  cons-allowed : (c : ColumnDescriptor) (cs : List ColumnDescriptor) (p : Cell) (w : Walk) (next : ℕ) → isDone w ≡ true → Allows c (cellValue L p next .value)
+      → ((k : ℕ) → AllAllowed cs (rowValues L (piecesOf w) k)) → AllAllowed (c ∷ cs) (rowValues L (piecesOf (consCell p w)) next)
+  unfolding consCell rowValues
+  cons-allowed c cs p (done ps n) next o h hs = (h, hs (next + length (itemText (cellItem L p))))
   cons-allowed c cs p (short e a) next o h hs = absurd (true≢false (sym o))
 
   walk-allowed : (start : ℕ) (cs : List ColumnDescriptor) → anyDecFloat cs ≡ false → (at : ℕ) (s : List ℕ) → isDone (walk start cs at s) ≡ true
@@ -221,7 +221,7 @@ module _ (L : Conversions) (ns : Numbers L NumberSort) where
       let this = or-left (isDecFloat c) (anyDecFloat cs) plain in
       let others = or-right (isDecFloat c) (anyDecFloat cs) plain in
       subst (λ (w : Walk). AllAllowed (c ∷ cs) (rowValues L (piecesOf w) next)) (sym (walk-step start c cs at s k refl h))
-      (cons-allowed c cs (cellPiece (c .nullable) c at (take k s)) (walk start cs (at + k) (drop k s)) next r
+      (cons-allowed c cs (cellOf (c .nullable) c at (take k s)) (walk start cs (at + k) (drop k s)) next r
       (piece-allowed c this (c .nullable) refl at (take k s) next)
       (walk-allowed start cs others (at + k) (drop k s) r))
 
@@ -247,8 +247,8 @@ module _ (L : Conversions) (ns : Numbers L NumberSort) where
 
 used-fit : (L : Conversions) (columns : Columns) (s d : List ℕ) (x : Decision) → rowDecision L columns s d ≡ x → answerOf L x .used ≤ length s
 unfolding answerOf
-used-fit L columns s d (refusal n vs) e = omega arith
-used-fit L columns s d (acceptance ps n) e =
+used-fit L columns s d (refuse n vs) e = omega arith
+used-fit L columns s d (accept ps n) e =
     let f = facts L columns s d (ap (λ (x : Decision). answerOf L x .outcome) e) in
     let same : n ≡ usedOf (walkRow (covered columns) s) = let decided = f .decided in cc in
     let b = row-used (covered columns) s (f .over) in

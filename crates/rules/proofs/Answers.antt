@@ -15,27 +15,27 @@ use Rattle.types.specs.declared.ColumnDescriptor.{ColumnDescriptor}
 use Rattle.types.specs.declared.Db2Value.{Db2Value}
 use Rattle.types.specs.declared.ValuePlace.{ValuePlace}
 use Rattle.types.specs.Places.{maxColumns, filled, blankValue}
-use Rattle.types.specs.Held.{Held, bits, row, textBuffer, held}
+use Rattle.types.specs.Held.{Held, bits, inRow, inText, held}
 use Rattle.numbers.specs.Number.{Number, numberValue}
-use Rattle.rules.specs.Meaning.{ByteSort, TextSort, Item, nothing, number, boolean, part, text, Conversions, itemIn}
-use Rattle.rules.specs.Walk.{columnNeed, Piece, absent, present, cellPiece, Walk, done, short, consPiece, walk, walkBody, walkRow, skipOf}
+use Rattle.rules.specs.Meaning.{ByteSort, TextSort, Item, nothing, numeric, boolean, part, text, Conversions, itemIn}
+use Rattle.rules.specs.Walk.{columnNeed, Cell, absent, present, cellOf, Walk, done, short, consCell, walk, walkBody, walkRow, skipOf}
 use Rattle.rules.specs.Value.{bytesAt, heldBytes, valueBytes, heldText, textsTogether}
-use Rattle.rules.specs.Row.{partValue, textValue, startOf, valueOf, textOf, pieceItem, pieceValue, rowValues, rowTexts}
+use Rattle.rules.specs.Row.{partValue, textValue, startOf, valueOf, itemText, cellItem, cellValue, rowValues, rowTexts}
 use Rattle.rules.specs.Sorts.{sortsOf}
 use Rattle.rules.proofs.Walks.{isDone, usedOf, piecesOf, walk-step, walk-first, walk-rest, walk-rest-used, walk-used, drop-take}
 use Rattle.rules.proofs.Items.{Item-of, Nothing, Numbers, item-of}
 
 -- a piece lies in the first n bytes of the input
-abbrev pub Placed : ℕ → Piece → Type 0
+abbrev pub Placed : ℕ → Cell → Type 0
 Placed n absent = Unit {0}
 Placed n (present c at s) = at + length s ≤ n
 
-abbrev pub AllPlaced : ℕ → List Piece → Type 0
+abbrev pub AllPlaced : ℕ → List Cell → Type 0
 AllPlaced n [] = Unit {0}
 AllPlaced n (p ∷ ps) = Placed n p × AllPlaced n ps
 
-piece-placed : (n : ℕ) (t : Bool) (c : ColumnDescriptor) (at : ℕ) (s : List ℕ) → at + length s ≤ n → Placed n (cellPiece t c at s)
-unfolding cellPiece
+piece-placed : (n : ℕ) (t : Bool) (c : ColumnDescriptor) (at : ℕ) (s : List ℕ) → at + length s ≤ n → Placed n (cellOf t c at s)
+unfolding cellOf
 piece-placed n true c at [] h = tt
 piece-placed n true c at (b ∷ s) h = go (eqb b 255)
   where
@@ -44,8 +44,8 @@ piece-placed n true c at (b ∷ s) h = go (eqb b 255)
     go false = omega arith
 piece-placed n false c at s h = h
 
-cons-placed : (n : ℕ) (p : Piece) (w : Walk) → Placed n p → AllPlaced n (piecesOf w) → AllPlaced n (piecesOf (consPiece p w))
-unfolding consPiece
+cons-placed : (n : ℕ) (p : Cell) (w : Walk) → Placed n p → AllPlaced n (piecesOf w) → AllPlaced n (piecesOf (consCell p w))
+unfolding consCell
 cons-placed n p (done ps k) h hs = (h, hs)
 cons-placed n p (short e a) h hs = tt
 
@@ -61,7 +61,7 @@ walk-placed n start (c ∷ cs) at s d e =
     let low = walk-used start cs (at + k) (drop k s) r in
     let ih = walk-placed n start cs (at + k) (drop k s) r (sym u ∙ e) in
     subst (λ (w : Walk). AllPlaced n (piecesOf w)) (sym (walk-step start c cs at s k refl h))
-    (cons-placed n (cellPiece (c .nullable) c at (take k s)) (walk start cs (at + k) (drop k s))
+    (cons-placed n (cellOf (c .nullable) c at (take k s)) (walk start cs (at + k) (drop k s))
     (piece-placed n (c .nullable) c at (take k s) (omega (arith, length-take-le k s h)))
     ih)
 
@@ -79,11 +79,11 @@ number-held (Number.realNan n) = (_, refl)
 number-held (Number.double x) = (_, refl)
 number-held (Number.doubleNan n) = (_, refl)
 
-pub part-held : (k : ByteSort) (p : Place) → held (partValue k p) ≡ row p
+pub part-held : (k : ByteSort) (p : Place) → held (partValue k p) ≡ inRow p
 part-held ByteSort.binary p = refl
 part-held ByteSort.blob p = refl
 
-pub text-held : (k : TextSort) (p : Place) → held (textValue k p) ≡ textBuffer p
+pub text-held : (k : TextSort) (p : Place) → held (textValue k p) ≡ inText p
 text-held TextSort.decimal p = refl
 text-held TextSort.char p = refl
 text-held TextSort.varChar p = refl
@@ -100,8 +100,8 @@ Ends n p = p .start + p .len ≤ n
 
 abbrev pub Within : ℕ → ℕ → Held → Type 0
 Within n m (bits b) = Unit {0}
-Within n m (row p) = Ends n p
-Within n m (textBuffer p) = Ends m p
+Within n m (inRow p) = Ends n p
+Within n m (inText p) = Ends m p
 
 abbrev pub AllWithin : ℕ → ℕ → List ValuePlace → Type 0
 AllWithin n m [] = Unit {0}
@@ -110,7 +110,7 @@ AllWithin n m (v ∷ vs) = Within n m (held (v .value)) × AllWithin n m vs
 -- an item's part lies in the value's n bytes
 abbrev pub Inside : ℕ → Item → Type 0
 Inside n nothing = Unit {0}
-Inside n (number x) = Unit {0}
+Inside n (numeric x) = Unit {0}
 Inside n (boolean b) = Unit {0}
 Inside n (part k from l) = l ≤ n - from
 Inside n (text k t) = Unit {0}
@@ -132,18 +132,18 @@ part-ends : (l from at size n : ℕ) → l ≤ size - from → at + size ≤ n �
 part-ends zero from at size n i h = start-empty (at + from) n
 part-ends (suc l) from at size n i h = start-ends (suc l) (at + from) n (omega arith)
 
-value-within : (n m : ℕ) (x : Item) (at size next : ℕ) → Inside size x → at + size ≤ n → next + length (textOf x) ≤ m → Within n m (held (valueOf x at next))
-unfolding valueOf textOf
+value-within : (n m : ℕ) (x : Item) (at size next : ℕ) → Inside size x → at + size ≤ n → next + length (itemText x) ≤ m → Within n m (held (valueOf x at next))
+unfolding valueOf itemText
 value-within n m nothing at size next i h k = tt
-value-within n m (number x) at size next i h k = rw (number-held x .1) tt
+value-within n m (numeric x) at size next i h k = rw (number-held x .1) tt
 value-within n m (boolean b) at size next i h k = tt
 value-within n m (part k from l) at size next i h j = rw part-held (part-ends l from at size n i h)
 value-within n m (text k t) at size next i h j = rw text-held (omega arith)
 
-value-length : (x : Item) (at next : ℕ) → heldText (held (valueOf x at next)) ≡ length (textOf x)
-unfolding valueOf textOf
+value-length : (x : Item) (at next : ℕ) → heldText (held (valueOf x at next)) ≡ length (itemText x)
+unfolding valueOf itemText
 value-length nothing at next = refl
-value-length (number x) at next = rw (number-held x .1)
+value-length (numeric x) at next = rw (number-held x .1)
 value-length (boolean b) at next = refl
 value-length (part k from l) at next = rw part-held
 value-length (text k t) at next = rw text-held
@@ -159,33 +159,33 @@ module _ (L : Conversions) where
     where
       go : (x : Item) → Item-of (sortsOf (c .«db2_type»)) (length s) (λ y. Unit {0}) (Nothing (c .«db2_type»)) x → Inside (length s) x
       go nothing h = tt
-      go (number x) h = tt
+      go (numeric x) h = tt
       go (boolean b) h = tt
       go (part k from l) h = h .1
       go (text k t) h = tt
 
-  piece-within : (p : Piece) (n : ℕ) → Placed n p → (m next : ℕ) → next + length (textOf (pieceItem L p)) ≤ m → Within n m (held (pieceValue L p next .value))
-  unfolding pieceItem pieceValue blankValue
+  piece-within : (p : Cell) (n : ℕ) → Placed n p → (m next : ℕ) → next + length (itemText (cellItem L p)) ≤ m → Within n m (held (cellValue L p next .value))
+  unfolding cellItem cellValue blankValue
   piece-within absent n h m next k = tt
   piece-within (present c at s) n h m next k = value-within n m (itemIn L c s) at (length s) next (item-inside c s) h k
 
-  piece-length : (p : Piece) (next : ℕ) → heldText (held (pieceValue L p next .value)) ≡ length (textOf (pieceItem L p))
-  unfolding pieceItem pieceValue blankValue textOf
+  piece-length : (p : Cell) (next : ℕ) → heldText (held (cellValue L p next .value)) ≡ length (itemText (cellItem L p))
+  unfolding cellItem cellValue blankValue itemText
   piece-length absent next = refl
   piece-length (present c at s) next = value-length (itemIn L c s) at next
 
-  values-within : (n m : ℕ) (ps : List Piece) (next : ℕ) → AllPlaced n ps → next + length (rowTexts L ps) ≤ m → AllWithin n m (rowValues L ps next)
+  values-within : (n m : ℕ) (ps : List Cell) (next : ℕ) → AllPlaced n ps → next + length (rowTexts L ps) ≤ m → AllWithin n m (rowValues L ps next)
   unfolding rowValues rowTexts
   values-within n m [] next h k = tt
   values-within n m (p ∷ ps) next h k =
-      let e = length-append (textOf (pieceItem L p)) (rowTexts L ps) in
-      (piece-within p n (h .0) m next (omega arith), values-within n m ps (next + length (textOf (pieceItem L p))) (h .1) (omega arith))
+      let e = length-append (itemText (cellItem L p)) (rowTexts L ps) in
+      (piece-within p n (h .0) m next (omega arith), values-within n m ps (next + length (itemText (cellItem L p))) (h .1) (omega arith))
 
-  values-together : (ps : List Piece) (next : ℕ) → textsTogether (rowValues L ps next) ≡ length (rowTexts L ps)
+  values-together : (ps : List Cell) (next : ℕ) → textsTogether (rowValues L ps next) ≡ length (rowTexts L ps)
   unfolding rowValues rowTexts textsTogether
   values-together [] next = refl
   values-together (p ∷ ps) next =
-      omega (arith, length-append (textOf (pieceItem L p)) (rowTexts L ps), piece-length p next, values-together ps (next + length (textOf (pieceItem L p))))
+      omega (arith, length-append (itemText (cellItem L p)) (rowTexts L ps), piece-length p next, values-together ps (next + length (itemText (cellItem L p))))
 
 -- blank places name nothing
 blanks-within : (n m k : ℕ) → AllWithin n m (replicate k blankValue)
@@ -204,7 +204,7 @@ at-within n m (v ∷ vs) zero h = h .0
 at-within n m (v ∷ vs) (suc i) h = at-within n m vs i (h .1)
 
 -- every place of the answer to pieces that lie in the first n bytes
-pub places-within : (L : Conversions) (n : ℕ) (ps : List Piece) → AllPlaced n ps
+pub places-within : (L : Conversions) (n : ℕ) (ps : List Cell) → AllPlaced n ps
     → (i : ℕ) → Within n (length (rowTexts L ps)) (held (getD (filled blankValue (rowValues L ps 0)) i blankValue .value))
 unfolding filled
 places-within L n ps h i =
@@ -225,7 +225,7 @@ append-together [] ws = sym (zero-add (textsTogether ws))
 append-together (v ∷ vs) ws = omega (arith, append-together vs ws)
 
 -- the texts together, as the accepted answer shows them, are the texts written
-pub filled-together : (L : Conversions) (ps : List Piece) → textsTogether (filled blankValue (rowValues L ps 0)) ≡ length (rowTexts L ps)
+pub filled-together : (L : Conversions) (ps : List Cell) → textsTogether (filled blankValue (rowValues L ps 0)) ≡ length (rowTexts L ps)
 unfolding filled
 filled-together L ps =
     let vs = rowValues L ps 0 in
@@ -249,8 +249,8 @@ part-same p n s t h e k =
 held-same : (v : Held) (n m : ℕ) (s t x y : List ℕ) → Within n m v → take n t ≡ take n s → n ≤ length s → take m y ≡ take m x → m ≤ length x
     → heldBytes v t y ≡ heldBytes v s x
 held-same (bits b) n m s t x y h e k f l = refl
-held-same (row p) n m s t x y h e k f l = part-same p n s t h e k
-held-same (textBuffer p) n m s t x y h e k f l = part-same p m x y h f l
+held-same (inRow p) n m s t x y h e k f l = part-same p n s t h e k
+held-same (inText p) n m s t x y h e k f l = part-same p m x y h f l
 
 pub value-same : (v : Db2Value) (n m : ℕ) (s t x y : List ℕ) → Within n m (held v) → take n t ≡ take n s → n ≤ length s → take m y ≡ take m x → m ≤ length x
     → valueBytes v t y ≡ valueBytes v s x

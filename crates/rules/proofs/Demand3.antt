@@ -9,15 +9,15 @@ use lib.Seq.{take-at, take-take, length-take-le}
 use lib.Dec.{ltb}
 use borrow.Author.Tests.{le-ltb, ltb-false}
 use Rattle.refusal.specs.Refusal.{accepted, inputLimit}
-use Rattle.buffer.specs.Buffer.{written}
+use Rattle.buffer.specs.Buffer.{overwritten}
 use Rattle.types.specs.declared.ColumnDescriptor.{ColumnDescriptor}
 use Rattle.types.specs.declared.Columns.{Columns}
 use Rattle.types.specs.Places.{maxColumns, filled, blankValue}
 use Rattle.rules.specs.OwnEnd.{allCarryOwnEnd}
 use Rattle.rules.specs.Meaning.{Conversions}
-use Rattle.rules.specs.Walk.{Piece, Walk, done, short, walkRow}
+use Rattle.rules.specs.Walk.{Cell, Walk, done, short, walkRow}
 use Rattle.rules.specs.Value.{textsTogether}
-use Rattle.rules.specs.Row.{Decision, refusal, acceptance, covered, anyDecFloat, rowValues, rowTexts, walkDecision, bodyDecision, rowDecision, answerOf, textAfter, answerWith, textWith}
+use Rattle.rules.specs.Row.{Decision, refuse, accept, covered, anyDecFloat, rowValues, rowTexts, walkDecision, bodyDecision, rowDecision, answerOf, textAfter, answerWith, textWith}
 use Rattle.rules.specs.Conversions.{ported, rowAnswer, rowText}
 use Rattle.rules.specs.Demand3.{SameAnswer, AcceptedRow, Longer, Shorter, Alone, Demand3}
 use Rattle.rules.proofs.Walks.{isDone, usedOf, piecesOf}
@@ -28,32 +28,32 @@ use Rattle.rules.proofs.Answers.{AllPlaced, row-placed, places-within, 
 
 module _ (L : Conversions) where
   -- a test that refuses was false
-  past : (b : Bool) (n : ℕ) (vs : List ℕ) (x : Decision) → answerOf L (cond b (refusal n vs) x) .outcome ≡ accepted → (b ≡ false) × (cond b (refusal n vs) x ≡ x)
+  past : (b : Bool) (n : ℕ) (vs : List ℕ) (x : Decision) → answerOf L (cond b (refuse n vs) x) .outcome ≡ accepted → (b ≡ false) × (cond b (refuse n vs) x ≡ x)
   unfolding answerOf
   past true n vs x e = absurd (let o : _≡_ {A = ℕ} 0 1 = cc in omega arith)
   past false n vs x e = (refl, refl)
 
   walked-accepted : (w : Walk) (d : List ℕ) → answerOf L (walkDecision L w d) .outcome ≡ accepted
-      → (isDone w ≡ true) × (length (rowTexts L (piecesOf w)) ≤ length d) × (walkDecision L w d ≡ acceptance (piecesOf w) (usedOf w))
+      → (isDone w ≡ true) × (length (rowTexts L (piecesOf w)) ≤ length d) × (walkDecision L w d ≡ accept (piecesOf w) (usedOf w))
   unfolding walkDecision answerOf
   walked-accepted (done ps n) d e =
-      let r = past (ltb (length d) (length (rowTexts L ps))) 9 (length (rowTexts L ps) ∷ []) (acceptance ps n) e in
+      let r = past (ltb (length d) (length (rowTexts L ps))) 9 (length (rowTexts L ps) ∷ []) (accept ps n) e in
       (refl, ltb-false (length d) (length (rowTexts L ps)) (r .0), r .1)
   walked-accepted (short x y) d e = absurd (let o : _≡_ {A = ℕ} 0 1 = cc in omega arith)
 
-  walked-done : (w : Walk) (d : List ℕ) → isDone w ≡ true → length (rowTexts L (piecesOf w)) ≤ length d → walkDecision L w d ≡ acceptance (piecesOf w) (usedOf w)
+  walked-done : (w : Walk) (d : List ℕ) → isDone w ≡ true → length (rowTexts L (piecesOf w)) ≤ length d → walkDecision L w d ≡ accept (piecesOf w) (usedOf w)
   unfolding walkDecision
   walked-done (done ps n) d o h = rw (le-ltb (length d) (length (rowTexts L ps)) h)
   walked-done (short x y) d o h = absurd (true≢false (sym o))
 
-  walked-short : (w : Walk) (d : List ℕ) → isDone w ≡ false → (expected : ℕ) × (actual : ℕ) × (walkDecision L w d ≡ refusal 8 (expected ∷ actual ∷ []))
+  walked-short : (w : Walk) (d : List ℕ) → isDone w ≡ false → (expected : ℕ) × (actual : ℕ) × (walkDecision L w d ≡ refuse 8 (expected ∷ actual ∷ []))
   unfolding walkDecision
   walked-short (done ps n) d o = absurd (true≢false o)
   walked-short (short x y) d o = (x, y, refl)
 
   -- two accepted answers to one walk, on inputs that begin with the same bytes
-  answers-same : (ps : List Piece) (n : ℕ) (s t x y : List ℕ) → AllPlaced n ps → take n t ≡ take n s → n ≤ length s
-      → SameAnswer (answerOf L (acceptance ps n)) t (textAfter L (acceptance ps n) y) (answerOf L (acceptance ps n)) s (textAfter L (acceptance ps n) x)
+  answers-same : (ps : List Cell) (n : ℕ) (s t x y : List ℕ) → AllPlaced n ps → take n t ≡ take n s → n ≤ length s
+      → SameAnswer (answerOf L (accept ps n)) t (textAfter L (accept ps n) y) (answerOf L (accept ps n)) s (textAfter L (accept ps n) x)
   unfolding answerOf textAfter
   answers-same ps n s t x y p e k =
       let ts = rowTexts L ps in
@@ -62,7 +62,7 @@ module _ (L : Conversions) where
         places = refl;
         bytes =
             λ i.
-            value-same (getD (filled blankValue (rowValues L ps 0)) i blankValue .value) n (length ts) s t (written ts x) (written ts y)
+            value-same (getD (filled blankValue (rowValues L ps 0)) i blankValue .value) n (length ts) s t (overwritten ts x) (overwritten ts y)
             (places-within L n ps p i)
             e
             k
@@ -82,14 +82,14 @@ module _ (L : Conversions) (columns : Columns) where
     pub plain : anyDecFloat (covered columns) ≡ false
     pub over : isDone (walkRow (covered columns) s) ≡ true
     pub room : length (rowTexts L (piecesOf (walkRow (covered columns) s))) ≤ length d
-    pub decided : rowDecision L columns s d ≡ acceptance (piecesOf (walkRow (covered columns) s)) (usedOf (walkRow (covered columns) s))
+    pub decided : rowDecision L columns s d ≡ accept (piecesOf (walkRow (covered columns) s)) (usedOf (walkRow (covered columns) s))
 
   pub facts : (s d : List ℕ) → answerWith L columns s d .outcome ≡ accepted → Facts s d
   unfolding rowDecision bodyDecision
   facts s d e =
       let end = walkDecision L (walkRow cs s) d in
-      let third = cond (anyDecFloat cs) (refusal 5 []) end in
-      let second = cond (ltb inputLimit (length s)) (refusal 4 []) third in
+      let third = cond (anyDecFloat cs) (refuse 5 []) end in
+      let second = cond (ltb inputLimit (length s)) (refuse 4 []) third in
       let a = past L (ltb maxColumns (columns .count)) 3 [] second e in
       let e₂ = sym (ap (λ (x : Decision). answerOf L x .outcome) (a .1)) ∙ e in
       let b = past L (ltb inputLimit (length s)) 4 [] third e₂ in
@@ -122,7 +122,7 @@ module _ (L : Conversions) (columns : Columns) where
       → take (usedOf (walkRow cs s)) t ≡ take (usedOf (walkRow cs s)) s → length (rowTexts L (piecesOf (walkRow cs s))) ≤ length e → Alike s d t e
   same-walk s d t e f h w begins room =
       let w′ = walkRow cs s in
-      let one : rowDecision L columns t e ≡ acceptance (piecesOf w′) (usedOf w′) =
+      let one : rowDecision L columns t e ≡ accept (piecesOf w′) (usedOf w′) =
       call-walked (f .few) (f .plain) t e h ∙ ap (λ (x : Walk). walkDecision L x e) w ∙ walked-done L w′ e (f .over) room in
       rw (one, f .decided) (answers-same L (piecesOf w′) (usedOf w′) s t d e (row-placed cs s (f .over)) begins (row-used cs s (f .over) .1))
 

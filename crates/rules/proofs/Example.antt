@@ -14,13 +14,13 @@ use Rattle.types.specs.declared.ReferenceLength.the-variants.{Absent}
 use Rattle.types.specs.declared.ColumnDescriptor.{ColumnDescriptor}
 use Rattle.types.specs.declared.Columns.{Columns}
 use Rattle.types.specs.Places.{filled, blankValue, columnList}
-use Rattle.packed.specs.Packed.{nibbles, sign, digits, trimmed, fraction, decimalText}
+use Rattle.packed.specs.Packed.{nibbles, signText, digitText, trimmed, fraction, decimalText}
 use Rattle.rules.specs.Extent.{need}
 use Rattle.rules.specs.OwnEnd.{carriesOwnEnd, allCarryOwnEnd}
 use Rattle.rules.specs.Meaning.{itemIn}
-use Rattle.rules.specs.Walk.{skipOf, nullableNeed, columnNeed, cellPiece, consPiece, walk, walkBody}
+use Rattle.rules.specs.Walk.{skipOf, nullableNeed, columnNeed, cellOf, consCell, walk, walkBody}
 use Rattle.rules.specs.Value.{textsTogether}
-use Rattle.rules.specs.Row.{covered, refusedRow, valueOf, textOf, pieceItem, pieceValue, rowValues, rowTexts, anyDecFloat, walkDecision, bodyDecision, rowDecision, answerOf}
+use Rattle.rules.specs.Row.{covered, refusedRow, valueOf, itemText, cellItem, cellValue, rowValues, rowTexts, anyDecFloat, walkDecision, bodyDecision, rowDecision, answerOf}
 use Rattle.rules.specs.Conversions.{rowAnswer, rowText}
 use Rattle.rules.specs.Demand3.{AcceptedRow, LargeEnough, Same}
 use Rattle.rules.proofs.Demand3.{demand3}
@@ -63,7 +63,7 @@ own = refl
 
 -- what case B answers, as far as the hypotheses ask: accepted, seven bytes used, six bytes of text
 answers : (rowAnswer columnsB rowB bufferB .outcome ≡ accepted) × (rowAnswer columnsB rowB bufferB .used ≡ 7) × (textsTogether (rowAnswer columnsB rowB bufferB .places) ≡ 6)
-unfolding columnsB columnList filled blankValue rowAnswer answerOf rowDecision bodyDecision walkDecision walkBody walk skipOf columnNeed nullableNeed need cellPiece consPiece anyDecFloat rowValues rowTexts pieceValue pieceItem itemIn valueOf textOf textsTogether decimalText sign digits nibbles trimmed fraction
+unfolding columnsB columnList filled blankValue rowAnswer answerOf rowDecision bodyDecision walkDecision walkBody walk skipOf columnNeed nullableNeed need cellOf consCell anyDecFloat rowValues rowTexts cellValue cellItem itemIn valueOf itemText textsTogether decimalText signText digitText nibbles trimmed fraction
 answers = (refl, refl, refl)
 
 accepted-row : AcceptedRow rowAnswer rowText columnsB rowB bufferB

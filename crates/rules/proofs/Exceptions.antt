@@ -8,15 +8,15 @@ use lib.Dec.{leb, eqb}
 use borrow.Author.Tests.{leb-true, eqb-true, eq-eqb}
 use Rattle.refusal.specs.Refusal.{Told, accepted, refused, inputLimit}
 use Rattle.types.specs.Places.{filled, blankValue, columnList}
-use Rattle.numbers.specs.Number.{number}
+use Rattle.numbers.specs.Number.{unsigned}
 use Rattle.conversion.specs.Conversion.{textIn}
 use Rattle.conversion.specs.Hex.{hexText}
 use Rattle.rules.specs.Extent.{isReference, isHexDigit, hexDigits, isShortReference, saysHeader, lobNeed, need}
 use Rattle.rules.specs.OwnEnd.{carriesOwnEnd, allCarryOwnEnd}
 use Rattle.rules.specs.Meaning.{allZero, lobEmpty, headerItem, lobReference, lobItem, varyingItem, lobBytesItem, lobCharItem, itemIn}
-use Rattle.rules.specs.Walk.{skipOf, columnNeed, cellPiece, consPiece, walk, walkBody}
+use Rattle.rules.specs.Walk.{skipOf, columnNeed, cellOf, consCell, walk, walkBody}
 use Rattle.rules.specs.Value.{textsTogether}
-use Rattle.rules.specs.Row.{RowTold, startOf, valueOf, textOf, pieceItem, pieceValue, rowValues, rowTexts, anyDecFloat, walkDecision, bodyDecision, rowDecision, answerOf}
+use Rattle.rules.specs.Row.{RowTold, startOf, valueOf, itemText, cellItem, cellValue, rowValues, rowTexts, anyDecFloat, walkDecision, bodyDecision, rowDecision, answerOf}
 use Rattle.rules.specs.Conversions.{rowAnswer}
 use Rattle.rules.specs.Exceptions.{Exception, columnsIn, room, exceptions, Breaks, AllBreak}
 use Rattle.rules.proofs.Tests.{not-true, and-left, and-right}
@@ -57,7 +57,7 @@ module _ (x : Exception) where
   one = rowAnswer (columnsIn x) (x .input) room
 
   abbrev other : RowTold
-  other = rowAnswer (columnsIn x) (x .longer) room
+  other = rowAnswer (columnsIn x) (x .longerInput) room
 
   -- the test's parts, from the last
   abbrev part₇ : Bool
@@ -67,10 +67,10 @@ module _ (x : Exception) where
   part₆ = leb (textsTogether (one .places)) (length room) && part₇
 
   abbrev part₅ : Bool
-  part₅ = sameBytes (take (one .used) (x .longer)) (take (one .used) (x .input)) && part₆
+  part₅ = sameBytes (take (one .used) (x .longerInput)) (take (one .used) (x .input)) && part₆
 
   abbrev part₄ : Bool
-  part₄ = leb (length (x .longer)) inputLimit && part₅
+  part₄ = leb (length (x .longerInput)) inputLimit && part₅
 
   abbrev part₃ : Bool
   part₃ = leb 1 (one .used) && part₄
@@ -94,8 +94,8 @@ module _ (x : Exception) where
       let p₁ = split (leb 2 (length (x .input))) part₂ (p₀ .rest) in
       let p₂ = split (isAccepted (one .outcome)) part₃ (p₁ .rest) in
       let p₃ = split (leb 1 (one .used)) part₄ (p₂ .rest) in
-      let p₄ = split (leb (length (x .longer)) inputLimit) part₅ (p₃ .rest) in
-      let p₅ = split (sameBytes (take (one .used) (x .longer)) (take (one .used) (x .input))) part₆ (p₄ .rest) in
+      let p₄ = split (leb (length (x .longerInput)) inputLimit) part₅ (p₃ .rest) in
+      let p₅ = split (sameBytes (take (one .used) (x .longerInput)) (take (one .used) (x .input))) part₆ (p₄ .rest) in
       let p₆ = split (leb (textsTogether (one .places)) (length room)) part₇ (p₅ .rest) in
       record {
         lacksEnd = not-true (carriesOwnEnd (x .last)) (p .first);
@@ -106,8 +106,8 @@ module _ (x : Exception) where
               accepts = is-accepted (one .outcome) (p₂ .first);
               one = leb-true 1 (one .used) (p₃ .first);
             };
-        limit = leb-true (length (x .longer)) inputLimit (p₄ .first);
-        begins = same-bytes (take (one .used) (x .longer)) (take (one .used) (x .input)) (p₅ .first);
+        limit = leb-true (length (x .longerInput)) inputLimit (p₄ .first);
+        beginsAlike = same-bytes (take (one .used) (x .longerInput)) (take (one .used) (x .input)) (p₅ .first);
         enough = leb-true (textsTogether (one .places)) (length room) (p₆ .first);
         differs = λ same. true≢false (sym (eq-eqb (other .used) (one .used) (same .used)) ∙ not-true (eqb (other .used) (one .used)) (p₆ .rest));
       }
@@ -121,7 +121,7 @@ from-test [] e = tt
 from-test (x ∷ xs) e = (all-parts x (and-left (breaks x) (allOf xs) e), from-test xs (and-right (breaks x) (allOf xs) e))
 
 computed : allOf exceptions ≡ true
-unfolding exceptions carriesOwnEnd allCarryOwnEnd rowAnswer answerOf rowDecision bodyDecision walkDecision walkBody walk skipOf columnNeed cellPiece consPiece need lobNeed isReference saysHeader isShortReference hexDigits isHexDigit number anyDecFloat columnList filled blankValue rowValues rowTexts pieceValue pieceItem itemIn startOf valueOf textOf textsTogether varyingItem headerItem lobItem lobEmpty lobReference lobBytesItem lobCharItem allZero textIn hexText
+unfolding exceptions carriesOwnEnd allCarryOwnEnd rowAnswer answerOf rowDecision bodyDecision walkDecision walkBody walk skipOf columnNeed cellOf consCell need lobNeed isReference saysHeader isShortReference hexDigits isHexDigit unsigned anyDecFloat columnList filled blankValue rowValues rowTexts cellValue cellItem itemIn startOf valueOf itemText textsTogether varyingItem headerItem lobItem lobEmpty lobReference lobBytesItem lobCharItem allZero textIn hexText
 computed = refl
 
 pub exceptions-break : AllBreak exceptions

@@ -18,7 +18,7 @@ use Rattle.types.specs.declared.ByteOrder.the-variants.{BigEndian}
 use Rattle.types.specs.declared.ReferenceLength.{ReferenceLength}
 use Rattle.types.specs.declared.ReferenceLength.the-variants.{Absent, Width}
 use Rattle.types.specs.declared.ColumnDescriptor.{ColumnDescriptor}
-use Rattle.numbers.specs.Number.{number}
+use Rattle.numbers.specs.Number.{unsigned}
 use Rattle.numbers.proofs.Laws.{take-first}
 use Rattle.rules.specs.declared.Extent.{Extent}
 use Rattle.rules.specs.declared.Extent.the-variants.{Fixed, Counted, Header, Inline, Locator, Materialized}
@@ -39,17 +39,17 @@ module _ (s u : List ℕ) where
   le-length-append = omega (arith, length-append s u)
 
   be16-append : 2 ≤ length s → be16 (s ++ u) ≡ be16 s
-  be16-append h = ap (number BigEndian) (take-append-le 2 s u h)
+  be16-append h = ap (unsigned BigEndian) (take-append-le 2 s u h)
 
   be32-append : 4 ≤ length s → be32 (s ++ u) ≡ be32 s
-  be32-append h = ap (number BigEndian) (take-append-le 4 s u h)
+  be32-append h = ap (unsigned BigEndian) (take-append-le 4 s u h)
 
 module _ (s : List ℕ) (m : ℕ) where
   be16-take : 2 ≤ m → be16 (take m s) ≡ be16 s
-  be16-take h = ap (number BigEndian) (take-take 2 m s h)
+  be16-take h = ap (unsigned BigEndian) (take-take 2 m s h)
 
   be32-take : 4 ≤ m → be32 (take m s) ≡ be32 s
-  be32-take h = ap (number BigEndian) (take-take 4 m s h)
+  be32-take h = ap (unsigned BigEndian) (take-take 4 m s h)
 
 -- a reference of nine bytes
 reference-is : (s : List ℕ) → isReference s ≡ true → (9 ≤ length s) × (getD s 0 0 ≡ referenceMark)
@@ -120,7 +120,7 @@ header-stays n b s u h = ⊎-elim short long (lt-or-le (length s) 2)
     long l = rw (header-long n s l, header-long n (s ++ u) (omega (arith, le-length-append s u)), be16-append s u l)
 
 be32-of-02 : (s : List ℕ) → 4 ≤ length s → getD s 0 0 ≡ referenceMark → 9 ≤ be32 s
-unfolding number
+unfolding unsigned
 be32-of-02 s h z = rw (take-first s 4) (omega arith)
 
 inline-stays : Stays (need Inline)

@@ -15,7 +15,7 @@ use Rattle.types.specs.declared.ColumnDescriptor.{ColumnDescriptor}
 use Rattle.types.specs.Names.{bit8000, low15, namedIn}
 use Rattle.numbers.specs.Number.{Number}
 use Rattle.rules.specs.Extent.{isReference, isShortReference}
-use Rattle.rules.specs.Meaning.{ByteSort, TextSort, Item, nothing, number, boolean, part, text, Conversions, Lob, blobs, clobs, xmls, allZero, isEmptyReference, headerBytes, isEmptyHeader, headerItem, lobEmpty, lobReference, lobInline, lobItem, varyingItem, lobBytesItem, lobCharItem, typeItem}
+use Rattle.rules.specs.Meaning.{ByteSort, TextSort, Item, nothing, numeric, boolean, part, text, Conversions, Lob, blobs, clobs, xmls, allZero, isEmptyReference, headerBytes, isEmptyHeader, headerItem, lobEmpty, lobReference, lobInline, lobItem, varyingItem, lobBytesItem, lobCharItem, typeItem}
 use Rattle.rules.specs.Sorts.{Sort, sortsOf, Among}
 
 abbrev pub partSort : ByteSort → Sort
@@ -41,7 +41,7 @@ lobSort xmls = Sort.xml
 -- an item of the sorts ks, within n bytes. N is what is known of numbers, and Z of nothing
 abbrev pub Item-of : (ks : List Sort) (n : ℕ) (N : Number → Type 0) (Z : Type 0) → Item → Type 0
 Item-of ks n N Z nothing = Z
-Item-of ks n N Z (number x) = N x
+Item-of ks n N Z (numeric x) = N x
 Item-of ks n N Z (boolean b) = Among ks Sort.boolean
 Item-of ks n N Z (part k from l) = Among ks (partSort k) × (l ≤ n - from)
 Item-of ks n N Z (text k t) = Among ks (textSort k)
@@ -106,11 +106,11 @@ Nothing t = (t ≡ type.Null) ⊎ (namedIn (type.DecFloat 0 ∷ []) t ≡ true)
 
 -- what is known of the five conversions of numbers
 pub record Numbers (L : Conversions) (N : Db2Type → Number → Type 0) : Type 0 where
-  pub ofSmallInt : (c : ColumnDescriptor) (s : List ℕ) → N type.SmallInt (L .smallInt (c .«byte_order») s)
-  pub ofInteger : (c : ColumnDescriptor) (s : List ℕ) → N type.Integer (L .integer (c .«byte_order») s)
-  pub ofBigInt : (c : ColumnDescriptor) (s : List ℕ) → N type.BigInt (L .bigInt (c .«byte_order») s)
-  pub ofReal : (c : ColumnDescriptor) (s : List ℕ) → N type.Real (L .real (c .«byte_order») s)
-  pub ofDouble : (c : ColumnDescriptor) (s : List ℕ) → N type.Double (L .double (c .«byte_order») s)
+  pub ofSmallInt : (c : ColumnDescriptor) (s : List ℕ) → N type.SmallInt (L .readSmallInt (c .«byte_order») s)
+  pub ofInteger : (c : ColumnDescriptor) (s : List ℕ) → N type.Integer (L .readInteger (c .«byte_order») s)
+  pub ofBigInt : (c : ColumnDescriptor) (s : List ℕ) → N type.BigInt (L .readBigInt (c .«byte_order») s)
+  pub ofReal : (c : ColumnDescriptor) (s : List ℕ) → N type.Real (L .readReal (c .«byte_order») s)
+  pub ofDouble : (c : ColumnDescriptor) (s : List ℕ) → N type.Double (L .readDouble (c .«byte_order») s)
 
 module _ (L : Conversions) (N : Db2Type → Number → Type 0) (ns : Numbers L N) where
   pub item-of : (t : Db2Type) (c : ColumnDescriptor) (s : List ℕ) → Item-of (sortsOf t) (length s) (N t) (Nothing t) (typeItem L t c s)

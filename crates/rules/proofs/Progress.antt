@@ -20,12 +20,12 @@ use Rattle.types.specs.declared.ColumnDescriptor.{ColumnDescriptor}
 use Rattle.types.specs.declared.ValuePlace.{ValuePlace}
 use Rattle.types.specs.Names.{isDecFloat}
 use Rattle.types.specs.Places.{maxColumns, filled, blankValue}
-use Rattle.buffer.specs.Buffer.{written}
+use Rattle.buffer.specs.Buffer.{overwritten}
 use Rattle.buffer.proofs.Writing as writing
 use Rattle.rules.specs.Extent.{extentOf}
 use Rattle.rules.specs.Meaning.{Conversions}
-use Rattle.rules.specs.Walk.{columnNeed, Piece, absent, present, cellPiece, Walk, done, short, consPiece, cellShort, walk, walkBody}
-use Rattle.rules.specs.Row.{textOf, pieceItem, pieceValue, rowValues, rowTexts, anyDecFloat}
+use Rattle.rules.specs.Walk.{columnNeed, Cell, absent, present, cellOf, Walk, done, short, consCell, cellShort, walk, walkBody}
+use Rattle.rules.specs.Row.{itemText, cellItem, cellValue, rowValues, rowTexts, anyDecFloat}
 use Rattle.rules.proofs.Walks.{isDone, usedOf, piecesOf, walk-step, walk-first, walk-used}
 
 -- ---- what a turn is given
@@ -43,8 +43,8 @@ covered-at cs n i d h k =
 pub rest-is : (s : List ℕ) (at : ℕ) → take (length s - at) (drop at s) ≡ drop at s
 rest-is s at = take-all (length s - at) (drop at s) (omega (arith, length-drop at s))
 
-abbrev pub pieceAt : ColumnDescriptor → ℕ → List ℕ → Piece
-pieceAt c at r = cellPiece (c .nullable) c at (take (columnNeed c r) r)
+abbrev pub pieceAt : ColumnDescriptor → ℕ → List ℕ → Cell
+pieceAt c at r = cellOf (c .nullable) c at (take (columnNeed c r) r)
 
 -- ---- looking for a DecFloat column
 
@@ -70,7 +70,7 @@ module _ (cs : List ColumnDescriptor) where
 
 -- ---- walks and what is put before them
 
-abbrev pub onto : List Piece → Walk → Walk
+abbrev pub onto : List Cell → Walk → Walk
 onto ps (done qs n) = done (ps ++ qs) n
 onto ps (short e a) = short e a
 
@@ -78,13 +78,13 @@ onto-nothing : (w : Walk) → w ≡ onto [] w
 onto-nothing (done ps n) = refl
 onto-nothing (short e a) = refl
 
-onto-cons : (ps : List Piece) (p : Piece) (w : Walk) → onto ps (consPiece p w) ≡ onto (ps ++ (p ∷ [])) w
-unfolding consPiece
-onto-cons ps p (done qs n) = ap (λ (l : List Piece). done l n) (sym (append-assoc ps (p ∷ []) qs))
+onto-cons : (ps : List Cell) (p : Cell) (w : Walk) → onto ps (consCell p w) ≡ onto (ps ++ (p ∷ [])) w
+unfolding consCell
+onto-cons ps p (done qs n) = ap (λ (l : List Cell). done l n) (sym (append-assoc ps (p ∷ []) qs))
 onto-cons ps p (short e a) = refl
 
-pub cons-inverse : (p : Piece) (w : Walk) (qs : List Piece) (n : ℕ) → consPiece p w ≡ done qs n → (w ≡ done (piecesOf w) n) × (qs ≡ p ∷ piecesOf w)
-unfolding consPiece
+pub cons-inverse : (p : Cell) (w : Walk) (qs : List Cell) (n : ℕ) → consCell p w ≡ done qs n → (w ≡ done (piecesOf w) n) × (qs ≡ p ∷ piecesOf w)
+unfolding consCell
 cons-inverse p (done ps m) qs n h = (ap (λ (k : ℕ). done ps k) (ap usedOf h), sym (ap piecesOf h))
 cons-inverse p (short e a) qs n h = absurd (false≢true (ap isDone h))
 
@@ -94,7 +94,7 @@ module _ (cs : List ColumnDescriptor) (start : ℕ) (s : List ℕ) where
   pub record Walking (i at : ℕ) : Type 0 where
     pub after : start ≤ at
     pub within : at ≤ length s
-    pub passed : List Piece
+    pub passed : List Cell
     pub so-far : walkBody cs start s ≡ onto passed (walk start (drop i cs) at (drop at s))
 
   pub walking-start : start ≤ length s → Walking 0 start
@@ -112,11 +112,11 @@ module _ (cs : List ColumnDescriptor) (start : ℕ) (s : List ℕ) where
         record {
           after = omega (arith, w .after);
           within = omega (arith, w .within, ap length q);
-          passed = w .passed ++ (cellPiece (c .nullable) c at (take n r) ∷ []);
+          passed = w .passed ++ (cellOf (c .nullable) c at (take n r) ∷ []);
           so-far =
               here
               ∙ ap (onto (w .passed)) (walk-step start c (drop (i + 1) cs) at r n (sym z) h)
-              ∙ onto-cons (w .passed) (cellPiece (c .nullable) c at (take n r)) (walk start (drop (i + 1) cs) (at + n) (drop n r))
+              ∙ onto-cons (w .passed) (cellOf (c .nullable) c at (take n r)) (walk start (drop (i + 1) cs) (at + n) (drop n r))
               ∙ rw k;
         }
 
@@ -131,7 +131,7 @@ module _ (cs : List ColumnDescriptor) (start : ℕ) (s : List ℕ) where
 
   -- ---- going through them again
 
-  module _ (ps : List Piece) (end : ℕ) where
+  module _ (ps : List Cell) (end : ℕ) where
     -- where the walk ends
     pub end-within : start ≤ length s → walkBody cs start s ≡ done ps end → (start ≤ end) × (end ≤ length s)
     unfolding walkBody
@@ -139,9 +139,9 @@ module _ (cs : List ColumnDescriptor) (start : ℕ) (s : List ℕ) where
         let u = walk-used start cs start (drop start s) (ap isDone d) in
         omega (arith, ap usedOf d, length-drop start s)
 
-    pub record Going (i at : ℕ) (passed : List Piece) : Type 0 where
+    pub record Going (i at : ℕ) (passed : List Cell) : Type 0 where
       pub within : at ≤ length s
-      pub ahead : List Piece
+      pub ahead : List Cell
       pub all : ps ≡ passed ++ ahead
       pub rest : walk start (drop i cs) at (drop at s) ≡ done ahead end
 
@@ -149,7 +149,7 @@ module _ (cs : List ColumnDescriptor) (start : ℕ) (s : List ℕ) where
     unfolding walkBody
     going-start h d = record { within = h; ahead = ps; all = refl; rest = d }
 
-    module _ {i at : ℕ} {passed : List Piece} (g : Going i at passed) (c : ColumnDescriptor) (e : drop i cs ≡ c ∷ drop (i + 1) cs) (r : List ℕ) (q : r ≡ drop at s) where
+    module _ {i at : ℕ} {passed : List Cell} (g : Going i at passed) (c : ColumnDescriptor) (e : drop i cs ≡ c ∷ drop (i + 1) cs) (r : List ℕ) (q : r ≡ drop at s) where
       again : walk start (c ∷ drop (i + 1) cs) at r ≡ done (g .ahead) end
       again = rw (q, ← e) (g .rest)
 
@@ -174,11 +174,11 @@ module _ (cs : List ColumnDescriptor) (start : ℕ) (s : List ℕ) where
           record {
             within = omega (arith, g .within, going-there, ap length q, length-drop at s);
             ahead = piecesOf following;
-            all = g .all ∙ ap (λ (l : List Piece). passed ++ l) going-ahead ∙ sym (append-assoc passed (pieceAt c at r ∷ []) (piecesOf following));
+            all = g .all ∙ ap (λ (l : List Cell). passed ++ l) going-ahead ∙ sym (append-assoc passed (pieceAt c at r ∷ []) (piecesOf following));
             rest = rw (z, ← k) (turn .0);
           }
 
-    pub going-end : {i at : ℕ} {passed : List Piece} → (g : Going i at passed) → length cs ≤ i → (ps ≡ passed) × (g .ahead ≡ []) × (end ≡ at)
+    pub going-end : {i at : ℕ} {passed : List Cell} → (g : Going i at passed) → length cs ≤ i → (ps ≡ passed) × (g .ahead ≡ []) × (end ≡ at)
     unfolding walk
     going-end {i} {at} {passed} g h =
         let k : done [] at ≡ done (g .ahead) end = (rw (drop-of-length-le cs h) at (g .rest)) in
@@ -189,59 +189,59 @@ module _ (cs : List ColumnDescriptor) (start : ℕ) (s : List ℕ) where
 
 module _ (L : Conversions) where
   -- a piece's item does not depend on where the piece is
-  item-anywhere : (b : Bool) (c : ColumnDescriptor) (at other : ℕ) (t : List ℕ) → pieceItem L (cellPiece b c at t) ≡ pieceItem L (cellPiece b c other t)
-  unfolding pieceItem cellPiece
+  item-anywhere : (b : Bool) (c : ColumnDescriptor) (at other : ℕ) (t : List ℕ) → cellItem L (cellOf b c at t) ≡ cellItem L (cellOf b c other t)
+  unfolding cellItem cellOf
   item-anywhere true c at other [] = refl
   item-anywhere true c at other (x ∷ t) = go (eqb x 0xFF)
     where
-      go : (f : Bool) → pieceItem L (cond f absent (present c (at + 1) t)) ≡ pieceItem L (cond f absent (present c (other + 1) t))
+      go : (f : Bool) → cellItem L (cond f absent (present c (at + 1) t)) ≡ cellItem L (cond f absent (present c (other + 1) t))
       go true = refl
       go false = refl
   item-anywhere false c at other t = refl
 
   -- the text of the column c in the rest r
   abbrev pub textIn : ColumnDescriptor → List ℕ → List ℕ
-  textIn c r = textOf (pieceItem L (pieceAt c 0 r))
+  textIn c r = itemText (cellItem L (pieceAt c 0 r))
 
-  text-anywhere : (c : ColumnDescriptor) (at : ℕ) (r : List ℕ) → textOf (pieceItem L (pieceAt c at r)) ≡ textIn c r
-  text-anywhere c at r = ap textOf (item-anywhere (c .nullable) c at 0 (take (columnNeed c r) r))
+  text-anywhere : (c : ColumnDescriptor) (at : ℕ) (r : List ℕ) → itemText (cellItem L (pieceAt c at r)) ≡ textIn c r
+  text-anywhere c at r = ap itemText (item-anywhere (c .nullable) c at 0 (take (columnNeed c r) r))
 
-  texts-append : (ps qs : List Piece) → rowTexts L (ps ++ qs) ≡ rowTexts L ps ++ rowTexts L qs
+  texts-append : (ps qs : List Cell) → rowTexts L (ps ++ qs) ≡ rowTexts L ps ++ rowTexts L qs
   unfolding rowTexts
   texts-append [] qs = refl
-  texts-append (p ∷ ps) qs = ap (λ (l : List ℕ). textOf (pieceItem L p) ++ l) (texts-append ps qs) ∙ sym (append-assoc (textOf (pieceItem L p)) (rowTexts L ps) (rowTexts L qs))
+  texts-append (p ∷ ps) qs = ap (λ (l : List ℕ). itemText (cellItem L p) ++ l) (texts-append ps qs) ∙ sym (append-assoc (itemText (cellItem L p)) (rowTexts L ps) (rowTexts L qs))
 
   -- one piece more
-  texts-more : (ps : List Piece) (c : ColumnDescriptor) (at : ℕ) (r : List ℕ) → rowTexts L (ps ++ (pieceAt c at r ∷ [])) ≡ rowTexts L ps ++ textIn c r
+  texts-more : (ps : List Cell) (c : ColumnDescriptor) (at : ℕ) (r : List ℕ) → rowTexts L (ps ++ (pieceAt c at r ∷ [])) ≡ rowTexts L ps ++ textIn c r
   unfolding rowTexts
   texts-more ps c at r = texts-append ps (pieceAt c at r ∷ []) ∙ rw (text-anywhere c at r, append-nil)
 
-  texts-next : (qs : List Piece) (c : ColumnDescriptor) (at : ℕ) (r : List ℕ) → rowTexts L (pieceAt c at r ∷ qs) ≡ textIn c r ++ rowTexts L qs
+  texts-next : (qs : List Cell) (c : ColumnDescriptor) (at : ℕ) (r : List ℕ) → rowTexts L (pieceAt c at r ∷ qs) ≡ textIn c r ++ rowTexts L qs
   unfolding rowTexts
   texts-next qs c at r = rw (text-anywhere c at r)
 
-  values-more : (ps : List Piece) (p : Piece) (next : ℕ) → rowValues L (ps ++ (p ∷ [])) next ≡ rowValues L ps next ++ (pieceValue L p (next + length (rowTexts L ps)) ∷ [])
+  values-more : (ps : List Cell) (p : Cell) (next : ℕ) → rowValues L (ps ++ (p ∷ [])) next ≡ rowValues L ps next ++ (cellValue L p (next + length (rowTexts L ps)) ∷ [])
   unfolding rowValues rowTexts
   values-more [] p next = let z : next + 0 ≡ next = omega arith in rw z
   values-more (o ∷ ps) p next =
-      let l = length-append (textOf (pieceItem L o)) (rowTexts L ps) in
-      let z : next + length (textOf (pieceItem L o)) + length (rowTexts L ps) ≡ next + length (textOf (pieceItem L o) ++ rowTexts L ps) = omega arith in
-      ap (λ (l : List ValuePlace). pieceValue L o next ∷ l) (values-more ps p (next + length (textOf (pieceItem L o)))) ∙ rw z
+      let l = length-append (itemText (cellItem L o)) (rowTexts L ps) in
+      let z : next + length (itemText (cellItem L o)) + length (rowTexts L ps) ≡ next + length (itemText (cellItem L o) ++ rowTexts L ps) = omega arith in
+      ap (λ (l : List ValuePlace). cellValue L o next ∷ l) (values-more ps p (next + length (itemText (cellItem L o)))) ∙ rw z
 
-  pub values-length : (ps : List Piece) (next : ℕ) → length (rowValues L ps next) ≡ length ps
+  pub values-length : (ps : List Cell) (next : ℕ) → length (rowValues L ps next) ≡ length ps
   unfolding rowValues
   values-length [] next = refl
-  values-length (p ∷ ps) next = ap suc (values-length ps (next + length (textOf (pieceItem L p))))
+  values-length (p ∷ ps) next = ap suc (values-length ps (next + length (itemText (cellItem L p))))
 
   -- a value more, where the next text's first byte is known
-  pub values-next : (ps : List Piece) (p : Piece) (next : ℕ) → next ≡ length (rowTexts L ps) → rowValues L (ps ++ (p ∷ [])) 0 ≡ rowValues L ps 0 ++ (pieceValue L p next ∷ [])
+  pub values-next : (ps : List Cell) (p : Cell) (next : ℕ) → next ≡ length (rowTexts L ps) → rowValues L (ps ++ (p ∷ [])) 0 ≡ rowValues L ps 0 ++ (cellValue L p next ∷ [])
   values-next ps p next e = let z : 0 + length (rowTexts L ps) ≡ next = omega arith in values-more ps p 0 ∙ rw z
 
-  module _ (cs : List ColumnDescriptor) (start : ℕ) (s : List ℕ) (ps : List Piece) (end : ℕ) where
+  module _ (cs : List ColumnDescriptor) (start : ℕ) (s : List ℕ) (ps : List Cell) (end : ℕ) where
     -- ---- measuring
 
     pub record Measuring (i at total : ℕ) : Type 0 where
-      pub passed : List Piece
+      pub passed : List Cell
       pub going : Going cs start s ps end i at passed
       pub sum : total ≡ length (rowTexts L passed)
 
@@ -258,7 +258,7 @@ module _ (L : Conversions) where
       measuring-bound k z =
           let f = following cs start s ps end (m .going) c e r q in
           let a : rowTexts L ps ≡ rowTexts L (m .passed) ++ (textIn c r ++ rowTexts L (piecesOf f)) =
-          ap (rowTexts L) (m .going .all ∙ ap (λ (l : List Piece). m .passed ++ l) (going-ahead cs start s ps end (m .going) c e r q))
+          ap (rowTexts L) (m .going .all ∙ ap (λ (l : List Cell). m .passed ++ l) (going-ahead cs start s ps end (m .going) c e r q))
           ∙ texts-append (m .passed) (pieceAt c at r ∷ piecesOf f)
           ∙ ap (λ (l : List ℕ). rowTexts L (m .passed) ++ l) (texts-next (piecesOf f) c at r) in
           omega (arith, m .sum, ap length a, length-append (rowTexts L (m .passed)) (textIn c r ++ rowTexts L (piecesOf f)), length-append (textIn c r) (rowTexts L (piecesOf f)))
@@ -272,12 +272,12 @@ module _ (L : Conversions) where
           }
 
     pub measuring-end : {i at total : ℕ} → Measuring i at total → length cs ≤ i → total ≡ length (rowTexts L ps)
-    measuring-end m h = m .sum ∙ ap (λ (l : List Piece). length (rowTexts L l)) (sym (going-end cs start s ps end (m .going) h .0))
+    measuring-end m h = m .sum ∙ ap (λ (l : List Cell). length (rowTexts L l)) (sym (going-end cs start s ps end (m .going) h .0))
 
     -- ---- writing: d is the buffer as it was, out as it is now, and its next unwritten byte is at `next`
 
     module _ (d : List ℕ) where
-      pub record Placing (passed : List Piece) (i at next : ℕ) (out : List ℕ) : Type 0 where
+      pub record Placing (passed : List Cell) (i at next : ℕ) (out : List ℕ) : Type 0 where
         pub going : Going cs start s ps end i at passed
         pub sum : next ≡ length (rowTexts L passed)
         pub count : length passed ≡ i
@@ -287,11 +287,11 @@ module _ (L : Conversions) where
       unfolding rowTexts going-start
       placing-start h w k = record { going = going-start cs start s ps end h w; sum = refl; count = refl; texts = writing.start (rowTexts L ps) d k }
 
-      module _ {passed : List Piece} {i at next : ℕ} {out : List ℕ} (p : Placing passed i at next out) (c : ColumnDescriptor) (e : drop i cs ≡ c ∷ drop (i + 1) cs) (r : List ℕ) (q : r ≡ drop at s) where
+      module _ {passed : List Cell} {i at next : ℕ} {out : List ℕ} (p : Placing passed i at next out) (c : ColumnDescriptor) (e : drop i cs ≡ c ∷ drop (i + 1) cs) (r : List ℕ) (q : r ≡ drop at s) where
         pub placing-there : columnNeed c r ≤ length r
         placing-there = going-there cs start s ps end (p .going) c e r q
 
-        abbrev behind : List Piece
+        abbrev behind : List Cell
         behind = piecesOf (following cs start s ps end (p .going) c e r q)
 
         left-is : rowTexts L (p .going .ahead) ≡ textIn c r ++ rowTexts L behind
@@ -306,7 +306,7 @@ module _ (L : Conversions) where
             omega (arith, writing.as-long (p .texts), writing.fits (p .texts), ap length left-is, length-append (textIn c r) (rowTexts L behind))
 
         -- ys is what the writer left in what was lent
-        pub placing-step : (n k : ℕ) → n ≡ columnNeed c r → k ≡ length (textIn c r) → (ys : List ℕ) → ys ≡ written (textIn c r) (take (length out - next) (drop next out))
+        pub placing-step : (n k : ℕ) → n ≡ columnNeed c r → k ≡ length (textIn c r) → (ys : List ℕ) → ys ≡ overwritten (textIn c r) (take (length out - next) (drop next out))
             → Placing (passed ++ (pieceAt c at r ∷ [])) (i + 1) (at + n) (next + k) (take next out ++ (ys ++ drop (length out - next) (drop next out)))
         unfolding going-step walk
         placing-step n k y z ys w =
@@ -317,8 +317,8 @@ module _ (L : Conversions) where
               texts = writing.wrote-rest (p .texts) (textIn c r) (rowTexts L behind) left-is ys w k z;
             }
 
-      pub placing-end : {passed : List Piece} {i at next : ℕ} {out : List ℕ} → Placing passed i at next out → length cs ≤ i
-          → (ps ≡ passed) × (end ≡ at) × (out ≡ written (rowTexts L ps) d)
+      pub placing-end : {passed : List Cell} {i at next : ℕ} {out : List ℕ} → Placing passed i at next out → length cs ≤ i
+          → (ps ≡ passed) × (end ≡ at) × (out ≡ overwritten (rowTexts L ps) d)
       unfolding rowTexts
       placing-end p h =
           let g = going-end cs start s ps end (p .going) h in
@@ -340,9 +340,9 @@ pub placed-start : (L : Conversions) → replicate maxColumns blankValue ≡ fil
 unfolding filled rowValues
 placed-start L = refl
 
-pub placed-step : (L : Conversions) (passed : List Piece) (places : List ValuePlace) → places ≡ filled blankValue (rowValues L passed 0)
-    → (i next : ℕ) → length passed ≡ i → i < maxColumns → next ≡ length (rowTexts L passed) → (p : Piece) (v : ValuePlace) → v ≡ pieceValue L p next
+pub placed-step : (L : Conversions) (passed : List Cell) (places : List ValuePlace) → places ≡ filled blankValue (rowValues L passed 0)
+    → (i next : ℕ) → length passed ≡ i → i < maxColumns → next ≡ length (rowTexts L passed) → (p : Cell) (v : ValuePlace) → v ≡ cellValue L p next
     → set places i v ≡ filled blankValue (rowValues L (passed ++ (p ∷ [])) 0)
 placed-step L passed places e i next k h n p v q =
     let l : length (rowValues L passed 0) ≡ i = values-length L passed 0 ∙ k in
-    rw (e, q, values-next L passed p next n, ← l) (filled-set blankValue (rowValues L passed 0) (pieceValue L p next) (omega arith))
+    rw (e, q, values-next L passed p next n, ← l) (filled-set blankValue (rowValues L passed 0) (cellValue L p next) (omega arith))

@@ -11,12 +11,12 @@ use borrow.Author.Tests.{le-leb, ne-eqb}
 use Rattle.types.specs.declared.ColumnDescriptor.{ColumnDescriptor}
 use Rattle.types.specs.declared.ValuePlace.{ValuePlace}
 use Rattle.types.specs.Places.{maxColumns, filled, blankValue}
-use Rattle.rules.specs.Meaning.{Item, nothing, number, boolean, part, text, Conversions, itemIn}
-use Rattle.rules.specs.Walk.{columnNeed, Piece, absent, present, cellPiece, Walk, done, short, consPiece, walk, walkBody, walkRow, skipOf}
+use Rattle.rules.specs.Meaning.{Item, nothing, numeric, boolean, part, text, Conversions, itemIn}
+use Rattle.rules.specs.Walk.{columnNeed, Cell, absent, present, cellOf, Walk, done, short, consCell, walk, walkBody, walkRow, skipOf}
 use Rattle.rules.specs.Value.{bytesAt, valueBytes}
-use Rattle.rules.specs.Row.{Decision, acceptance, covered, place, startOf, valueOf, textOf, pieceItem, pieceValue, rowValues, rowTexts, rowDecision, answerOf, textAfter}
+use Rattle.rules.specs.Row.{Decision, accept, covered, place, startOf, valueOf, itemText, cellItem, cellValue, rowValues, rowTexts, rowDecision, answerOf, textAfter}
 use Rattle.rules.specs.Conversions.{ported}
-use Rattle.rules.specs.Shown.{shownOf, pieceShown, ValuesShown}
+use Rattle.rules.specs.Shown.{shownOf, cellShown, ValuesShown}
 use Rattle.rules.proofs.Walks.{isDone, piecesOf, walk-step, walk-first, walk-rest}
 use Rattle.rules.proofs.Rows.{skip-fits}
 use Rattle.rules.proofs.Answers.{Inside, item-inside, number-held, part-held, text-held}
@@ -32,16 +32,16 @@ pub record StandsAt (s : List ℕ) (at : ℕ) (b : List ℕ) : Type 0 where
   pub split : s ≡ before ++ (b ++ behind)
   pub begins : length before ≡ at
 
-abbrev Stands : List ℕ → Piece → Type 0
+abbrev Stands : List ℕ → Cell → Type 0
 Stands s absent = Unit {0}
 Stands s (present c at b) = StandsAt s at b
 
-abbrev AllStand : List ℕ → List Piece → Type 0
+abbrev AllStand : List ℕ → List Cell → Type 0
 AllStand s [] = Unit {0}
 AllStand s (p ∷ ps) = Stands s p × AllStand s ps
 
-piece-stands : (s a z : List ℕ) (at : ℕ) → length a ≡ at → (t : Bool) (c : ColumnDescriptor) (b : List ℕ) → s ≡ a ++ (b ++ z) → Stands s (cellPiece t c at b)
-unfolding cellPiece
+piece-stands : (s a z : List ℕ) (at : ℕ) → length a ≡ at → (t : Bool) (c : ColumnDescriptor) (b : List ℕ) → s ≡ a ++ (b ++ z) → Stands s (cellOf t c at b)
+unfolding cellOf
 piece-stands s a z at h true c [] e = tt
 piece-stands s a z at h true c (x ∷ b) e = go (eqb x 255)
   where
@@ -51,8 +51,8 @@ piece-stands s a z at h true c (x ∷ b) e = go (eqb x 255)
         record { before = a ++ (x ∷ []); behind = z; split = e ∙ sym (append-assoc a (x ∷ []) (b ++ z)); begins = length-append a (x ∷ []) ∙ ap (λ (k : ℕ). k + 1) h }
 piece-stands s a z at h false c b e = record { before = a; behind = z; split = e; begins = h }
 
-cons-stands : (s : List ℕ) (p : Piece) (w : Walk) → Stands s p → AllStand s (piecesOf w) → AllStand s (piecesOf (consPiece p w))
-unfolding consPiece
+cons-stands : (s : List ℕ) (p : Cell) (w : Walk) → Stands s p → AllStand s (piecesOf w) → AllStand s (piecesOf (consCell p w))
+unfolding consCell
 cons-stands s p (done ps k) h hs = (h, hs)
 cons-stands s p (short e a) h hs = tt
 
@@ -67,7 +67,7 @@ walk-stands s a start (c ∷ cs) at r h e d =
     let n : length (a ++ take k r) ≡ at + k = omega (arith, length-append a (take k r), length-take-le k r there, h) in
     let ih = walk-stands s (a ++ take k r) start cs (at + k) (drop k r) n (whole ∙ sym (append-assoc a (take k r) (drop k r))) (walk-rest start c cs at r d) in
     subst (λ (w : Walk). AllStand s (piecesOf w)) (sym (walk-step start c cs at r k refl there))
-    (cons-stands s (cellPiece (c .nullable) c at (take k r)) (walk start cs (at + k) (drop k r)) (piece-stands s a (drop k r) at h (c .nullable) c (take k r) whole) ih)
+    (cons-stands s (cellOf (c .nullable) c at (take k r)) (walk start cs (at + k) (drop k r)) (piece-stands s a (drop k r) at h (c .nullable) c (take k r) whole) ih)
 
 -- ---- what a value shows
 
@@ -90,29 +90,29 @@ part-shown s b at from (suc n) h i =
     let more : eqb (suc n) 0 ≡ false = ne-eqb (suc n) 0 (λ e. omega (arith, e)) in
     rw more (rw (p, q, sym w) at (text-there a m (u ++ h .behind)))
 
-item-shown : (x : Item) (at : ℕ) (s b a z : List ℕ) → StandsAt s at b → Inside (length b) x → valueBytes (valueOf x at (length a)) s (a ++ (textOf x ++ z)) ≡ shownOf x b
-unfolding valueBytes valueOf textOf
+item-shown : (x : Item) (at : ℕ) (s b a z : List ℕ) → StandsAt s at b → Inside (length b) x → valueBytes (valueOf x at (length a)) s (a ++ (itemText x ++ z)) ≡ shownOf x b
+unfolding valueBytes valueOf itemText
 item-shown nothing at s b a z h i = refl
-item-shown (number x) at s b a z h i = rw (number-held x .1)
+item-shown (numeric x) at s b a z h i = rw (number-held x .1)
 item-shown (boolean t) at s b a z h i = refl
 item-shown (part k from n) at s b a z h i = rw part-held (part-shown s b at from n h i)
 item-shown (text k t) at s b a z h i = rw text-held (text-there a t z)
 
 module _ (L : Conversions) (s : List ℕ) where
-  piece-shown : (p : Piece) → Stands s p → (a z : List ℕ) → valueBytes (pieceValue L p (length a) .value) s (a ++ (textOf (pieceItem L p) ++ z)) ≡ pieceShown L p
-  unfolding pieceItem pieceValue blankValue valueBytes
+  piece-shown : (p : Cell) → Stands s p → (a z : List ℕ) → valueBytes (cellValue L p (length a) .value) s (a ++ (itemText (cellItem L p) ++ z)) ≡ cellShown L p
+  unfolding cellItem cellValue blankValue valueBytes
   piece-shown absent h a z = refl
   piece-shown (present c at b) h a z = item-shown (itemIn L c b) at s b a z h (item-inside L c b)
 
-  all-shown : (ps : List Piece) → AllStand s ps → (a z : List ℕ) (i : ℕ)
-      → valueBytes (getD (rowValues L ps (length a)) i blankValue .value) s (a ++ (rowTexts L ps ++ z)) ≡ pieceShown L (getD ps i absent)
+  all-shown : (ps : List Cell) → AllStand s ps → (a z : List ℕ) (i : ℕ)
+      → valueBytes (getD (rowValues L ps (length a)) i blankValue .value) s (a ++ (rowTexts L ps ++ z)) ≡ cellShown L (getD ps i absent)
   unfolding rowValues rowTexts blankValue valueBytes
   all-shown [] h a z i = refl
   all-shown (p ∷ ps) h a z zero =
-      let t = textOf (pieceItem L p) in
+      let t = itemText (cellItem L p) in
       rw (append-assoc t (rowTexts L ps) z) (piece-shown p (h .0) a (rowTexts L ps ++ z))
   all-shown (p ∷ ps) h a z (suc i) =
-      let t = textOf (pieceItem L p) in
+      let t = itemText (cellItem L p) in
       let r = rowTexts L ps in
       let n : length (a ++ t) ≡ length a + length t = length-append a t in
       rw (append-assoc t r z) (rw (append-assoc a t (r ++ z), n) at (all-shown ps (h .1) (a ++ t) z i))

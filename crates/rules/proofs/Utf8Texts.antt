@@ -10,12 +10,12 @@ use lib.Seq.{take-at, drop-at}
 use borrow.Author.Tests.{lt-ltb, le-leb}
 use Rattle.unicode.specs.Unicode.{utf8}
 use Rattle.unicode.specs.Ascii.{allAscii}
-use Rattle.unicode.specs.Laws.{WellFormed, Bytes}
+use Rattle.unicode.specs.Laws.{WellFormed, AreBytes}
 use Rattle.unicode.proofs.Ranges.{both}
 use Rattle.unicode.proofs.Bytes.{bytes-drop, bytes-take}
 use Rattle.unicode.proofs.Laws.{texts}
 use Rattle.conversion.proofs.Utf8Texts.{ascii-well-formed, ascii-append, characters-well-formed, graphics-well-formed, locator-well-formed, row-id-well-formed}
-use Rattle.packed.specs.Packed.{nibbles, signNibble, sign, digitNibbles, character, digits, trimmed, whole, zeros, fraction, decimalText}
+use Rattle.packed.specs.Packed.{nibbles, signNibble, signText, digitNibbles, character, digitText, trimmed, whole, zeros, fraction, decimalText}
 use Rattle.types.specs.declared.Db2Type.{Db2Type}
 use Rattle.types.specs.declared.Db2Type.the-variants as type
 use Rattle.types.specs.declared.ReferenceLength.{ReferenceLength}
@@ -24,13 +24,13 @@ use Rattle.types.specs.declared.ColumnDescriptor.{ColumnDescriptor}
 use Rattle.types.specs.declared.ValuePlace.{ValuePlace}
 use Rattle.types.specs.Places.{maxColumns, filled, blankValue}
 use Rattle.types.specs.Held.{held}
-use Rattle.buffer.specs.Buffer.{written}
+use Rattle.buffer.specs.Buffer.{overwritten}
 use Rattle.types.specs.Names.{bit8000, low15}
 use Rattle.rules.specs.Extent.{isReference, isShortReference, saysHeader}
-use Rattle.rules.specs.Meaning.{Item, nothing, number, boolean, part, text, Lob, blobs, clobs, xmls, clob, varChar, blob, allZero, isEmptyReference, headerBytes, isEmptyHeader, lobEmpty, headerItem, lobReference, lobInline, lobItem, varyingItem, lobBytesItem, lobCharItem, typeItem, itemIn}
-use Rattle.rules.specs.Walk.{columnNeed, Piece, absent, present, cellPiece, Walk, done, short, consPiece, walk, walkBody, walkRow, skipOf}
+use Rattle.rules.specs.Meaning.{Item, nothing, numeric, boolean, part, text, Lob, blobs, clobs, xmls, clob, varChar, blob, allZero, isEmptyReference, headerBytes, isEmptyHeader, lobEmpty, headerItem, lobReference, lobInline, lobItem, varyingItem, lobBytesItem, lobCharItem, typeItem, itemIn}
+use Rattle.rules.specs.Walk.{columnNeed, Cell, absent, present, cellOf, Walk, done, short, consCell, walk, walkBody, walkRow, skipOf}
 use Rattle.rules.specs.Value.{bytesAt}
-use Rattle.rules.specs.Row.{place, valueOf, textOf, pieceItem, pieceValue, rowValues, rowTexts, covered, answerOf, textAfter}
+use Rattle.rules.specs.Row.{place, valueOf, itemText, cellItem, cellValue, rowValues, rowTexts, covered, answerOf, textAfter}
 use Rattle.rules.specs.Conversions.{ported, rowAnswer, rowText}
 use Rattle.rules.specs.Accepted.{HoldsUtf8, TextsUtf8}
 use Rattle.rules.proofs.Walks.{isDone, piecesOf, walk-step, walk-first, walk-rest}
@@ -43,7 +43,7 @@ abbrev Low : List ℕ → Type 0
 Low [] = Unit {0}
 Low (v ∷ vs) = (v < 16) × Low vs
 
-nibbles-low : (s : List ℕ) → Bytes s → Low (nibbles s)
+nibbles-low : (s : List ℕ) → AreBytes s → Low (nibbles s)
 unfolding nibbles
 nibbles-low [] h = tt
 nibbles-low (b ∷ s) h = (omega (arith, h 0), (omega arith, nibbles-low s (λ i. h (suc i))))
@@ -82,8 +82,8 @@ trimmed-ascii (b ∷ s) e = go (eqb b 0x30) (trimmed-ascii s (both (ltb b 0x80) 
     go true r = r
     go false r = e
 
-sign-ascii : (s : List ℕ) → allAscii (sign s) ≡ true
-unfolding sign allAscii
+sign-ascii : (s : List ℕ) → allAscii (signText s) ≡ true
+unfolding signText allAscii
 sign-ascii s = go (eqb (signNibble s) 0xD)
   where
     go : (x : Bool) → allAscii (cond x (0x2D ∷ []) []) ≡ true
@@ -98,13 +98,13 @@ fraction-ascii scale ds e = go (eqb scale 0)
     go true = refl
     go false = ascii-append (zeros (scale - length ds)) (drop (length ds - scale) ds) (zeros-ascii (scale - length ds)) (ascii-drop (length ds - scale) ds e)
 
-pub decimal-well-formed : (scale : ℕ) (s : List ℕ) → Bytes s → WellFormed utf8 (decimalText scale s)
-unfolding decimalText digits
+pub decimal-well-formed : (scale : ℕ) (s : List ℕ) → AreBytes s → WellFormed utf8 (decimalText scale s)
+unfolding decimalText digitText
 decimal-well-formed scale s h =
-    let ds = digits s in
+    let ds = digitText s in
     let e : allAscii ds ≡ true = characters-ascii (length (nibbles s) - 1) (nibbles s) (nibbles-low s h) in
     ascii-well-formed (decimalText scale s)
-    (ascii-append (sign s) (trimmed (whole scale ds) ++ fraction scale ds) (sign-ascii s)
+    (ascii-append (signText s) (trimmed (whole scale ds) ++ fraction scale ds) (sign-ascii s)
     (ascii-append (trimmed (whole scale ds)) (fraction scale ds) (trimmed-ascii (whole scale ds) (ascii-take (length ds - scale) ds e)) (fraction-ascii scale ds e)))
 
 -- ---- the texts of items
@@ -112,7 +112,7 @@ decimal-well-formed scale s h =
 -- an item's text is well-formed
 abbrev pub Fine : Item → Type 0
 Fine nothing = Unit {0}
-Fine (number x) = Unit {0}
+Fine (numeric x) = Unit {0}
 Fine (boolean b) = Unit {0}
 Fine (part k from n) = Unit {0}
 Fine (text k t) = WellFormed utf8 t
@@ -125,7 +125,7 @@ nothing-written : WellFormed utf8 []
 unfolding allAscii
 nothing-written = ascii-well-formed [] refl
 
-module _ (s : List ℕ) (h : Bytes s) where
+module _ (s : List ℕ) (h : AreBytes s) where
   empty-fine : (k : Lob) → Fine (lobEmpty k)
   unfolding lobEmpty
   empty-fine blobs = tt
@@ -150,10 +150,10 @@ module _ (s : List ℕ) (h : Bytes s) where
   lob-fine Absent located k =
       picked (isReference s) _ _ (picked (allZero (drop 1 s)) _ _ (empty-fine k) (reference-fine k)) (picked located _ _ (reference-fine k) (inline-fine k))
 
-  header-bytes : Bytes (headerBytes s)
+  header-bytes : AreBytes (headerBytes s)
   header-bytes = go (saysHeader s)
     where
-      go : (x : Bool) → Bytes (cond x (drop 2 s) s)
+      go : (x : Bool) → AreBytes (cond x (drop 2 s) s)
       go true = bytes-drop 2 s h
       go false = h
 
@@ -209,16 +209,16 @@ module _ (s : List ℕ) (h : Bytes s) where
 -- ---- the texts of a row
 
 -- the bytes of a piece are bytes of the row
-abbrev PieceBytes : Piece → Type 0
+abbrev PieceBytes : Cell → Type 0
 PieceBytes absent = Unit {0}
-PieceBytes (present c at s) = Bytes s
+PieceBytes (present c at s) = AreBytes s
 
-abbrev AllBytes : List Piece → Type 0
+abbrev AllBytes : List Cell → Type 0
 AllBytes [] = Unit {0}
 AllBytes (p ∷ ps) = PieceBytes p × AllBytes ps
 
-piece-bytes : (t : Bool) (c : ColumnDescriptor) (at : ℕ) (s : List ℕ) → Bytes s → PieceBytes (cellPiece t c at s)
-unfolding cellPiece
+piece-bytes : (t : Bool) (c : ColumnDescriptor) (at : ℕ) (s : List ℕ) → AreBytes s → PieceBytes (cellOf t c at s)
+unfolding cellOf
 piece-bytes true c at [] h = tt
 piece-bytes true c at (b ∷ s) h = go (eqb b 255)
   where
@@ -227,19 +227,19 @@ piece-bytes true c at (b ∷ s) h = go (eqb b 255)
     go false = λ i. h (suc i)
 piece-bytes false c at s h = h
 
-cons-bytes : (p : Piece) (w : Walk) → PieceBytes p → AllBytes (piecesOf w) → AllBytes (piecesOf (consPiece p w))
-unfolding consPiece
+cons-bytes : (p : Cell) (w : Walk) → PieceBytes p → AllBytes (piecesOf w) → AllBytes (piecesOf (consCell p w))
+unfolding consCell
 cons-bytes p (done ps k) h hs = (h, hs)
 cons-bytes p (short e a) h hs = tt
 
-walk-bytes : (start : ℕ) (cs : List ColumnDescriptor) (at : ℕ) (s : List ℕ) → Bytes s → isDone (walk start cs at s) ≡ true → AllBytes (piecesOf (walk start cs at s))
+walk-bytes : (start : ℕ) (cs : List ColumnDescriptor) (at : ℕ) (s : List ℕ) → AreBytes s → isDone (walk start cs at s) ≡ true → AllBytes (piecesOf (walk start cs at s))
 unfolding walk
 walk-bytes start [] at s h d = tt
 walk-bytes start (c ∷ cs) at s h d =
     let k = columnNeed c s in
     let ih = walk-bytes start cs (at + k) (drop k s) (bytes-drop k s h) (walk-rest start c cs at s d) in
     subst (λ (w : Walk). AllBytes (piecesOf w)) (sym (walk-step start c cs at s k refl (walk-first start c cs at s d)))
-    (cons-bytes (cellPiece (c .nullable) c at (take k s)) (walk start cs (at + k) (drop k s)) (piece-bytes (c .nullable) c at (take k s) (bytes-take k s h)) ih)
+    (cons-bytes (cellOf (c .nullable) c at (take k s)) (walk start cs (at + k) (drop k s)) (piece-bytes (c .nullable) c at (take k s) (bytes-take k s h)) ih)
 
 -- a text stands where its value says, behind the texts a
 pub text-there : (a t b : List ℕ) → bytesAt (place (length a) (length t)) (a ++ (t ++ b)) ≡ t
@@ -248,16 +248,16 @@ text-there a t b =
     rw (le-leb (length a + length t) (length (a ++ (t ++ b))) (omega (arith, length-append a (t ++ b), length-append t b)), drop-at a (t ++ b) (length a) refl)
     (take-at t b (length t) refl)
 
-item-utf8 : (x : Item) (at : ℕ) (a b : List ℕ) → Fine x → HoldsUtf8 (held (valueOf x at (length a))) (a ++ (textOf x ++ b))
-unfolding valueOf textOf
+item-utf8 : (x : Item) (at : ℕ) (a b : List ℕ) → Fine x → HoldsUtf8 (held (valueOf x at (length a))) (a ++ (itemText x ++ b))
+unfolding valueOf itemText
 item-utf8 nothing at a b f = tt
-item-utf8 (number x) at a b f = rw (number-held x .1) tt
+item-utf8 (numeric x) at a b f = rw (number-held x .1) tt
 item-utf8 (boolean x) at a b f = tt
 item-utf8 (part k from l) at a b f = rw part-held tt
 item-utf8 (text k t) at a b f = rw (text-held, text-there a t b) f
 
-piece-utf8 : (p : Piece) → PieceBytes p → (a b : List ℕ) → HoldsUtf8 (held (pieceValue ported p (length a) .value)) (a ++ (textOf (pieceItem ported p) ++ b))
-unfolding pieceItem pieceValue blankValue
+piece-utf8 : (p : Cell) → PieceBytes p → (a b : List ℕ) → HoldsUtf8 (held (cellValue ported p (length a) .value)) (a ++ (itemText (cellItem ported p) ++ b))
+unfolding cellItem cellValue blankValue
 piece-utf8 absent h a b = tt
 piece-utf8 (present c at s) h a b = item-utf8 (itemIn ported c s) at a b (item-well-formed s h c)
 
@@ -265,11 +265,11 @@ abbrev AllUtf8 : List ValuePlace → List ℕ → Type 0
 AllUtf8 [] d = Unit {0}
 AllUtf8 (v ∷ vs) d = HoldsUtf8 (held (v .value)) d × AllUtf8 vs d
 
-values-utf8 : (ps : List Piece) → AllBytes ps → (a b : List ℕ) → AllUtf8 (rowValues ported ps (length a)) (a ++ (rowTexts ported ps ++ b))
+values-utf8 : (ps : List Cell) → AllBytes ps → (a b : List ℕ) → AllUtf8 (rowValues ported ps (length a)) (a ++ (rowTexts ported ps ++ b))
 unfolding rowValues rowTexts
 values-utf8 [] h a b = tt
 values-utf8 (p ∷ ps) h a b =
-    let t = textOf (pieceItem ported p) in
+    let t = itemText (cellItem ported p) in
     let r = rowTexts ported ps in
     let e : a ++ ((t ++ r) ++ b) ≡ a ++ (t ++ (r ++ b)) = ap (λ (l : List ℕ). a ++ l) (append-assoc t r b) in
     let n : length (a ++ t) ≡ length a + length t = length-append a t in
@@ -303,5 +303,5 @@ texts-utf8 columns s d h e i =
     let ts = rowTexts ported ps in
     let b = walk-bytes (skipOf s) cs (skipOf s) (drop (skipOf s) s) (bytes-drop (skipOf s) s h) (f .over) in
     rw (f .decided)
-    (at-utf8 (vs ++ replicate k blankValue) (written ts d) i
-    (append-utf8 vs (replicate k blankValue) (written ts d) (values-utf8 ps b [] (drop (length ts) d)) (blanks-utf8 k (written ts d))))
+    (at-utf8 (vs ++ replicate k blankValue) (overwritten ts d) i
+    (append-utf8 vs (replicate k blankValue) (overwritten ts d) (values-utf8 ps b [] (drop (length ts) d)) (blanks-utf8 k (overwritten ts d))))

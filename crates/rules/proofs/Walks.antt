@@ -14,7 +14,7 @@ use Rattle.types.specs.declared.ColumnDescriptor.{ColumnDescriptor}
 use Rattle.rules.specs.declared.Extent.{Extent}
 use Rattle.rules.specs.Extent.{need, extentOf}
 use Rattle.rules.specs.OwnEnd.{carriesOwnEnd, allCarryOwnEnd}
-use Rattle.rules.specs.Walk.{nullableNeed, cellNeed, columnNeed, Piece, cellPiece, Walk, done, short, consPiece, cellShort, walk}
+use Rattle.rules.specs.Walk.{nullableNeed, cellNeed, columnNeed, Cell, cellOf, Walk, done, short, consCell, cellShort, walk}
 use Rattle.rules.proofs.Tests.{and-left, and-right}
 use Rattle.rules.proofs.Extents.{Stays, Cuts, stays, cuts, column-ends}
 
@@ -26,7 +26,7 @@ abbrev pub usedOf : Walk → ℕ
 usedOf (done ps n) = n
 usedOf (short e a) = 0
 
-abbrev pub piecesOf : Walk → List Piece
+abbrev pub piecesOf : Walk → List Cell
 piecesOf (done ps n) = ps
 piecesOf (short e a) = []
 
@@ -72,7 +72,7 @@ cell-cuts c = go (c .nullable)
 
 -- one step of the walk
 pub walk-step : (start : ℕ) (c : ColumnDescriptor) (cs : List ColumnDescriptor) (at : ℕ) (s : List ℕ) (k : ℕ) → columnNeed c s ≡ k → k ≤ length s
-    → walk start (c ∷ cs) at s ≡ consPiece (cellPiece (c .nullable) c at (take k s)) (walk start cs (at + k) (drop k s))
+    → walk start (c ∷ cs) at s ≡ consCell (cellOf (c .nullable) c at (take k s)) (walk start cs (at + k) (drop k s))
 unfolding walk
 walk-step start c cs at s k e h = rw (e, le-leb k (length s) h)
 
@@ -91,20 +91,20 @@ walk-first start c cs at s d = go (leb (columnNeed c s) (length s)) refl
     go true e = leb-true (columnNeed c s) (length s) e
     go false e = absurd (true≢false (sym (rw e at d) ∙ short-not-done (c .nullable) (extentOf c) (at - start) s))
 
-pub cons-done : (p : Piece) (w : Walk) → isDone (consPiece p w) ≡ isDone w
-unfolding consPiece
+pub cons-done : (p : Cell) (w : Walk) → isDone (consCell p w) ≡ isDone w
+unfolding consCell
 cons-done p (done ps n) = refl
 cons-done p (short e a) = refl
 
-pub cons-used : (p : Piece) (w : Walk) → usedOf (consPiece p w) ≡ usedOf w
-unfolding consPiece
+pub cons-used : (p : Cell) (w : Walk) → usedOf (consCell p w) ≡ usedOf w
+unfolding consCell
 cons-used p (done ps n) = refl
 cons-used p (short e a) = refl
 
 pub walk-rest : (start : ℕ) (c : ColumnDescriptor) (cs : List ColumnDescriptor) (at : ℕ) (s : List ℕ) → isDone (walk start (c ∷ cs) at s) ≡ true
     → isDone (walk start cs (at + columnNeed c s) (drop (columnNeed c s) s)) ≡ true
 walk-rest start c cs at s d =
-    sym (cons-done (cellPiece (c .nullable) c at (take (columnNeed c s) s)) (walk start cs (at + columnNeed c s) (drop (columnNeed c s) s)))
+    sym (cons-done (cellOf (c .nullable) c at (take (columnNeed c s) s)) (walk start cs (at + columnNeed c s) (drop (columnNeed c s) s)))
     ∙ sym (ap isDone (walk-step start c cs at s (columnNeed c s) refl (walk-first start c cs at s d)))
     ∙ d
 
@@ -112,7 +112,7 @@ pub walk-rest-used : (start : ℕ) (c : ColumnDescriptor) (cs : List ColumnDescr
     → usedOf (walk start (c ∷ cs) at s) ≡ usedOf (walk start cs (at + columnNeed c s) (drop (columnNeed c s) s))
 walk-rest-used start c cs at s d =
     ap usedOf (walk-step start c cs at s (columnNeed c s) refl (walk-first start c cs at s d))
-    ∙ cons-used (cellPiece (c .nullable) c at (take (columnNeed c s) s)) (walk start cs (at + columnNeed c s) (drop (columnNeed c s) s))
+    ∙ cons-used (cellOf (c .nullable) c at (take (columnNeed c s) s)) (walk start cs (at + columnNeed c s) (drop (columnNeed c s) s))
 
 pub walk-used : (start : ℕ) (cs : List ColumnDescriptor) (at : ℕ) (s : List ℕ) → isDone (walk start cs at s) ≡ true
     → (at ≤ usedOf (walk start cs at s)) × (usedOf (walk start cs at s) ≤ at + length s)

@@ -5,10 +5,10 @@ use mathlib.Core.List.{List}
 use lib.ListN.{length, getD}
 use Rattle.refusal.specs.Refusal.{accepted}
 use Rattle.unicode.specs.Unicode.{utf8}
-use Rattle.unicode.specs.Laws.{WellFormed, Bytes}
+use Rattle.unicode.specs.Laws.{WellFormed, AreBytes}
 use Rattle.types.specs.declared.Columns.{Columns}
 use Rattle.types.specs.Places.{maxColumns, blankColumn, blankValue, covered}
-use Rattle.types.specs.Held.{Held, bits, row, textBuffer, held}
+use Rattle.types.specs.Held.{Held, bits, inRow, inText, held}
 use Rattle.rules.specs.Value.{bytesAt}
 use Rattle.rules.specs.Row.{RowTold}
 use Rattle.rules.specs.Sorts.{Allows}
@@ -16,14 +16,14 @@ use Rattle.rules.specs.Sorts.{Allows}
 -- a value's place lies in the row s, or in the text buffer d
 abbrev pub Fits : Held → List ℕ → List ℕ → Type 0
 Fits (bits b) s d = Unit {0}
-Fits (row p) s d = p .start + p .len ≤ length s
-Fits (textBuffer p) s d = p .start + p .len ≤ length d
+Fits (inRow p) s d = p .start + p .len ≤ length s
+Fits (inText p) s d = p .start + p .len ≤ length d
 
 -- a value's text, where it has one, is well-formed UTF-8 in the text buffer d
 abbrev pub HoldsUtf8 : Held → List ℕ → Type 0
 HoldsUtf8 (bits b) d = Unit {0}
-HoldsUtf8 (row p) d = Unit {0}
-HoldsUtf8 (textBuffer p) d = WellFormed utf8 (bytesAt p d)
+HoldsUtf8 (inRow p) d = Unit {0}
+HoldsUtf8 (inText p) d = WellFormed utf8 (bytesAt p d)
 
 module _ (answer : Columns → List ℕ → List ℕ → RowTold) (after : Columns → List ℕ → List ℕ → List ℕ) where
   -- an answer has as many value places as a list has places for columns
@@ -53,5 +53,5 @@ module _ (answer : Columns → List ℕ → List ℕ → RowTold) (after : Colum
   -- T1: each text of an accepted answer to a row of bytes
   abbrev pub TextsUtf8 : Type 0
   TextsUtf8 =
-      (columns : Columns) (s d : List ℕ) → Bytes s → answer columns s d .outcome ≡ accepted
+      (columns : Columns) (s d : List ℕ) → AreBytes s → answer columns s d .outcome ≡ accepted
       → (i : ℕ) → HoldsUtf8 (held (getD (answer columns s d .places) i blankValue .value)) (after columns s d)

@@ -13,11 +13,11 @@ use Rattle.rules.specs.Row.{RowTold, answerWith, textWith}
 abbrev pub ported : Conversions
 ported =
     record {
-      smallInt = smallIntIn;
-      integer = integerIn;
-      bigInt = bigIntIn;
-      real = realIn;
-      double = doubleIn;
+      readSmallInt = smallIntIn;
+      readInteger = integerIn;
+      readBigInt = bigIntIn;
+      readReal = realIn;
+      readDouble = doubleIn;
       packed = decimalText;
       characters = characterText;
       graphics = graphicText;

@@ -37,7 +37,7 @@ pub record Exception : Type 0 where
   pub before : List ColumnDescriptor
   pub last : ColumnDescriptor
   pub input : List ℕ
-  pub longer : List ℕ
+  pub longerInput : List ℕ
 
 -- the columns, and a text buffer for the rows below
 abbrev pub columnsIn : Exception → Columns
@@ -48,18 +48,18 @@ room = replicate 64 0
 
 -- 16 bytes that are hexadecimal digits are a reference, and so are 17
 abbrev pub materialized : Db2Type → Exception
-materialized t = record { before = []; last = column t 0; input = replicate 16 0x30; longer = replicate 17 0x30 }
+materialized t = record { before = []; last = column t 0; input = replicate 16 0x30; longerInput = replicate 17 0x30 }
 
 -- a LOB of length 0: four bytes are a locator, and nine that begin with the same four are a reference
 abbrev pub lobOfLength0 : Db2Type → Exception
-lobOfLength0 t = record { before = []; last = column t 0; input = 0x02 ∷ replicate 3 0; longer = 0x02 ∷ replicate 8 0 }
+lobOfLength0 t = record { before = []; last = column t 0; input = 0x02 ∷ replicate 3 0; longerInput = 0x02 ∷ replicate 8 0 }
 
 -- a header of no bytes or of one, where the next bytes say another length
 abbrev pub headerOf0 : Db2Type → Exception
-headerOf0 t = record { before = column type.SmallInt 2 ∷ []; last = column t 0; input = 0 ∷ 1 ∷ []; longer = 0 ∷ 1 ∷ 0x80 ∷ 0 ∷ [] }
+headerOf0 t = record { before = column type.SmallInt 2 ∷ []; last = column t 0; input = 0 ∷ 1 ∷ []; longerInput = 0 ∷ 1 ∷ 0x80 ∷ 0 ∷ [] }
 
 abbrev pub headerOf1 : Db2Type → Exception
-headerOf1 t = record { before = column type.SmallInt 2 ∷ []; last = column t 0; input = 0 ∷ 1 ∷ 0x80 ∷ []; longer = 0 ∷ 1 ∷ 0x80 ∷ 0 ∷ [] }
+headerOf1 t = record { before = column type.SmallInt 2 ∷ []; last = column t 0; input = 0 ∷ 1 ∷ 0x80 ∷ []; longerInput = 0 ∷ 1 ∷ 0x80 ∷ 0 ∷ [] }
 
 unfoldable pub exceptions : List Exception
 exceptions =
@@ -80,10 +80,10 @@ pub record Breaks (x : Exception) : Type 0 where
   pub lacksEnd : carriesOwnEnd (x .last) ≡ false
   pub othersCarry : allCarryOwnEnd (x .before) ≡ true
   pub acceptedRow : AcceptedRow rowAnswer rowText (columnsIn x) (x .input) room
-  pub limit : length (x .longer) ≤ inputLimit
-  pub begins : take (rowAnswer (columnsIn x) (x .input) room .used) (x .longer) ≡ take (rowAnswer (columnsIn x) (x .input) room .used) (x .input)
+  pub limit : length (x .longerInput) ≤ inputLimit
+  pub beginsAlike : take (rowAnswer (columnsIn x) (x .input) room .used) (x .longerInput) ≡ take (rowAnswer (columnsIn x) (x .input) room .used) (x .input)
   pub enough : LargeEnough (rowAnswer (columnsIn x) (x .input) room) room
-  pub differs : Same rowAnswer rowText (columnsIn x) (x .longer) room (x .input) room → ⊥
+  pub differs : Same rowAnswer rowText (columnsIn x) (x .longerInput) room (x .input) room → ⊥
 
 abbrev pub AllBreak : List Exception → Type 0
 AllBreak [] = Unit {0}

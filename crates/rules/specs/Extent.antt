@@ -14,16 +14,16 @@ use Rattle.types.specs.declared.ByteOrder.the-variants.{BigEndian}
 use Rattle.types.specs.declared.ReferenceLength.{ReferenceLength}
 use Rattle.types.specs.declared.ReferenceLength.the-variants.{Absent, Width}
 use Rattle.types.specs.declared.ColumnDescriptor.{ColumnDescriptor}
-use Rattle.numbers.specs.Number.{number}
+use Rattle.numbers.specs.Number.{unsigned}
 use Rattle.rules.specs.declared.Extent.{Extent}
 use Rattle.rules.specs.declared.Extent.the-variants.{Fixed, Counted, Header, Inline, Locator, Materialized}
 
 -- term: W3. The numbers L2 and L4, big-endian whatever the column's order
 abbrev pub be16 : List ℕ → ℕ
-be16 s = number BigEndian (take 2 s)
+be16 s = unsigned BigEndian (take 2 s)
 
 abbrev pub be32 : List ℕ → ℕ
-be32 s = number BigEndian (take 4 s)
+be32 s = unsigned BigEndian (take 4 s)
 
 -- the Rust: externalized_lob_reference_len. Nine bytes or more, of which the first is 02, begin a reference of nine
 abbrev pub referenceMark : ℕ
@@ -48,9 +48,9 @@ isShortReference declared s = leb 1024 declared && (leb 16 (length s) && (ltb (l
 unfoldable pub saysHeader : List ℕ → Bool
 saysHeader s = leb 2 (length s) && bit8000 (be16 s)
 
--- a LOB without reference length: four bytes are looked at first, then whether a reference begins; else it takes `whole`
+-- a LOB without reference length: four bytes are looked at first, then whether a reference begins; else it takes n
 unfoldable pub lobNeed : ℕ → List ℕ → ℕ
-lobNeed whole s = cond (leb 4 (length s)) (cond (isReference s) 9 whole) 4
+lobNeed n s = cond (leb 4 (length s)) (cond (isReference s) 9 n) 4
 
 -- W3: the bytes that a value takes of the rest s
 unfoldable pub need : Extent → List ℕ → ℕ

@@ -27,7 +27,7 @@ pub data TextSort : Type 0 where
 -- what a value is, before it has a place in the answer
 pub data Item : Type 0 where
   nothing : Item
-  number : Number → Item
+  numeric : Number → Item
   boolean : Bool → Item
   -- a part of the value's own bytes: where it begins among them, and its length
   part : ByteSort → ℕ → ℕ → Item
@@ -37,11 +37,11 @@ pub data Item : Type 0 where
 -- the conversions of single values
 pub record Conversions : Type 0 where
   -- by the column's byte order
-  pub smallInt : ByteOrder → List ℕ → Number
-  pub integer : ByteOrder → List ℕ → Number
-  pub bigInt : ByteOrder → List ℕ → Number
-  pub real : ByteOrder → List ℕ → Number
-  pub double : ByteOrder → List ℕ → Number
+  pub readSmallInt : ByteOrder → List ℕ → Number
+  pub readInteger : ByteOrder → List ℕ → Number
+  pub readBigInt : ByteOrder → List ℕ → Number
+  pub readReal : ByteOrder → List ℕ → Number
+  pub readDouble : ByteOrder → List ℕ → Number
   -- by the type's scale
   pub packed : ℕ → List ℕ → List ℕ
   -- by the column's CCSID
@@ -124,11 +124,11 @@ module _ (L : Conversions) where
 
   -- the Rust's arms of decode_column_value, in the order of the enum. A DecFloat is never read: refusal 5
   abbrev pub typeItem : Db2Type → ColumnDescriptor → List ℕ → Item
-  typeItem type.SmallInt c s = number (L .smallInt (c .«byte_order») s)
-  typeItem type.Integer c s = number (L .integer (c .«byte_order») s)
-  typeItem type.BigInt c s = number (L .bigInt (c .«byte_order») s)
-  typeItem type.Real c s = number (L .real (c .«byte_order») s)
-  typeItem type.Double c s = number (L .double (c .«byte_order») s)
+  typeItem type.SmallInt c s = numeric (L .readSmallInt (c .«byte_order») s)
+  typeItem type.Integer c s = numeric (L .readInteger (c .«byte_order») s)
+  typeItem type.BigInt c s = numeric (L .readBigInt (c .«byte_order») s)
+  typeItem type.Real c s = numeric (L .readReal (c .«byte_order») s)
+  typeItem type.Double c s = numeric (L .readDouble (c .«byte_order») s)
   typeItem (type.Decimal precision scale) c s = text decimal (L .packed scale s)
   typeItem (type.DecFloat digits) c s = nothing
   typeItem (type.Char n) c s = text char (L .characters (c .ccsid) s)
@@ -177,7 +177,7 @@ isLobPart blob = true
 
 unfoldable pub isEmptyLob : Item → Bool
 isEmptyLob nothing = false
-isEmptyLob (number x) = false
+isEmptyLob (numeric x) = false
 isEmptyLob (boolean b) = false
 isEmptyLob (part k from len) = isLobPart k && eqb len 0
 isEmptyLob (text k t) = isLobText k && eqb (length t) 0

@@ -5,9 +5,8 @@ use mathlib.Core.List.{List, [], _∷_, _++_}
 use lib.ListN.{length}
 use lib.Dec.{ltb, eqb}
 use Rattle.refusal.specs.Refusal.{Told, accepted, refused, told, inputLimit}
-use Rattle.buffer.specs.Buffer.{written}
+use Rattle.buffer.specs.Buffer.{overwritten}
 use Rattle.types.specs.declared.Db2Value.{Db2Value}
-use Rattle.types.specs.declared.Db2Value.the-variants as value
 use Rattle.types.specs.declared.Place.{Place}
 use Rattle.types.specs.declared.ColumnDescriptor.{ColumnDescriptor}
 use Rattle.types.specs.declared.Columns.{Columns}
@@ -17,8 +16,8 @@ use Rattle.types.specs.Names.{isDecFloat}
 use Rattle.types.specs.Places.{maxColumns, filled, blankValue}
 pub use Rattle.types.specs.Places.{covered}
 use Rattle.numbers.specs.Number.{numberValue}
-use Rattle.rules.specs.Meaning.{ByteSort, binary, blob, TextSort, decimal, char, varChar, clob, rowId, date, time, timestamp, xml, Item, nothing, number, boolean, part, text, Conversions, itemIn, refersIn}
-use Rattle.rules.specs.Walk.{Piece, absent, present, Walk, done, short, skipOf, walkBody}
+use Rattle.rules.specs.Meaning.{ByteSort, binary, blob, TextSort, decimal, char, varChar, clob, rowId, date, time, timestamp, xml, Item, nothing, numeric, boolean, part, text, Conversions, itemIn, refersIn}
+use Rattle.rules.specs.Walk.{Cell, absent, present, Walk, done, short, skipOf, walkBody}
 
 pub record RowTold : Type 0 where
   pub outcome : Told
@@ -34,19 +33,19 @@ abbrev pub place : ℕ → ℕ → Place
 place at n = record { start = at; len = n }
 
 abbrev pub partValue : ByteSort → Place → Db2Value
-partValue binary p = value.Binary p
-partValue blob p = value.Blob p
+partValue binary p = Db2Value.Binary p
+partValue blob p = Db2Value.Blob p
 
 abbrev pub textValue : TextSort → Place → Db2Value
-textValue decimal p = value.Decimal p
-textValue char p = value.Char p
-textValue varChar p = value.VarChar p
-textValue clob p = value.Clob p
-textValue rowId p = value.RowId p
-textValue date p = value.Date p
-textValue time p = value.Time p
-textValue timestamp p = value.Timestamp p
-textValue xml p = value.Xml p
+textValue decimal p = Db2Value.Decimal p
+textValue char p = Db2Value.Char p
+textValue varChar p = Db2Value.VarChar p
+textValue clob p = Db2Value.Clob p
+textValue rowId p = Db2Value.RowId p
+textValue date p = Db2Value.Date p
+textValue time p = Db2Value.Time p
+textValue timestamp p = Db2Value.Timestamp p
+textValue xml p = Db2Value.Xml p
 
 -- H5: where a part of n bytes begins that is found at a place; an empty one at 0
 unfoldable pub startOf : ℕ → ℕ → ℕ
@@ -54,45 +53,45 @@ startOf n at = cond (eqb n 0) 0 at
 
 -- H5: the value of an item whose bytes begin at place `at` of the input. `next` is the next unwritten byte of the text buffer
 unfoldable pub valueOf : Item → ℕ → ℕ → Db2Value
-valueOf nothing at next = value.Null
-valueOf (number x) at next = numberValue x
-valueOf (boolean b) at next = value.Boolean b
+valueOf nothing at next = Db2Value.Null
+valueOf (numeric x) at next = numberValue x
+valueOf (boolean b) at next = Db2Value.Boolean b
 valueOf (part k from n) at next = partValue k (place (startOf n (at + from)) n)
 valueOf (text k t) at next = textValue k (place next (length t))
 
-unfoldable pub textOf : Item → List ℕ
-textOf nothing = []
-textOf (number x) = []
-textOf (boolean b) = []
-textOf (part k from n) = []
-textOf (text k t) = t
+unfoldable pub itemText : Item → List ℕ
+itemText nothing = []
+itemText (numeric x) = []
+itemText (boolean b) = []
+itemText (part k from n) = []
+itemText (text k t) = t
 
 module _ (L : Conversions) where
-  unfoldable pub pieceItem : Piece → Item
-  pieceItem absent = nothing
-  pieceItem (present c at s) = itemIn L c s
+  unfoldable pub cellItem : Cell → Item
+  cellItem absent = nothing
+  cellItem (present c at s) = itemIn L c s
 
-  unfoldable pub pieceValue : Piece → ℕ → ValuePlace
-  pieceValue absent next = blankValue
-  pieceValue (present c at s) next = record { value = valueOf (itemIn L c s) at next; external = refersIn L c s }
+  unfoldable pub cellValue : Cell → ℕ → ValuePlace
+  cellValue absent next = blankValue
+  cellValue (present c at s) next = record { value = valueOf (itemIn L c s) at next; external = refersIn L c s }
 
   -- the values in column order, their texts one after the other from byte `next` of the text buffer on
-  unfoldable pub rowValues : List Piece → ℕ → List ValuePlace
+  unfoldable pub rowValues : List Cell → ℕ → List ValuePlace
   rowValues [] next = []
-  rowValues (p ∷ ps) next = pieceValue p next ∷ rowValues ps (next + length (textOf (pieceItem p)))
+  rowValues (p ∷ ps) next = cellValue p next ∷ rowValues ps (next + length (itemText (cellItem p)))
 
   -- H5: the texts, one after the other
-  unfoldable pub rowTexts : List Piece → List ℕ
+  unfoldable pub rowTexts : List Cell → List ℕ
   rowTexts [] = []
-  rowTexts (p ∷ ps) = textOf (pieceItem p) ++ rowTexts ps
+  rowTexts (p ∷ ps) = itemText (cellItem p) ++ rowTexts ps
 
 -- ---- what is decided before anything is written
 
 pub data Decision : Type 0 where
   -- a refusal, by its number and values
-  refusal : ℕ → List ℕ → Decision
-  -- the row's pieces, and how many bytes of the input they used
-  acceptance : List Piece → ℕ → Decision
+  refuse : ℕ → List ℕ → Decision
+  -- the row's cells, and how many bytes of the input they used
+  accept : List Cell → ℕ → Decision
 
 -- refusal 5
 unfoldable pub anyDecFloat : List ColumnDescriptor → Bool
@@ -102,8 +101,8 @@ anyDecFloat (c ∷ cs) = isDecFloat c || anyDecFloat cs
 module _ (L : Conversions) where
   -- refusals 8 and 9
   unfoldable pub walkDecision : Walk → List ℕ → Decision
-  walkDecision (short expected actual) d = refusal 8 (expected ∷ actual ∷ [])
-  walkDecision (done ps n) d = cond (ltb (length d) (length (rowTexts L ps))) (refusal 9 (length (rowTexts L ps) ∷ [])) (acceptance ps n)
+  walkDecision (short expected actual) d = refuse 8 (expected ∷ actual ∷ [])
+  walkDecision (done ps n) d = cond (ltb (length d) (length (rowTexts L ps))) (refuse 9 (length (rowTexts L ps) ∷ [])) (accept ps n)
 
   -- the body that begins at a place of the input s, for the text buffer d
   unfoldable pub bodyDecision : List ColumnDescriptor → ℕ → List ℕ → List ℕ → Decision
@@ -112,9 +111,9 @@ module _ (L : Conversions) where
   -- refusals 3, 4 and 5, and then the body after the skip
   unfoldable pub rowDecision : Columns → List ℕ → List ℕ → Decision
   rowDecision columns s d =
-      cond (ltb maxColumns (columns .count)) (refusal 3 [])
-      (cond (ltb inputLimit (length s)) (refusal 4 [])
-      (cond (anyDecFloat (covered columns)) (refusal 5 [])
+      cond (ltb maxColumns (columns .count)) (refuse 3 [])
+      (cond (ltb inputLimit (length s)) (refuse 4 [])
+      (cond (anyDecFloat (covered columns)) (refuse 5 [])
       (bodyDecision (covered columns) (skipOf s) s d)))
 
 -- H5, H7
@@ -123,13 +122,13 @@ refusedRow n vs = record { outcome = refused n vs; places = filled blankValue []
 
 module _ (L : Conversions) where
   unfoldable pub answerOf : Decision → RowTold
-  answerOf (refusal n vs) = refusedRow n vs
-  answerOf (acceptance ps n) = record { outcome = accepted; places = filled blankValue (rowValues L ps 0); used = n }
+  answerOf (refuse n vs) = refusedRow n vs
+  answerOf (accept ps n) = record { outcome = accepted; places = filled blankValue (rowValues L ps 0); used = n }
 
   -- H1, H7
   unfoldable pub textAfter : Decision → List ℕ → List ℕ
-  textAfter (refusal n vs) d = d
-  textAfter (acceptance ps n) d = written (rowTexts L ps) d
+  textAfter (refuse n vs) d = d
+  textAfter (accept ps n) d = overwritten (rowTexts L ps) d
 
   -- the row call at any conversions: its answer, and the text buffer after it
   abbrev pub answerWith : Columns → List ℕ → List ℕ → RowTold

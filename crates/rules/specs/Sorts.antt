@@ -7,7 +7,6 @@ use mathlib.Core.Option.{Option, none, some}
 use Rattle.types.specs.declared.Db2Type.{Db2Type}
 use Rattle.types.specs.declared.Db2Type.the-variants as type
 use Rattle.types.specs.declared.Db2Value.{Db2Value}
-use Rattle.types.specs.declared.Db2Value.the-variants as value
 use Rattle.types.specs.declared.ColumnDescriptor.{ColumnDescriptor}
 
 -- the sorts of value that are not Null
@@ -16,26 +15,26 @@ pub data Sort : Type 0 where
 
 -- the sort of a value, and none for Null. A NaN is a Real or a Double
 abbrev pub sortOf : Db2Value → Option Sort
-sortOf value.Null = none
-sortOf (value.SmallInt z) = some smallInt
-sortOf (value.Integer z) = some integer
-sortOf (value.BigInt z) = some bigInt
-sortOf (value.Real x) = some real
-sortOf (value.RealNan n) = some real
-sortOf (value.Double x) = some double
-sortOf (value.DoubleNan n) = some double
-sortOf (value.Decimal p) = some decimal
-sortOf (value.Char p) = some char
-sortOf (value.VarChar p) = some varChar
-sortOf (value.Binary p) = some binary
-sortOf (value.Blob p) = some blob
-sortOf (value.Clob p) = some clob
-sortOf (value.RowId p) = some rowId
-sortOf (value.Date p) = some date
-sortOf (value.Time p) = some time
-sortOf (value.Timestamp p) = some timestamp
-sortOf (value.Boolean b) = some boolean
-sortOf (value.Xml p) = some xml
+sortOf Db2Value.Null = none
+sortOf (Db2Value.SmallInt z) = some smallInt
+sortOf (Db2Value.Integer z) = some integer
+sortOf (Db2Value.BigInt z) = some bigInt
+sortOf (Db2Value.Real x) = some real
+sortOf (Db2Value.RealNan n) = some real
+sortOf (Db2Value.Double x) = some double
+sortOf (Db2Value.DoubleNan n) = some double
+sortOf (Db2Value.Decimal p) = some decimal
+sortOf (Db2Value.Char p) = some char
+sortOf (Db2Value.VarChar p) = some varChar
+sortOf (Db2Value.Binary p) = some binary
+sortOf (Db2Value.Blob p) = some blob
+sortOf (Db2Value.Clob p) = some clob
+sortOf (Db2Value.RowId p) = some rowId
+sortOf (Db2Value.Date p) = some date
+sortOf (Db2Value.Time p) = some time
+sortOf (Db2Value.Timestamp p) = some timestamp
+sortOf (Db2Value.Boolean b) = some boolean
+sortOf (Db2Value.Xml p) = some xml
 
 -- W10, the table: the sorts that each type allows besides Null. A DecFloat column is refused (5), so none comes of it
 abbrev pub sortsOf : Db2Type → List Sort

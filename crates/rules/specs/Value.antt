@@ -7,7 +7,7 @@ use lib.Dec.{leb}
 use Rattle.types.specs.declared.Place.{Place}
 use Rattle.types.specs.declared.Db2Value.{Db2Value}
 use Rattle.types.specs.declared.ValuePlace.{ValuePlace}
-use Rattle.types.specs.Held.{Held, bits, row, textBuffer, held}
+use Rattle.types.specs.Held.{Held, bits, inRow, inText, held}
 
 -- the part of s at a place, and none where the place does not fit
 unfoldable pub bytesAt : Place → List ℕ → List ℕ
@@ -15,8 +15,8 @@ bytesAt p s = cond (leb (p .start + p .len) (length s)) (take (p .len) (drop (p 
 
 abbrev pub heldBytes : Held → List ℕ → List ℕ → List ℕ
 heldBytes (bits n) s d = []
-heldBytes (row p) s d = bytesAt p s
-heldBytes (textBuffer p) s d = bytesAt p d
+heldBytes (inRow p) s d = bytesAt p s
+heldBytes (inText p) s d = bytesAt p d
 
 -- H6: of the value v, with the row s and the text buffer d
 unfoldable pub valueBytes : Db2Value → List ℕ → List ℕ → List ℕ
@@ -25,8 +25,8 @@ valueBytes v s d = heldBytes (held v) s d
 -- the length of a value's text, and of all texts together
 abbrev pub heldText : Held → ℕ
 heldText (bits n) = 0
-heldText (row p) = 0
-heldText (textBuffer p) = p .len
+heldText (inRow p) = 0
+heldText (inText p) = p .len
 
 unfoldable pub textsTogether : List ValuePlace → ℕ
 textsTogether [] = 0

@@ -26,25 +26,25 @@ unfoldable pub columnNeed : ColumnDescriptor → List ℕ → ℕ
 columnNeed c s = cellNeed (c .nullable) (extentOf c) s
 
 -- what the walk finds for a column: Null, or the column, the place of its value's first byte, counted from the input's first, and exactly the value's bytes
-pub data Piece : Type 0 where
-  absent : Piece
-  present : ColumnDescriptor → ℕ → List ℕ → Piece
+pub data Cell : Type 0 where
+  absent : Cell
+  present : ColumnDescriptor → ℕ → List ℕ → Cell
 
--- the piece that the column's bytes make, the first of them at place `at`
-unfoldable pub cellPiece : Bool → ColumnDescriptor → ℕ → List ℕ → Piece
-cellPiece true c at [] = absent
-cellPiece true c at (b ∷ s) = cond (eqb b 0xFF) absent (present c (at + 1) s)
-cellPiece false c at s = present c at s
+-- the cell that the column's bytes make, the first of them at place `at`
+unfoldable pub cellOf : Bool → ColumnDescriptor → ℕ → List ℕ → Cell
+cellOf true c at [] = absent
+cellOf true c at (b ∷ s) = cond (eqb b 0xFF) absent (present c (at + 1) s)
+cellOf false c at s = present c at s
 
 pub data Walk : Type 0 where
   -- every column has its bytes; the number is that of the input's bytes used
-  done : List Piece → ℕ → Walk
+  done : List Cell → ℕ → Walk
   -- too short, with the Rust's `expected` and `actual`
   short : ℕ → ℕ → Walk
 
-unfoldable pub consPiece : Piece → Walk → Walk
-consPiece p (done ps n) = done (p ∷ ps) n
-consPiece p (short e a) = short e a
+unfoldable pub consCell : Cell → Walk → Walk
+consCell p (done ps n) = done (p ∷ ps) n
+consCell p (short e a) = short e a
 
 -- W4, the Rust's two numbers: a missing indicator is counted from the body's first byte (`offset` bytes of it are read), a value from its own first byte
 unfoldable pub cellShort : Bool → Extent → ℕ → List ℕ → Walk
@@ -57,7 +57,7 @@ unfoldable pub walk : ℕ → List ColumnDescriptor → ℕ → List ℕ → Wal
 walk start [] at s = done [] at
 walk start (c ∷ cs) at s =
     cond (leb (columnNeed c s) (length s))
-    (consPiece (cellPiece (c .nullable) c at (take (columnNeed c s) s)) (walk start cs (at + columnNeed c s) (drop (columnNeed c s) s)))
+    (consCell (cellOf (c .nullable) c at (take (columnNeed c s) s)) (walk start cs (at + columnNeed c s) (drop (columnNeed c s) s)))
     (cellShort (c .nullable) (extentOf c) (at - start) s)
 
 -- term: W1. The body begins at a place of the input

@@ -5,13 +5,13 @@ use mathlib.Core.Path.{_≡_, refl, _∙_}
 use borrow.Author.Tests.{lt-ltb, le-ltb}
 use lib.ListN.{length}
 use Rattle.refusal.specs.Refusal.{inputLimit}
-use Rattle.buffer.specs.Buffer.{TextTold, refusal, textAnswer, textBuffer}
+use Rattle.buffer.specs.Buffer.{TextTold, refusedText, textAnswer, textBuffer}
 use Rattle.conversion.specs.Conversion.{textIn}
 use Rattle.conversion.specs.declared.Conversion.{Conversion}
 use Rattle.text.specs.Text.{conversionAnswer, conversionBuffer}
 
 module _ (s d : List ℕ) {a : TextTold} where
-  pub too-long : (t : List ℕ) → inputLimit < length s → a ≡ refusal 4 [] → (a ≡ conversionAnswer s t d) × (d ≡ conversionBuffer s t d)
+  pub too-long : (t : List ℕ) → inputLimit < length s → a ≡ refusedText 4 [] → (a ≡ conversionAnswer s t d) × (d ≡ conversionBuffer s t d)
   unfolding conversionAnswer conversionBuffer
   too-long t h q = rw (q, lt-ltb inputLimit (length s) h) (refl, refl)
 

@@ -11,7 +11,7 @@ use lib.Seq.{slice, drop-drop, length-slice}
 use borrow.Author.Tests.{leb-true}
 use Rattle.triplets.specs.declared.Next.{Next}
 use Rattle.triplets.specs.declared.Next.the-variants as next
-use Rattle.triplets.specs.Triplets.{Triplet, Reading, triplet, begins, firstTriplet, stopped, after, readingOf, reading}
+use Rattle.triplets.specs.Triplets.{Triplet, Reading, triplet, begins, firstTriplet, stopped, consTriplet, readingOf, reading}
 use Rattle.triplets.specs.Steps.{nextOf}
 use Rattle.triplets.proofs.Slices.{slice-slice}
 
@@ -59,21 +59,21 @@ enough-bound least (suc j) (suc k) s p q = go (enough-bound least j k (drop (get
         → readingOf least j (drop (getD s 0 0) s) ≡ readingOf least k (drop (getD s 0 0) s))
         → (b : Bool)
         → begins least s ≡ b
-        → cond b (after (firstTriplet s) (readingOf least j (drop (getD s 0 0) s))) (stopped s)
-        ≡ cond b (after (firstTriplet s) (readingOf least k (drop (getD s 0 0) s))) (stopped s)
+        → cond b (consTriplet (firstTriplet s) (readingOf least j (drop (getD s 0 0) s))) (stopped s)
+        ≡ cond b (consTriplet (firstTriplet s) (readingOf least k (drop (getD s 0 0) s))) (stopped s)
     go same true e =
         let f = begun least s e in
         let d = length-drop (getD s 0 0) s in
-        ap (after (firstTriplet s)) (same (omega arith) (omega arith))
+        ap (consTriplet (firstTriplet s)) (same (omega arith) (omega arith))
     go same false e = refl
 
-reading-more : (least : ℕ) (s : List ℕ) → begins least s ≡ true → reading least s ≡ after (firstTriplet s) (reading least (drop (getD s 0 0) s))
+reading-more : (least : ℕ) (s : List ℕ) → begins least s ≡ true → reading least s ≡ consTriplet (firstTriplet s) (reading least (drop (getD s 0 0) s))
 unfolding reading readingOf
 reading-more least [] e = absurd (omega (arith, begun least [] e .two))
 reading-more least (x ∷ s) e =
     let f = begun least (x ∷ s) e in
     let d = length-drop x (x ∷ s) in
-    rw e (ap (after (firstTriplet (x ∷ s))) (enough-bound least (length s) (length (drop x (x ∷ s))) (drop x (x ∷ s)) (omega arith) (omega arith)))
+    rw e (ap (consTriplet (firstTriplet (x ∷ s))) (enough-bound least (length s) (length (drop x (x ∷ s))) (drop x (x ∷ s)) (omega arith) (omega arith)))
 
 reading-none : (least : ℕ) (s : List ℕ) → begins least s ≡ false → reading least s ≡ stopped s
 unfolding reading readingOf

@@ -20,7 +20,7 @@ use Rattle.triplets.specs.declared.Cursor.{Cursor}
 use Rattle.triplets.specs.declared.Cursor.the-variants as cursor
 use Rattle.triplets.specs.Triplets.{Triplet, triplet, reading}
 use Rattle.triplets.specs.Descriptors.{lastOf, pendingAfter, declare, environmentAfter, sdaColumns, outerSda, lidColumns, innerColumns, groupColumns, tripletColumns, columnsFrom}
-use Rattle.triplets.specs.Steps.{groupAt, outerFrom, toCome, Within, ahead, Goes}
+use Rattle.triplets.specs.Steps.{groupAt, outerFrom, toCome, CursorWithin, ahead, Goes}
 use Rattle.triplets.proofs.Slices.{getD-slice}
 use Rattle.triplets.proofs.ReadingLaws.{Found}
 
@@ -83,12 +83,12 @@ group-begins s env a e h k = go (ltb a e) refl
     go true t = rw (t, first-byte s a e k (ltb-true a e t)) (data-begins (eqb (getD s a 0) 0xD0))
     go false t = rw (t, no-data s a e (omega (arith, ltb-false a e t)))
 
-group-within : (s : List ℕ) (a e : ℕ) → a ≤ e → e ≤ length s → Within s (groupAt s a e) × (ahead s (groupAt s a e) ≤ 2 * (length s - a) + 1)
+group-within : (s : List ℕ) (a e : ℕ) → a ≤ e → e ≤ length s → CursorWithin s (groupAt s a e) × (ahead s (groupAt s a e) ≤ 2 * (length s - a) + 1)
 unfolding groupAt
 group-within s a e h k = go (ltb a e) refl (eqb (getD s a 0) 0xD0)
   where
     go : (b : Bool) → ltb a e ≡ b → (d : Bool)
-        → Within s (cond (b && d) (cursor.Lids (a + 1) e) (cursor.Inner a e)) × (ahead s (cond (b && d) (cursor.Lids (a + 1) e) (cursor.Inner a e)) ≤ 2 * (length s - a) + 1)
+        → CursorWithin s (cond (b && d) (cursor.Lids (a + 1) e) (cursor.Inner a e)) × (ahead s (cond (b && d) (cursor.Lids (a + 1) e) (cursor.Inner a e)) ≤ 2 * (length s - a) + 1)
     go true t true = let l = ltb-true a e t in ((omega arith, k), omega arith)
     go true t false = ((h, k), omega arith)
     go false t d = ((h, k), omega arith)

@@ -41,10 +41,10 @@ toCome s env (cursor.Lids at e) = lidColumns env (slice at e s) ++ columnsFrom p
 toCome s env (cursor.Inner at e) =
     innerColumns (reading 3 (slice at e s) .triplets) ++ columnsFrom pending.Nothing env (outerFrom s e)
 
-abbrev pub Within : List ℕ → Cursor → Type 0
-Within s (cursor.Outer p at) = at ≤ length s
-Within s (cursor.Lids at e) = (at ≤ e) × (e ≤ length s)
-Within s (cursor.Inner at e) = (at ≤ e) × (e ≤ length s)
+abbrev pub CursorWithin : List ℕ → Cursor → Type 0
+CursorWithin s (cursor.Outer p at) = at ≤ length s
+CursorWithin s (cursor.Lids at e) = (at ≤ e) × (e ≤ length s)
+CursorWithin s (cursor.Inner at e) = (at ≤ e) × (e ≤ length s)
 
 -- what every step makes less: the bytes ahead, twice, and one for a group
 abbrev pub ahead : List ℕ → Cursor → ℕ
@@ -53,9 +53,9 @@ ahead s (cursor.Lids at e) = 2 * (length s - at) + 1
 ahead s (cursor.Inner at e) = 2 * (length s - at) + 1
 
 -- where a column is described: its first byte, whether it is there, and the column, of which e is the environment's entry
-abbrev pub startOf : Source → ℕ
-startOf (source.Sda a e) = a
-startOf (source.Lid a) = a
+abbrev pub startIn : Source → ℕ
+startIn (source.Sda a e) = a
+startIn (source.Lid a) = a
 
 abbrev pub SourceWithin : List ℕ → Source → Type 0
 SourceWithin s (source.Sda a e) = (a < e) × (e ≤ length s)
@@ -66,11 +66,11 @@ columnAt s entry (source.Sda a e) = sdaColumn (slice a e s)
 columnAt s entry (source.Lid a) = lidColumn entry (getD s a 0) (getD s (a + 1) 0) (getD s (a + 2) 0)
 
 abbrev pub columnIn : List ℕ → List EnvEntry → Source → ColumnDescriptor
-columnIn s env f = columnAt s (getD env (getD s (startOf f) 0) noEntry) f
+columnIn s env f = columnAt s (getD env (getD s (startIn f) 0) noEntry) f
 
 -- from the cursor c to the cursor n: what was to come at c, in an environment, is now `rest`
 pub record Goes (s : List ℕ) (c n : Cursor) (rest : List EnvEntry → List ColumnDescriptor) : Type 0 where
-  pub within : Within s n
+  pub within : CursorWithin s n
   pub less : ahead s n < ahead s c
   pub same : (env : List EnvEntry) → toCome s env c ≡ rest env
 

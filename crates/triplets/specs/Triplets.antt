@@ -28,13 +28,13 @@ pub record Reading : Type 0 where
 abbrev pub stopped : List ℕ → Reading
 stopped s = record { triplets = []; unread = s }
 
-abbrev pub after : Triplet → Reading → Reading
-after t r = record { triplets = t ∷ r .triplets; unread = r .unread }
+abbrev pub consTriplet : Triplet → Reading → Reading
+consTriplet t r = record { triplets = t ∷ r .triplets; unread = r .unread }
 
 -- the reading of at most n triplets
 unfoldable pub readingOf : ℕ → ℕ → List ℕ → Reading
 readingOf least zero s = stopped s
-readingOf least (suc n) s = cond (begins least s) (after (firstTriplet s) (readingOf least n (drop (getD s 0 0) s))) (stopped s)
+readingOf least (suc n) s = cond (begins least s) (consTriplet (firstTriplet s) (readingOf least n (drop (getD s 0 0) s))) (stopped s)
 
 -- Q1, Q7: `least` is 2, and 3 of inner triplets. There are never more triplets than bytes
 unfoldable pub reading : ℕ → List ℕ → Reading

@@ -12,7 +12,7 @@ ghost use Rattle.column.specs.Said.{saidColumn};
 ghost use Rattle.triplets.specs.declared.Cursor.{Cursor};
 ghost use Rattle.triplets.specs.declared.Source.{Source};
 ghost use Rattle.triplets.specs.Descriptors.{lastOf};
-ghost use Rattle.triplets.specs.Steps.{nextOf, groupAt, Within, startOf, SourceWithin, columnAt, Leads};
+ghost use Rattle.triplets.specs.Steps.{nextOf, groupAt, CursorWithin, startIn, SourceWithin, columnAt, Leads};
 
 const TRIPLET_TYPE_SDA: u8 = 0x70;
 
@@ -203,7 +203,7 @@ fn inner_step(data: &[u8], at: usize, end: usize) -> Step
 
 // The step at a cursor.
 pub fn next_step(data: &[u8], cursor: Cursor) -> Step
-    requires { ⌜ Within (now «data») cursor ⌝ }
+    requires { ⌜ CursorWithin (now «data») cursor ⌝ }
     ensures { λ r. ⌜ Leads (now («data» .entry)) cursor r ⌝ }
 {
     match cursor {
@@ -216,7 +216,7 @@ pub fn next_step(data: &[u8], cursor: Cursor) -> Step
 // The LID of a column, or the type code of an SDA: the place of the environment whose entry the column may need.
 pub fn lid_at(data: &[u8], source: Source) -> u8
     requires { ⌜ SourceWithin (now «data») source ⌝ }
-    ensures { λ r. ⌜ r ≡ getD (now («data» .entry)) (startOf source) 0 ⌝ }
+    ensures { λ r. ⌜ r ≡ getD (now («data» .entry)) (startIn source) 0 ⌝ }
 {
     match source {
         Source::Sda { start, end: _ } => data[start],

@@ -4,7 +4,7 @@ use mathlib.Core.Bool.{false}
 use mathlib.Core.List.{List, _++_}
 use lib.ListN.{length, take, replicate}
 use Rattle.types.specs.declared.Db2Type.the-variants as type
-use Rattle.types.specs.declared.Db2Value.the-variants as value
+use Rattle.types.specs.declared.Db2Value.{Db2Value}
 use Rattle.types.specs.declared.ByteOrder.the-variants.{BigEndian}
 use Rattle.types.specs.declared.ReferenceLength.the-variants.{Absent}
 use Rattle.types.specs.declared.ColumnDescriptor.{ColumnDescriptor}
@@ -37,7 +37,7 @@ blankColumn =
 
 -- H5: an unused value place
 unfoldable pub blankValue : ValuePlace
-blankValue = record { value = value.Null; external = false }
+blankValue = record { value = Db2Value.Null; external = false }
 
 -- a list of columns in its places, with its count
 unfoldable pub columnList : List ColumnDescriptor → Columns

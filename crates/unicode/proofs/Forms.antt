@@ -7,7 +7,7 @@ use mathlib.Core.Path.{_≡_, refl, sym, ap, ap₂, subst, _∙_}
 use native.Mathlib.Omega.{arith}
 use lib.ListN.{length, take, drop, getD, take-append-drop}
 use lib.Seq.{drop-at}
-use Rattle.unicode.specs.Unicode.{Piece, scalar, malformed, within, isScalarValue, utf8, replacement, pieceText, textOf, First, readFrom}
+use Rattle.unicode.specs.Unicode.{Piece, scalar, malformed, within, isScalarValue, utf8, replacement, pieceText, piecesText, First, readFrom}
 use Rattle.unicode.specs.Laws.{ScalarValues, WellFormed, Unconvertible, Subpart, MaximalSubpart}
 use Rattle.unicode.proofs.Reading.{read-cons}
 
@@ -117,12 +117,12 @@ module _ (encode : ℕ → List ℕ) (first : ℕ → List ℕ → First) (leads
 
 -- the text of what is read is well-formed UTF-8, where only scalar values are read
 pub text-well-formed : (first : ℕ → List ℕ → First) (limit : ℕ) → ((u : ℕ) (us : List ℕ) (v : ℕ) → u < limit → first u us .piece ≡ scalar v → isScalarValue v ≡ true)
-    → (k : ℕ) (s : List ℕ) → ((i : ℕ) → getD s i 0 < limit) → WellFormed utf8 (textOf (readFrom first k s))
-unfolding readFrom textOf pieceText isScalarValue within
+    → (k : ℕ) (s : List ℕ) → ((i : ℕ) → getD s i 0 < limit) → WellFormed utf8 (piecesText (readFrom first k s))
+unfolding readFrom piecesText pieceText isScalarValue within
 text-well-formed first limit h k [] b = nil-well-formed utf8
 text-well-formed first limit h (suc k) (u ∷ us) b = text-well-formed first limit h k us (λ i. b (suc i))
 text-well-formed first limit h zero (u ∷ us) b = go (first u us .piece) refl (text-well-formed first limit h (first u us .more) us (λ i. b (suc i)))
   where
-    go : (p : Piece) → first u us .piece ≡ p → WellFormed utf8 (textOf (readFrom first (first u us .more) us)) → WellFormed utf8 (pieceText p ++ textOf (readFrom first (first u us .more) us))
-    go (scalar v) e w = cons-well-formed utf8 v (textOf (readFrom first (first u us .more) us)) (h u us v (b 0) e) w
-    go malformed e w = cons-well-formed utf8 replacement (textOf (readFrom first (first u us .more) us)) refl w
+    go : (p : Piece) → first u us .piece ≡ p → WellFormed utf8 (piecesText (readFrom first (first u us .more) us)) → WellFormed utf8 (pieceText p ++ piecesText (readFrom first (first u us .more) us))
+    go (scalar v) e w = cons-well-formed utf8 v (piecesText (readFrom first (first u us .more) us)) (h u us v (b 0) e) w
+    go malformed e w = cons-well-formed utf8 replacement (piecesText (readFrom first (first u us .more) us)) refl w

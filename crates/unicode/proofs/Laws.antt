@@ -9,7 +9,7 @@ use borrow.Author.Tests.{ltb-true, le-leb}
 use lib.Dec.{ltb}
 use lib.ListN.{drop, take-append-drop}
 use Rattle.unicode.specs.Ascii.{allAscii}
-use Rattle.unicode.specs.Unicode.{Piece, scalar, malformed, isScalarValue, within, utf8, pieceText, textOf, replaced, readFrom, firstOf, utf8Pieces, utf8Text, utf16, bigEndian, units, unitOf, utf16Text}
+use Rattle.unicode.specs.Unicode.{Piece, scalar, malformed, isScalarValue, within, utf8, pieceText, piecesText, replacements, readFrom, firstOf, utf8Pieces, utf8Text, utf16, bigEndian, units, unitOf, utf16Text}
 use Rattle.unicode.specs.Laws.{WellFormed, Utf8Form, Utf16Form, Texts}
 use Rattle.unicode.proofs.Forms.{nil-well-formed, cons-well-formed, back, back-all, is-maximal, text-well-formed}
 use Rattle.unicode.proofs.ScalarBytes.{utf8-one}
@@ -33,8 +33,8 @@ utf16-form = record {
 }
 
 -- where nothing is replaced, the bytes after the first k are well-formed
-none-replaced : (k : ℕ) (s : List ℕ) → replaced (readFrom firstOf k s) ≡ 0 → WellFormed utf8 (drop k s)
-unfolding readFrom replaced
+none-replaced : (k : ℕ) (s : List ℕ) → replacements (readFrom firstOf k s) ≡ 0 → WellFormed utf8 (drop k s)
+unfolding readFrom replacements
 none-replaced zero [] e = nil-well-formed utf8
 none-replaced (suc k) [] e = nil-well-formed utf8
 none-replaced (suc k) (b ∷ bs) e = none-replaced k bs e
@@ -43,21 +43,21 @@ none-replaced zero (b ∷ bs) e = go (firstOf b bs .piece) refl (none-replaced (
     n : ℕ
     n = firstOf b bs .more
 
-    go : (p : Piece) → firstOf b bs .piece ≡ p → (replaced (readFrom firstOf n bs) ≡ 0 → WellFormed utf8 (drop n bs)) → WellFormed utf8 (b ∷ bs)
+    go : (p : Piece) → firstOf b bs .piece ≡ p → (replacements (readFrom firstOf n bs) ≡ 0 → WellFormed utf8 (drop n bs)) → WellFormed utf8 (b ∷ bs)
     go (scalar v) q rec =
-        let e′ : 0 + replaced (readFrom firstOf n bs) ≡ 0 = rw q at e in
+        let e′ : 0 + replacements (readFrom firstOf n bs) ≡ 0 = rw q at e in
         let r = u8.first-read b bs v q in
         let t : utf8 v ++ drop n bs ≡ b ∷ bs = ap (λ (l : List ℕ). l ++ drop n bs) (r .1) ∙ ap (λ (l : List ℕ). b ∷ l) (take-append-drop n bs) in
         subst (WellFormed utf8) t (cons-well-formed utf8 v (drop n bs) (r .0) (rec (omega arith)))
-    go malformed q rec = let e′ : 1 + replaced (readFrom firstOf n bs) ≡ 0 = rw q at e in absurd (omega arith)
+    go malformed q rec = let e′ : 1 + replacements (readFrom firstOf n bs) ≡ 0 = rw q at e in absurd (omega arith)
 
-scalars-replaced : (vs : List ℕ) → replaced (map scalar vs) ≡ 0
-unfolding replaced
+scalars-replaced : (vs : List ℕ) → replacements (map scalar vs) ≡ 0
+unfolding replacements
 scalars-replaced [] = refl
 scalars-replaced (v ∷ vs) = omega (arith, scalars-replaced vs)
 
-scalars-text : (vs : List ℕ) → textOf (map scalar vs) ≡ flatten (map utf8 vs)
-unfolding textOf pieceText flatten
+scalars-text : (vs : List ℕ) → piecesText (map scalar vs) ≡ flatten (map utf8 vs)
+unfolding piecesText pieceText flatten
 scalars-text [] = refl
 scalars-text (v ∷ vs) = ap (λ (l : List ℕ). utf8 v ++ l) (scalars-text vs)
 

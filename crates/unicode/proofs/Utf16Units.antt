@@ -8,7 +8,7 @@ use native.Mathlib.Omega.{arith}
 use borrow.Author.Tests.{lt-ltb, le-ltb, ltb-true, ltb-false}
 use lib.Dec.{ltb}
 use lib.ListN.{length, take, getD}
-use Rattle.unicode.specs.Unicode.{scalar, malformed, isScalarValue, within, First, utf16, high, low, pairValue, pairOf, unitOf, units, bigEndian}
+use Rattle.unicode.specs.Unicode.{scalar, malformed, isScalarValue, within, First, utf16, highSurrogates, lowSurrogates, pairValue, pairOf, unitOf, units, bigEndian}
 use Rattle.unicode.proofs.Reading.{never-scalar}
 use Rattle.unicode.proofs.Ranges.{Scalar, scalar-ranges, is-scalar, inside, is-inside, is-below, is-above, outside}
 use Rattle.unicode.proofs.Forms.{Leads, stands-first}
@@ -26,12 +26,12 @@ utf16-two v h = rw (le-ltb v 0x10000 h)
 -- a unit that is no surrogate
 plain : (u : ℕ) (us : List ℕ) → (u ≤ 0xD7FF) ⊎ (0xE000 ≤ u) → unitOf u us ≡ record { piece = scalar u; more = zero }
 unfolding unitOf
-plain u us (inl h) = rw (is-below u high (omega arith), is-below u low (omega arith))
-plain u us (inr h) = rw (is-above u high (omega arith), is-above u low (omega arith))
+plain u us (inl h) = rw (is-below u highSurrogates (omega arith), is-below u lowSurrogates (omega arith))
+plain u us (inr h) = rw (is-above u highSurrogates (omega arith), is-above u lowSurrogates (omega arith))
 
 pair : (u w : ℕ) (us : List ℕ) → 0xD800 ≤ u → u ≤ 0xDBFF → 0xDC00 ≤ w → w ≤ 0xDFFF → unitOf u (w ∷ us) ≡ record { piece = scalar (pairValue u w); more = 1 }
 unfolding unitOf pairOf
-pair u w us a b c d = rw (is-inside u high a b, is-inside w low c d)
+pair u w us a b c d = rw (is-inside u highSurrogates a b, is-inside w lowSurrogates c d)
 
 pub leads : (v : ℕ) → isScalarValue v ≡ true → Leads utf16 unitOf v
 leads v h = go (ltb v 0x10000) refl
@@ -75,46 +75,46 @@ pair-value u w a b c d =
 read-pair : (u : ℕ) (us : List ℕ) (v : ℕ) → 0xD800 ≤ u → u ≤ 0xDBFF → Read (pairOf u us) u us v
 unfolding pairOf
 read-pair u [] v a b e = never-scalar v e
-read-pair u (w ∷ us) v a b e = go (within w low) refl
+read-pair u (w ∷ us) v a b e = go (within w lowSurrogates) refl
   where
-    go : (t : Bool) → within w low ≡ t → (isScalarValue v ≡ true) × (utf16 v ≡ u ∷ take (pairOf u (w ∷ us) .more) (w ∷ us))
+    go : (t : Bool) → within w lowSurrogates ≡ t → (isScalarValue v ≡ true) × (utf16 v ≡ u ∷ take (pairOf u (w ∷ us) .more) (w ∷ us))
     go true q =
         let e′ : scalar (pairValue u w) ≡ scalar v = rw q at e in
         let x : pairValue u w ≡ v = cc in
-        let i : (0xDC00 ≤ w) × (w ≤ 0xDFFF) = inside w low q in
+        let i : (0xDC00 ≤ w) × (w ≤ 0xDFFF) = inside w lowSurrogates q in
         rw (q, ← x) (pair-value u w a b (i .0) (i .1))
     go false q = never-scalar v (rw q at e)
 
 pub unit-read : (u : ℕ) (us : List ℕ) (v : ℕ) → u < 0x10000 → Read (unitOf u us) u us v
 unfolding unitOf
-unit-read u us v h e = go (within u high) refl (within u low) refl
+unit-read u us v h e = go (within u highSurrogates) refl (within u lowSurrogates) refl
   where
-    go : (x : Bool) → within u high ≡ x → (y : Bool) → within u low ≡ y → (isScalarValue v ≡ true) × (utf16 v ≡ u ∷ take (unitOf u us .more) us)
+    go : (x : Bool) → within u highSurrogates ≡ x → (y : Bool) → within u lowSurrogates ≡ y → (isScalarValue v ≡ true) × (utf16 v ≡ u ∷ take (unitOf u us .more) us)
     go true q y r =
-        let i : (0xD800 ≤ u) × (u ≤ 0xDBFF) = inside u high q in
+        let i : (0xD800 ≤ u) × (u ≤ 0xDBFF) = inside u highSurrogates q in
         rw q (read-pair u us v (i .0) (i .1) (rw q at e))
     go false q true r = never-scalar v (rw (q, r) at e)
     go false q false r =
         let e′ : scalar u ≡ scalar v = rw (q, r) at e in
         let x : u ≡ v = cc in
-        let s : Scalar u = ⊎-elim (λ a. inl (omega arith)) (λ a. ⊎-elim (λ b. absurd (omega arith)) (λ b. inr (omega arith, omega arith)) (outside u low r)) (outside u high q) in
+        let s : Scalar u = ⊎-elim (λ a. inl (omega arith)) (λ a. ⊎-elim (λ b. absurd (omega arith)) (λ b. inr (omega arith, omega arith)) (outside u lowSurrogates r)) (outside u highSurrogates q) in
         rw (q, ← x) (is-scalar u s, utf16-one u h)
 
 -- ---- what is malformed
 
 pub unit-bad : (u : ℕ) (us : List ℕ) → unitOf u us .piece ≡ malformed → unitOf u us .more ≡ 0
 unfolding unitOf pairOf
-unit-bad u us e = go (within u high) refl
+unit-bad u us e = go (within u highSurrogates) refl
   where
     pair-bad : (us : List ℕ) → pairOf u us .piece ≡ malformed → pairOf u us .more ≡ 0
     pair-bad [] e = refl
-    pair-bad (w ∷ us) e = look (within w low) refl
+    pair-bad (w ∷ us) e = look (within w lowSurrogates) refl
       where
-        look : (t : Bool) → within w low ≡ t → pairOf u (w ∷ us) .more ≡ 0
+        look : (t : Bool) → within w lowSurrogates ≡ t → pairOf u (w ∷ us) .more ≡ 0
         look true q = never-scalar (pairValue u w) (sym (rw q at e))
         look false q = rw q
 
-    go : (x : Bool) → within u high ≡ x → unitOf u us .more ≡ 0
+    go : (x : Bool) → within u highSurrogates ≡ x → unitOf u us .more ≡ 0
     go true q = rw q (pair-bad us (rw q at e))
     go false q = rw q
 

@@ -8,7 +8,7 @@ use mathlib.Core.Logic.{_⊎_}
 use mathlib.Core.Path.{_≡_}
 use lib.ListN.{length, take, getD}
 use Rattle.unicode.specs.Ascii.{allAscii}
-use Rattle.unicode.specs.Unicode.{Piece, scalar, malformed, isScalarValue, First, readFrom, utf8, replaced, firstOf, utf8Pieces, utf8Text, utf16, bigEndian, unitOf, utf16Pieces, utf16Text}
+use Rattle.unicode.specs.Unicode.{Piece, scalar, malformed, isScalarValue, First, readFrom, utf8, replacements, firstOf, utf8Pieces, utf8Text, utf16, bigEndian, unitOf, utf16Pieces, utf16Text}
 
 -- each element of vs is a scalar value (`List·Memᴰ v vs`: v is an element of vs)
 abbrev pub ScalarValues : List ℕ → Type 0
@@ -49,8 +49,8 @@ Utf8Form = Reads utf8 0x100 firstOf
 abbrev pub Utf16Form : Type 0
 Utf16Form = Reads utf16 0x10000 unitOf
 
-abbrev pub Bytes : List ℕ → Type 0
-Bytes s = (i : ℕ) → getD s i 0 < 0x100
+abbrev pub AreBytes : List ℕ → Type 0
+AreBytes s = (i : ℕ) → getD s i 0 < 0x100
 
 pub record Texts : Type 0 where
   -- the bytes of scalar values are read as these values
@@ -59,10 +59,10 @@ pub record Texts : Type 0 where
   pub utf16-scalar : (v : ℕ) → isScalarValue v ≡ true → (rest : List ℕ) → utf16Pieces (bigEndian (utf16 v) ++ rest) ≡ scalar v ∷ utf16Pieces rest
   pub utf16-scalars : (vs : List ℕ) → ScalarValues vs → utf16Pieces (bigEndian (flatten (map utf16 vs))) ≡ map scalar vs
   -- bytes are well-formed UTF-8 where nothing is replaced, and there only; then the text is the bytes
-  pub nothing-replaced : (s : List ℕ) → replaced (utf8Pieces s) ≡ 0 → WellFormed utf8 s
-  pub unchanged : (s : List ℕ) → WellFormed utf8 s → (replaced (utf8Pieces s) ≡ 0) × (utf8Text s ≡ s)
+  pub nothing-replaced : (s : List ℕ) → replacements (utf8Pieces s) ≡ 0 → WellFormed utf8 s
+  pub unchanged : (s : List ℕ) → WellFormed utf8 s → (replacements (utf8Pieces s) ≡ 0) × (utf8Text s ≡ s)
   -- ASCII is its own UTF-8
   pub ascii-text : (s : List ℕ) → allAscii s ≡ true → utf8Text s ≡ s
   -- a text is well-formed UTF-8, whatever the bytes that it is read from
-  pub utf8-text : (s : List ℕ) → Bytes s → WellFormed utf8 (utf8Text s)
-  pub utf16-text : (s : List ℕ) → Bytes s → WellFormed utf8 (utf16Text s)
+  pub utf8-text : (s : List ℕ) → AreBytes s → WellFormed utf8 (utf8Text s)
+  pub utf16-text : (s : List ℕ) → AreBytes s → WellFormed utf8 (utf16Text s)

@@ -50,18 +50,18 @@ unfoldable pub pieceText : Piece → List ℕ
 pieceText (scalar v) = utf8 v
 pieceText malformed = utf8 replacement
 
-unfoldable pub textOf : List Piece → List ℕ
-textOf [] = []
-textOf (p ∷ ps) = pieceText p ++ textOf ps
+unfoldable pub piecesText : List Piece → List ℕ
+piecesText [] = []
+piecesText (p ∷ ps) = pieceText p ++ piecesText ps
 
 -- how many parts are replaced in that text
-abbrev pub replacedIn : Piece → ℕ
-replacedIn (scalar v) = 0
-replacedIn malformed = 1
+abbrev pub replacementsIn : Piece → ℕ
+replacementsIn (scalar v) = 0
+replacementsIn malformed = 1
 
-unfoldable pub replaced : List Piece → ℕ
-replaced [] = 0
-replaced (p ∷ ps) = replacedIn p + replaced ps
+unfoldable pub replacements : List Piece → ℕ
+replacements [] = 0
+replacements (p ∷ ps) = replacementsIn p + replacements ps
 
 -- ---- reading, piece by piece
 
@@ -78,36 +78,36 @@ readFrom first (suc k) (u ∷ us) = readFrom first k us
 
 -- ---- UTF-8: D92
 
--- A row of Table 3-7: the range of the first byte, and the ranges of the bytes after it. `base` is the first byte's fixed bits, of Table 3-6
-pub record Row : Type 0 where
+-- A row of Table 3-7, which is a class of byte sequences: the range of the first byte, and those of the bytes after it. `base` is the first byte's fixed bits, of Table 3-6
+pub record Sequence : Type 0 where
   pub first : Range
   pub base : ℕ
   pub trails : List Range
 
-abbrev pub row : Range → ℕ → List Range → Row
-row f b ts = record { first = f; base = b; trails = ts }
+abbrev pub sequence : Range → ℕ → List Range → Sequence
+sequence f b ts = record { first = f; base = b; trails = ts }
 
 abbrev pub trail : Range
 trail = range 0x80 0xBF
 
 -- Table 3-7, Well-Formed UTF-8 Byte Sequences
-abbrev pub table-3-7 : List Row
+abbrev pub table-3-7 : List Sequence
 table-3-7 =
-    row (range 0x00 0x7F) 0x00 []
-    ∷ row (range 0xC2 0xDF) 0xC0 (trail ∷ [])
-    ∷ row (range 0xE0 0xE0) 0xE0 (range 0xA0 0xBF ∷ trail ∷ [])
-    ∷ row (range 0xE1 0xEC) 0xE0 (trail ∷ trail ∷ [])
-    ∷ row (range 0xED 0xED) 0xE0 (range 0x80 0x9F ∷ trail ∷ [])
-    ∷ row (range 0xEE 0xEF) 0xE0 (trail ∷ trail ∷ [])
-    ∷ row (range 0xF0 0xF0) 0xF0 (range 0x90 0xBF ∷ trail ∷ trail ∷ [])
-    ∷ row (range 0xF1 0xF3) 0xF0 (trail ∷ trail ∷ trail ∷ [])
-    ∷ row (range 0xF4 0xF4) 0xF0 (range 0x80 0x8F ∷ trail ∷ trail ∷ [])
+    sequence (range 0x00 0x7F) 0x00 []
+    ∷ sequence (range 0xC2 0xDF) 0xC0 (trail ∷ [])
+    ∷ sequence (range 0xE0 0xE0) 0xE0 (range 0xA0 0xBF ∷ trail ∷ [])
+    ∷ sequence (range 0xE1 0xEC) 0xE0 (trail ∷ trail ∷ [])
+    ∷ sequence (range 0xED 0xED) 0xE0 (range 0x80 0x9F ∷ trail ∷ [])
+    ∷ sequence (range 0xEE 0xEF) 0xE0 (trail ∷ trail ∷ [])
+    ∷ sequence (range 0xF0 0xF0) 0xF0 (range 0x90 0xBF ∷ trail ∷ trail ∷ [])
+    ∷ sequence (range 0xF1 0xF3) 0xF0 (trail ∷ trail ∷ trail ∷ [])
+    ∷ sequence (range 0xF4 0xF4) 0xF0 (range 0x80 0x8F ∷ trail ∷ trail ∷ [])
     ∷ []
 
--- the row that the byte b begins, if there is one
-unfoldable pub rowIn : List Row → ℕ → Option Row
-rowIn [] b = none
-rowIn (r ∷ rs) b = cond (within b (r .first)) (some r) (rowIn rs b)
+-- the class of sequences that the byte b begins, if there is one
+unfoldable pub sequenceIn : List Sequence → ℕ → Option Sequence
+sequenceIn [] b = none
+sequenceIn (r ∷ rs) b = cond (within b (r .first)) (some r) (sequenceIn rs b)
 
 -- how many bytes, from the first, lie in the ranges, one after the other
 unfoldable pub fit : List Range → List ℕ → ℕ
@@ -116,27 +116,27 @@ fit (r ∷ rs) [] = zero
 fit (r ∷ rs) (b ∷ bs) = cond (within b r) (suc (fit rs bs)) zero
 
 -- the scalar value of a sequence, by Table 3-6: the first byte's free bits, then the low six bits of each byte after it
-unfoldable pub value : ℕ → List ℕ → ℕ
-value v [] = v
-value v (t ∷ ts) = value (v * 64 + (t - 0x80)) ts
+unfoldable pub scalarFrom : ℕ → List ℕ → ℕ
+scalarFrom v [] = v
+scalarFrom v (t ∷ ts) = scalarFrom (v * 64 + (t - 0x80)) ts
 
--- What the byte b, and then bs, begin with, where the row of b is given: the scalar value where the row is filled, else the maximal subpart of
--- D93b, which is as much of the row as is there, or one byte where b begins no row
-unfoldable pub firstBy : Option Row → ℕ → List ℕ → First
+-- What the byte b, and then bs, begin with, where the class of b is given: the scalar value where its ranges are filled, else the maximal subpart of
+-- D93b, which is as much of them as is there, or one byte where b begins no sequence
+unfoldable pub firstBy : Option Sequence → ℕ → List ℕ → First
 firstBy none b bs = record { piece = malformed; more = zero }
 firstBy (some r) b bs =
     let n : ℕ = fit (r .trails) bs in
-    record { piece = cond (eqb n (length (r .trails))) (scalar (value (b - r .base) (take n bs))) malformed; more = n }
+    record { piece = cond (eqb n (length (r .trails))) (scalar (scalarFrom (b - r .base) (take n bs))) malformed; more = n }
 
 unfoldable pub firstOf : ℕ → List ℕ → First
-firstOf b bs = firstBy (rowIn table-3-7 b) b bs
+firstOf b bs = firstBy (sequenceIn table-3-7 b) b bs
 
 abbrev pub utf8Pieces : List ℕ → List Piece
 utf8Pieces s = readFrom firstOf 0 s
 
 -- the text of UTF-8 bytes
 unfoldable pub utf8Text : List ℕ → List ℕ
-utf8Text s = textOf (utf8Pieces s)
+utf8Text s = piecesText (utf8Pieces s)
 
 -- ---- UTF-16: D91, and big-endian in bytes, D96
 
@@ -156,11 +156,11 @@ units (a ∷ []) = []
 units (a ∷ b ∷ bs) = (a * 256 + b) ∷ units bs
 
 -- D72, high-surrogate, and D74, low-surrogate code unit
-abbrev pub high : Range
-high = range 0xD800 0xDBFF
+abbrev pub highSurrogates : Range
+highSurrogates = range 0xD800 0xDBFF
 
-abbrev pub low : Range
-low = range 0xDC00 0xDFFF
+abbrev pub lowSurrogates : Range
+lowSurrogates = range 0xDC00 0xDFFF
 
 -- D75 and Table 3-5: the scalar value of a surrogate pair
 abbrev pub pairValue : ℕ → ℕ → ℕ
@@ -169,16 +169,16 @@ pairValue u v = 0x10000 + (u - 0xD800) * 0x400 + (v - 0xDC00)
 -- a high surrogate u, and then us: with a low surrogate it is a pair, else it is unpaired
 unfoldable pub pairOf : ℕ → List ℕ → First
 pairOf u [] = record { piece = malformed; more = zero }
-pairOf u (v ∷ us) = cond (within v low) (record { piece = scalar (pairValue u v); more = 1 }) (record { piece = malformed; more = zero })
+pairOf u (v ∷ us) = cond (within v lowSurrogates) (record { piece = scalar (pairValue u v); more = 1 }) (record { piece = malformed; more = zero })
 
 -- What the unit u, and then us, begin with: a surrogate pair is one scalar value, an unpaired surrogate a maximal subpart (D93b) of one unit, and any
 -- other unit is the scalar value of its number
 unfoldable pub unitOf : ℕ → List ℕ → First
-unitOf u us = cond (within u high) (pairOf u us) (record { piece = cond (within u low) malformed (scalar u); more = zero })
+unitOf u us = cond (within u highSurrogates) (pairOf u us) (record { piece = cond (within u lowSurrogates) malformed (scalar u); more = zero })
 
 abbrev pub utf16Pieces : List ℕ → List Piece
 utf16Pieces s = readFrom unitOf 0 (units s)
 
 -- the text, in UTF-8, of big-endian UTF-16 bytes
 unfoldable pub utf16Text : List ℕ → List ℕ
-utf16Text s = textOf (utf16Pieces s)
+utf16Text s = piecesText (utf16Pieces s)

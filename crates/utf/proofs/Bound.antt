@@ -7,7 +7,7 @@ use native.Mathlib.Omega.{arith}
 use native.Mathlib.Nat.{mul-add}
 use lib.Dec.{ltb}
 use lib.ListN.{length, take, drop, length-append, length-take}
-use Rattle.unicode.specs.Unicode.{Piece, scalar, malformed, utf8, pieceText, textOf, First, readFrom, firstOf, units, within, high, low, pairOf, unitOf}
+use Rattle.unicode.specs.Unicode.{Piece, scalar, malformed, utf8, pieceText, piecesText, First, readFrom, firstOf, units, within, highSurrogates, lowSurrogates, pairOf, unitOf}
 use Rattle.unicode.specs.Unicode.{utf8Text}
 use Rattle.unicode.specs.Unicode.{utf16Text}
 use Rattle.unicode.proofs.Utf8Bytes.{first-text}
@@ -16,20 +16,20 @@ use Rattle.utf.proofs.Utf8Runs.{more-length}
 -- a reading in which what takes m + 1 units is at most c bytes long for each, gives at most c bytes a unit
 module _ (c : ℕ) (first : ℕ → List ℕ → First) (short : (u : ℕ) (us : List ℕ) → length (pieceText (first u us .piece)) ≤ c * suc (first u us .more))
     (there : (u : ℕ) (us : List ℕ) → first u us .more ≤ length us) where
-  pub read-bound : (k : ℕ) (s : List ℕ) → length (textOf (readFrom first k s)) ≤ c * (length s - k)
-  unfolding readFrom textOf
+  pub read-bound : (k : ℕ) (s : List ℕ) → length (piecesText (readFrom first k s)) ≤ c * (length s - k)
+  unfolding readFrom piecesText
   read-bound k [] = omega arith
   read-bound zero (u ∷ us) =
       let m : ℕ = first u us .more in
       let e : suc m + (length us - m) ≡ suc (length us) = omega (arith, there u us) in
       let d : c * suc m + c * (length us - m) ≡ c * suc (length us) = sym (mul-add c (suc m) (length us - m)) ∙ ap (λ (n : ℕ). c * n) e in
-      let q : length (textOf (readFrom first 0 (u ∷ us))) ≡ length (pieceText (first u us .piece)) + length (textOf (readFrom first m us)) = length-append (pieceText (first u us .piece)) (textOf (readFrom first m us)) in
+      let q : length (piecesText (readFrom first 0 (u ∷ us))) ≡ length (pieceText (first u us .piece)) + length (piecesText (readFrom first m us)) = length-append (pieceText (first u us .piece)) (piecesText (readFrom first m us)) in
       let z : suc (length us) ≡ suc (length us) - 0 = omega arith in
-      let h : length (textOf (readFrom first 0 (u ∷ us))) ≤ c * suc (length us) = omega (arith, short u us, read-bound m us) in
-      subst (λ (n : ℕ). length (textOf (readFrom first 0 (u ∷ us))) ≤ c * n) z h
+      let h : length (piecesText (readFrom first 0 (u ∷ us))) ≤ c * suc (length us) = omega (arith, short u us, read-bound m us) in
+      subst (λ (n : ℕ). length (piecesText (readFrom first 0 (u ∷ us))) ≤ c * n) z h
   read-bound (suc k) (u ∷ us) =
       let z : length us - k ≡ suc (length us) - suc k = omega arith in
-      subst (λ (n : ℕ). length (textOf (readFrom first k us)) ≤ c * n) z (read-bound k us)
+      subst (λ (n : ℕ). length (piecesText (readFrom first k us)) ≤ c * n) z (read-bound k us)
 
 four-cond : (a b c : Bool) (A B C D : List ℕ) → length A ≤ 4 → length B ≤ 4 → length C ≤ 4 → length D ≤ 4 → length (cond a A (cond b B (cond c C D))) ≤ 4
 four-cond true b c A B C D h i j k = h
@@ -71,7 +71,7 @@ four-each malformed m = omega (arith, utf8-four 0xFFFD)
 pair-there : (u : ℕ) (us : List ℕ) → pairOf u us .more ≤ length us
 unfolding pairOf
 pair-there u [] = omega arith
-pair-there u (v ∷ us) = go (within v low)
+pair-there u (v ∷ us) = go (within v lowSurrogates)
   where
     go : (t : Bool) → (cond {A = First} t (record { piece = scalar (0x10000 + (u - 0xD800) * 0x400 + (v - 0xDC00)); more = 1 }) (record { piece = malformed; more = zero })) .more ≤ suc (length us)
     go true = omega arith
@@ -79,9 +79,9 @@ pair-there u (v ∷ us) = go (within v low)
 
 unit-there : (u : ℕ) (us : List ℕ) → unitOf u us .more ≤ length us
 unfolding unitOf
-unit-there u us = go (within u high) (pair-there u us)
+unit-there u us = go (within u highSurrogates) (pair-there u us)
   where
-    go : (t : Bool) → pairOf u us .more ≤ length us → (cond {A = First} t (pairOf u us) (record { piece = cond (within u low) malformed (scalar u); more = zero })) .more ≤ length us
+    go : (t : Bool) → pairOf u us .more ≤ length us → (cond {A = First} t (pairOf u us) (record { piece = cond (within u lowSurrogates) malformed (scalar u); more = zero })) .more ≤ length us
     go true h = h
     go false h = omega arith
 

@@ -9,7 +9,7 @@ use borrow.Author.Tests.{lt-ltb, le-ltb, le-leb, lt-leb, eq-eqb, ne-eqb, ltb-tru
 use lib.Dec.{T, ltb, leb, eqb}
 use lib.ListN.{length, take, drop, getD, length-drop, drop-of-length-le}
 use lib.Seq.{drop-cons, drop-drop, getD-drop}
-use Rattle.unicode.specs.Unicode.{Piece, scalar, malformed, utf8, First, firstBy, firstOf, fit, value, table-3-7, within, range, readFrom, utf8Pieces}
+use Rattle.unicode.specs.Unicode.{Piece, scalar, malformed, utf8, First, firstBy, firstOf, fit, scalarFrom, table-3-7, within, range, readFrom, utf8Pieces}
 use Rattle.utf.specs.Utf8Code.{firstAt, trailAt, isScalar}
 use Rattle.unicode.specs.Likely.{isControl, isTabOrLineEnd, likelyPiece, allLikely, likelyText}
 use Rattle.utf.specs.LikelyCode.{LikelyAt}
@@ -43,7 +43,7 @@ module _ (s : List ℕ) (e : ℕ) (h : e < length s) where
 -- ---- ASCII
 
 pub ascii-piece : (s : List ℕ) (e : ℕ) → getD s e 0 < 0x80 → firstAt s e .piece ≡ scalar (getD s e 0)
-unfolding firstAt firstOf firstBy fit value
+unfolding firstAt firstOf firstBy fit scalarFrom
 ascii-piece s e h =
     let z : getD s e 0 - 0 ≡ getD s e 0 = omega arith in
     rw (row-at table-3-7 0 (getD s e 0) (omega arith)) (ap scalar z)

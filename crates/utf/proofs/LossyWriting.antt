@@ -13,9 +13,9 @@ use borrow.Author.Tests.{eqb-false, leb-true}
 use lib.Dec.{leb, eqb}
 use lib.ListN.{length, take, drop, getD, length-append, length-drop}
 use lib.Seq.{take-append-le, drop-append-add, take-at, drop-at, drop-drop, length-take-le, take-take}
-use Rattle.buffer.specs.Buffer.{written}
+use Rattle.buffer.specs.Buffer.{overwritten}
 use Rattle.buffer.proofs.Filling.{start, fits, fits-rest, wrote-text, wrote-filling, all, end}
-use Rattle.unicode.specs.Unicode.{Piece, scalar, malformed, utf8, pieceText, textOf, Range, range, Row, within, fit, value, firstBy, firstOf, rowIn, table-3-7, readFrom, utf8Text}
+use Rattle.unicode.specs.Unicode.{Piece, scalar, malformed, utf8, pieceText, piecesText, Range, range, Sequence, within, fit, scalarFrom, firstBy, firstOf, sequenceIn, table-3-7, readFrom, utf8Text}
 use Rattle.unicode.proofs.Ranges.{never, inside}
 use Rattle.unicode.proofs.Utf8Bytes.{first-text}
 use Rattle.utf.specs.Utf8Code.{isScalar, firstAt, PieceAt, Good}
@@ -28,7 +28,7 @@ pub wrote-none : (s d : List ℕ) → length (utf8Text s) ≤ length d → Wrote
 wrote-none s d h = record { fits = omega arith; filling = start (utf8Text s) d h }
 
 -- u was written at the beginning: its first k bytes are those of the text, and are read from n bytes
-module _ (s d u out : List ℕ) (n k : ℕ) (h : length (utf8Text s) ≤ length d) (most : length u ≤ length (utf8Text s)) (part : k ≤ length u) (q : out ≡ written u d) where
+module _ (s d u out : List ℕ) (n k : ℕ) (h : length (utf8Text s) ≤ length d) (most : length u ≤ length (utf8Text s)) (part : k ≤ length u) (q : out ≡ overwritten u d) where
   wrote-part : n ≤ length s → take k u ≡ take k (utf8Text s) → drop k (utf8Text s) ≡ utf8Text (drop n s) → Wrote s d out n k
   wrote-part f e l =
       let z : length u + (length (utf8Text s) - length u) ≡ length (utf8Text s) = omega arith in
@@ -61,7 +61,7 @@ module _ (s d out : List ℕ) (i o : ℕ) (w : Wrote s d out i o) where
     filling = wrote-filling (w .filling) (rw (rest s i, drop-drop n i s) at (v .filling));
   }
 
-  pub wrote-end : length s ≤ i → (o ≡ length (utf8Text s)) × (out ≡ written (utf8Text s) d)
+  pub wrote-end : length s ≤ i → (o ≡ length (utf8Text s)) × (out ≡ overwritten (utf8Text s) d)
   wrote-end k = let e = text-end s i k in (all (w .filling) e, end (w .filling) e)
 
 -- ---- a text is at least as long as what it is read from
@@ -77,19 +77,19 @@ fit-most (r ∷ rs) (b ∷ bs) = go (within b r) (fit-most rs bs)
     go false h = omega arith
 
 -- no row has more than three bytes after the first
-abbrev Short : List Row → Type 0
+abbrev Short : List Sequence → Type 0
 Short [] = Unit {0}
 Short (r ∷ rs) = (length (r .trails) ≤ 3) × Short rs
 
 short-rows : Short table-3-7
 short-rows = (omega arith, (omega arith, (omega arith, (omega arith, (omega arith, (omega arith, (omega arith, (omega arith, (omega arith, tt)))))))))
 
-row-short : (rs : List Row) (b : ℕ) (r : Row) → Short rs → rowIn rs b ≡ some r → length (r .trails) ≤ 3
-unfolding rowIn
+row-short : (rs : List Sequence) (b : ℕ) (r : Sequence) → Short rs → sequenceIn rs b ≡ some r → length (r .trails) ≤ 3
+unfolding sequenceIn
 row-short [] b r h e = let z : _≡_ {A = ℕ} 0 1 = cc in let o : ⊥ = omega arith in absurd o
 row-short (q ∷ rs) b r h e = go (within b (q .first)) refl (row-short rs b r (h .1))
   where
-    go : (t : Bool) → within b (q .first) ≡ t → (rowIn rs b ≡ some r → length (r .trails) ≤ 3) → length (r .trails) ≤ 3
+    go : (t : Bool) → within b (q .first) ≡ t → (sequenceIn rs b ≡ some r → length (r .trails) ≤ 3) → length (r .trails) ≤ 3
     go true k rec =
         let x : some q ≡ some r = rw k at e in
         let y : q ≡ r = cc in
@@ -97,12 +97,12 @@ row-short (q ∷ rs) b r h e = go (within b (q .first)) refl (row-short rs b r (
     go false k rec = rec (rw k at e)
 
 -- a malformed part has three bytes at most
-few : (o : Option Row) (b : ℕ) (bs : List ℕ) → ((r : Row) → o ≡ some r → length (r .trails) ≤ 3) → isScalar (firstBy o b bs .piece) ≡ false → firstBy o b bs .more ≤ 2
+few : (o : Option Sequence) (b : ℕ) (bs : List ℕ) → ((r : Sequence) → o ≡ some r → length (r .trails) ≤ 3) → isScalar (firstBy o b bs .piece) ≡ false → firstBy o b bs .more ≤ 2
 unfolding firstBy
 few none b bs h e = omega arith
 few (some r) b bs h e = go (eqb (fit (r .trails) bs) (length (r .trails))) refl e
   where
-    go : (t : Bool) → eqb (fit (r .trails) bs) (length (r .trails)) ≡ t → isScalar (cond t (scalar (value (b - r .base) (take (fit (r .trails) bs) bs))) malformed) ≡ false → fit (r .trails) bs ≤ 2
+    go : (t : Bool) → eqb (fit (r .trails) bs) (length (r .trails)) ≡ t → isScalar (cond t (scalar (scalarFrom (b - r .base) (take (fit (r .trails) bs) bs))) malformed) ≡ false → fit (r .trails) bs ≤ 2
     go true q k = never (sym k)
     go false q k = omega (arith, eqb-false (fit (r .trails) bs) (length (r .trails)) q, fit-most (r .trails) bs, h r refl)
 
@@ -112,19 +112,19 @@ replacement-length = refl
 
 part-short : (b : ℕ) (bs : List ℕ) → isScalar (firstOf b bs .piece) ≡ false → firstOf b bs .more ≤ 2
 unfolding firstOf
-part-short b bs q = few (rowIn table-3-7 b) b bs (λ r k. row-short table-3-7 b r short-rows k) q
+part-short b bs q = few (sequenceIn table-3-7 b) b bs (λ r k. row-short table-3-7 b r short-rows k) q
 
 piece-long : (b : ℕ) (bs : List ℕ) (p : Piece) → firstOf b bs .piece ≡ p → suc (firstOf b bs .more) ≤ length (pieceText p)
 unfolding pieceText
 piece-long b bs (scalar v) e = omega (arith, ap length (first-text b bs v e), length-take-le (firstOf b bs .more) bs (more-length b bs))
 piece-long b bs malformed e = omega (arith, part-short b bs (ap isScalar e), replacement-length)
 
-read-least : (k : ℕ) (s : List ℕ) → length s ≤ k + length (textOf (readFrom firstOf k s))
-unfolding readFrom textOf
+read-least : (k : ℕ) (s : List ℕ) → length s ≤ k + length (piecesText (readFrom firstOf k s))
+unfolding readFrom piecesText
 read-least k [] = omega arith
 read-least zero (u ∷ us) =
     let m : ℕ = firstOf u us .more in
-    let q : length (textOf (readFrom firstOf 0 (u ∷ us))) ≡ length (pieceText (firstOf u us .piece)) + length (textOf (readFrom firstOf m us)) = length-append (pieceText (firstOf u us .piece)) (textOf (readFrom firstOf m us)) in
+    let q : length (piecesText (readFrom firstOf 0 (u ∷ us))) ≡ length (pieceText (firstOf u us .piece)) + length (piecesText (readFrom firstOf m us)) = length-append (pieceText (firstOf u us .piece)) (piecesText (readFrom firstOf m us)) in
     omega (arith, piece-long u us _ refl, read-least m us)
 read-least (suc k) (u ∷ us) = omega (arith, read-least k us)
 
@@ -134,7 +134,7 @@ text-least s = omega (arith, read-least 0 s)
 
 -- ---- m bytes were copied, of which the first k are well-formed
 
-module _ (s d ys : List ℕ) (h : length (utf8Text s) ≤ length d) (m k : ℕ) (f : m ≤ length s) (l : k ≤ m) (r : Good k s) (q : ys ≡ written (take m s) d) where
+module _ (s d ys : List ℕ) (h : length (utf8Text s) ≤ length d) (m k : ℕ) (f : m ≤ length s) (l : k ≤ m) (r : Good k s) (q : ys ≡ overwritten (take m s) d) where
   pub copied : Wrote s d ys k k
   copied =
       let t : utf8Text s ≡ take k s ++ utf8Text (drop k s) = good-text k s r in
@@ -149,7 +149,7 @@ module _ (s d out : List ℕ) (i o : ℕ) (w : Wrote s d out i o) (m : ℕ) (f :
   pub copy-room : m ≤ length (take (length out - o) (drop o out))
   copy-room = omega (arith, wrote-room s d out i o w, text-least (take (length s - i) (drop i s)), rest-length s i)
 
-  pub copied-lent : (ys : List ℕ) (k : ℕ) → k ≤ m → Good k (take (length s - i) (drop i s)) → ys ≡ written (take m (take (length s - i) (drop i s))) (take (length out - o) (drop o out))
+  pub copied-lent : (ys : List ℕ) (k : ℕ) → k ≤ m → Good k (take (length s - i) (drop i s)) → ys ≡ overwritten (take m (take (length s - i) (drop i s))) (take (length out - o) (drop o out))
       → Wrote s d (take o out ++ (ys ++ drop (length out - o) (drop o out))) (i + k) (o + k)
   copied-lent ys k l r q = wrote-lent s d out i o w ys k k (copied (take (length s - i) (drop i s)) (take (length out - o) (drop o out)) ys (wrote-room s d out i o w) m k (omega (arith, rest-length s i)) l r q)
 
@@ -162,7 +162,7 @@ module _ (s d out : List ℕ) (i o : ℕ) (w : Wrote s d out i o) (n : ℕ) (ok 
   pub piece-room : length P ≤ length (take (length out - o) (drop o out))
   piece-room = fits-rest (w .filling) P (utf8Text (drop (i + n) s)) (piece-text s i n ok l p) refl
 
-  pub piece-wrote : (ys : List ℕ) → ys ≡ written P (take (length out - o) (drop o out)) → (m : ℕ) → length P ≡ m → Wrote s d (take o out ++ (ys ++ drop (length out - o) (drop o out))) (i + n) (o + m)
+  pub piece-wrote : (ys : List ℕ) → ys ≡ overwritten P (take (length out - o) (drop o out)) → (m : ℕ) → length P ≡ m → Wrote s d (take o out ++ (ys ++ drop (length out - o) (drop o out))) (i + n) (o + m)
   piece-wrote ys q m z = record {
     fits = piece-fits s i n ok l p;
     filling = wrote-text (w .filling) P (utf8Text (drop (i + n) s)) (piece-text s i n ok l p) ys q m (sym z);

@@ -9,7 +9,7 @@ use borrow.Author.Tests.{leb-true, leb-false}
 use lib.Dec.{leb}
 use lib.ListN.{length, drop, getD, length-drop, drop-of-length-le, length-append}
 use lib.Seq.{drop-cons}
-use Rattle.unicode.specs.Unicode.{Piece, scalar, malformed, utf8, pieceText, textOf, Range, range, within, First, readFrom, units, high, low, pairOf, unitOf, utf16Pieces}
+use Rattle.unicode.specs.Unicode.{Piece, scalar, malformed, utf8, pieceText, piecesText, Range, range, within, First, readFrom, units, highSurrogates, lowSurrogates, pairOf, unitOf, utf16Pieces}
 use Rattle.utf.specs.Utf16Code.{unitAt, Utf16Next}
 use Rattle.unicode.specs.Unicode.{utf16Text}
 use Rattle.unicode.proofs.Reading.{read-cons}
@@ -34,7 +34,7 @@ units-end : (s : List ℕ) (i : ℕ) → length s ≤ i + 1 → units (drop i s)
 units-end s i h = few (drop i s) (omega (arith, length-drop i s))
 
 pub utf16-end : (s : List ℕ) (i : ℕ) → length s ≤ i + 1 → utf16Text (drop i s) ≡ []
-unfolding utf16Text textOf readFrom
+unfolding utf16Text piecesText readFrom
 utf16-end s i h = rw (units-end s i h)
 
 -- ---- what stands at i
@@ -46,8 +46,8 @@ module _ (s : List ℕ) (i : ℕ) (h : i + 1 < length s) where
   abbrev Us : List ℕ
   Us = units (drop (i + 2) s)
 
-  at-unit : utf16Text (drop i s) ≡ pieceText (unitOf U Us .piece) ++ textOf (readFrom unitOf 0 (drop (unitOf U Us .more) Us))
-  unfolding utf16Text textOf
+  at-unit : utf16Text (drop i s) ≡ pieceText (unitOf U Us .piece) ++ piecesText (readFrom unitOf 0 (drop (unitOf U Us .more) Us))
+  unfolding utf16Text piecesText
   at-unit = rw (units-next s i h, read-cons unitOf U Us)
 
   -- one unit that is read as the piece p
@@ -61,23 +61,23 @@ module _ (s : List ℕ) (i : ℕ) (h : i + 1 < length s) where
   }
 
   module _ (u : ℕ) (q : u ≡ U) where
-    plain : within u high ≡ false → within u low ≡ false → u < 0x110000 → Utf16Next s i u 2
+    plain : within u highSurrogates ≡ false → within u lowSurrogates ≡ false → u < 0x110000 → Utf16Next s i u 2
     unfolding unitOf pieceText
     plain a b k = one-unit u (rw (← q, a, b)) (rw (← q, a)) k
 
     pub below-surrogates : u < 0xD800 → Utf16Next s i u 2
-    below-surrogates k = plain (short u high k) (short u low (omega arith)) (omega arith)
+    below-surrogates k = plain (short u highSurrogates k) (short u lowSurrogates (omega arith)) (omega arith)
 
     pub above-surrogates : 0xDFFF < u → u < 0x10000 → Utf16Next s i u 2
-    above-surrogates k l = plain (past u high (omega arith)) (past u low k) (omega arith)
+    above-surrogates k l = plain (past u highSurrogates (omega arith)) (past u lowSurrogates k) (omega arith)
 
     pub low-alone : 0xDC00 ≤ u → u ≤ 0xDFFF → Utf16Next s i 0xFFFD 2
     unfolding unitOf pieceText
-    low-alone k l = one-unit 0xFFFD (rw (← q, past u high k, inside u low k l)) (rw (← q, past u high k)) (omega arith)
+    low-alone k l = one-unit 0xFFFD (rw (← q, past u highSurrogates k, inside u lowSurrogates k l)) (rw (← q, past u highSurrogates k)) (omega arith)
 
     module _ (k : 0xD800 ≤ u) (l : u < 0xDC00) where
-      is-high : within u high ≡ true
-      is-high = inside u high k (omega arith)
+      is-high : within u highSurrogates ≡ true
+      is-high = inside u highSurrogates k (omega arith)
 
       alone : pairOf u Us ≡ record { piece = malformed; more = 0 } → Utf16Next s i 0xFFFD 2
       unfolding unitOf pieceText
@@ -93,16 +93,16 @@ module _ (s : List ℕ) (i : ℕ) (h : i + 1 < length s) where
 
         pub high-below : v < 0xDC00 → Utf16Next s i 0xFFFD 2
         unfolding pairOf
-        high-below x = alone (rw (after, short v low x))
+        high-below x = alone (rw (after, short v lowSurrogates x))
 
         pub high-above : 0xDFFF < v → Utf16Next s i 0xFFFD 2
         unfolding pairOf
-        high-above x = alone (rw (after, past v low x))
+        high-above x = alone (rw (after, past v lowSurrogates x))
 
         pub pair : 0xDC00 ≤ v → v ≤ 0xDFFF → Utf16Next s i (0x10000 + (u - 0xD800) * 0x400 + (v - 0xDC00)) 4
         unfolding utf16Text unitOf pairOf pieceText
         pair x y = record {
-          here = at-unit ∙ rw (← q, is-high, after, inside v low x y);
+          here = at-unit ∙ rw (← q, is-high, after, inside v lowSurrogates x y);
           fits = omega arith;
           some = omega arith;
           scalar = omega arith;

@@ -11,26 +11,26 @@ use borrow.Author.Tests.{ltb-true, ltb-false, lt-ltb, le-ltb, le-leb, lt-leb, eq
 use lib.Dec.{leb, ltb, eqb}
 use lib.ListN.{replicate, length, take, drop, getD, drop-of-length-le, length-replicate}
 use lib.Seq.{drop-cons, drop-nil}
-use Rattle.unicode.specs.Unicode.{Piece, scalar, malformed, utf8, pieceText, textOf, Range, Row, range, row, trail, within, table-3-7, rowIn, fit, value, First, firstBy, firstOf, utf8Pieces}
+use Rattle.unicode.specs.Unicode.{Piece, scalar, malformed, utf8, pieceText, piecesText, Range, Sequence, range, sequence, trail, within, table-3-7, sequenceIn, fit, scalarFrom, First, firstBy, firstOf, utf8Pieces}
 use Rattle.utf.specs.Utf8Code.{trailAt, firstAt, isScalar, ranges, PieceAt, TrailsAt, Coded, Common}
 use Rattle.unicode.specs.Unicode.{utf8Text}
 
 -- ---- which row of the table a byte begins
 
 -- b lies past the first k rows and in the next
-abbrev pub Passed : List Row → ℕ → ℕ → Type 0
+abbrev pub Passed : List Sequence → ℕ → ℕ → Type 0
 Passed [] k b = ⊥
 Passed (r ∷ rs) zero b = (r .first .low ≤ b) × (b ≤ r .first .high)
 Passed (r ∷ rs) (suc k) b = (r .first .high < b) × Passed rs k b
 
 -- b lies past the first k rows and before all others
-abbrev pub Between : List Row → ℕ → ℕ → Type 0
+abbrev pub Between : List Sequence → ℕ → ℕ → Type 0
 Between [] k b = Unit {0}
 Between (r ∷ rs) zero b = (b < r .first .low) × Between rs zero b
 Between (r ∷ rs) (suc k) b = (r .first .high < b) × Between rs k b
 
-abbrev pub dummy : Row
-dummy = row (range 0 0) 0 []
+abbrev pub dummy : Sequence
+dummy = sequence (range 0 0) 0 []
 
 cond-same : (t : Bool) → cond t false false ≡ false
 cond-same true = refl
@@ -48,14 +48,14 @@ pub inside : (b : ℕ) (r : Range) → r .low ≤ b → b ≤ r .high → within
 unfolding within
 inside b r h k = simp (le-leb (r .low) b h, le-leb b (r .high) k)
 
-pub row-at : (rs : List Row) (k b : ℕ) → Passed rs k b → rowIn rs b ≡ some (getD rs k dummy)
-unfolding rowIn
+pub row-at : (rs : List Sequence) (k b : ℕ) → Passed rs k b → sequenceIn rs b ≡ some (getD rs k dummy)
+unfolding sequenceIn
 row-at [] k b h = absurd h
 row-at (r ∷ rs) zero b h = rw (inside b (r .first) (h .0) (h .1))
 row-at (r ∷ rs) (suc k) b h = rw (past b (r .first) (h .0)) (row-at rs k b (h .1))
 
-pub row-none : (rs : List Row) (k b : ℕ) → Between rs k b → rowIn rs b ≡ none
-unfolding rowIn
+pub row-none : (rs : List Sequence) (k b : ℕ) → Between rs k b → sequenceIn rs b ≡ none
+unfolding sequenceIn
 row-none [] k b h = refl
 row-none (r ∷ rs) zero b h = rw (short b (r .first) (h .0)) (row-none rs zero b (h .1))
 row-none (r ∷ rs) (suc k) b h = rw (past b (r .first) (h .0)) (row-none rs k b (h .1))
@@ -77,7 +77,7 @@ isScalar-cond : (t : Bool) (v : ℕ) → isScalar (cond t (scalar v) malformed) 
 isScalar-cond true v = refl
 isScalar-cond false v = refl
 
-by-row : (s : List ℕ) (i : ℕ) (r : Row) → rowIn table-3-7 (getD s i 0) ≡ some r → (n : ℕ) → n ≡ fit (r .trails) (drop (suc i) s) → PieceAt s i (suc n) (eqb n (length (r .trails)))
+by-row : (s : List ℕ) (i : ℕ) (r : Sequence) → sequenceIn table-3-7 (getD s i 0) ≡ some r → (n : ℕ) → n ≡ fit (r .trails) (drop (suc i) s) → PieceAt s i (suc n) (eqb n (length (r .trails)))
 unfolding firstAt firstOf firstBy
 by-row s i r e n q = rw (e, q) (refl, sym (isScalar-cond (eqb (fit (r .trails) (drop (suc i) s)) (length (r .trails))) _))
 
@@ -90,7 +90,7 @@ step-row s i k low high n len ok h e l o =
 
 pub step-ascii : (s : List ℕ) (i : ℕ) → getD s i 0 < 128 → PieceAt s i 1 true
 unfolding fit
-step-ascii s i h = by-row s i (row (range 0x00 0x7F) 0x00 []) (row-at table-3-7 0 (getD s i 0) (omega arith)) 0 refl
+step-ascii s i h = by-row s i (sequence (range 0x00 0x7F) 0x00 []) (row-at table-3-7 0 (getD s i 0) (omega arith)) 0 refl
 
 pub step-none : (s : List ℕ) (i k : ℕ) → Between table-3-7 k (getD s i 0) → PieceAt s i 1 false
 unfolding firstAt firstOf firstBy
@@ -107,16 +107,16 @@ trail-fits : (s : List ℕ) (j n : ℕ) → trailAt s j 0x80 0xBF ≡ true → f
 trail-fits s j n e = rw (fit-at trail (replicate n trail) s j, e)
 
 module _ (s : List ℕ) (i low high n : ℕ) where
-  abbrev Sequence : ℕ → Bool → Type 0
-  Sequence = TrailsAt s i low high n
+  abbrev TrailsHere : ℕ → Bool → Type 0
+  TrailsHere = TrailsAt s i low high n
 
-  broken : (m : ℕ) → fit (ranges low high n) (drop (suc i) s) ≡ m → m < suc n → Sequence (suc m) false
+  broken : (m : ℕ) → fit (ranges low high n) (drop (suc i) s) ≡ m → m < suc n → TrailsHere (suc m) false
   broken m e h = rw e (refl, sym (ne-eqb m (suc n) (omega arith)))
 
-  whole : (m : ℕ) → fit (ranges low high n) (drop (suc i) s) ≡ m → m ≡ suc n → Sequence (suc m) true
+  whole : (m : ℕ) → fit (ranges low high n) (drop (suc i) s) ≡ m → m ≡ suc n → TrailsHere (suc m) true
   whole m e h = rw e (refl, sym (eq-eqb m (suc n) h))
 
-  pub stop-2 : trailAt s (i + 1) low high ≡ false → Sequence 1 false
+  pub stop-2 : trailAt s (i + 1) low high ≡ false → TrailsHere 1 false
   unfolding ranges
   stop-2 e = broken 0 (rw (fit-at (range low high) (replicate n trail) s (suc i), ← add-one i, e)) (omega arith)
 
@@ -125,25 +125,25 @@ module _ (s : List ℕ) (i low high n : ℕ) where
     unfolding ranges
     first-fits = rw (add-two i, fit-at (range low high) (replicate n trail) s (suc i), ← add-one i, e1)
 
-    pub last-2 : n ≡ 0 → Sequence 2 true
+    pub last-2 : n ≡ 0 → TrailsHere 2 true
     unfolding fit
     last-2 z = whole 1 (first-fits ∙ rw z) (omega arith)
 
-    pub stop-3 : trailAt s (i + 2) 0x80 0xBF ≡ false → 0 < n → Sequence 2 false
+    pub stop-3 : trailAt s (i + 2) 0x80 0xBF ≡ false → 0 < n → TrailsHere 2 false
     stop-3 e2 h = broken 1 (first-fits ∙ ap suc (trail-stops s (i + 2) n e2)) (omega arith)
 
     module _ (e2 : trailAt s (i + 2) 0x80 0xBF ≡ true) where
       second-fits : (m : ℕ) → n ≡ suc m → fit (ranges low high n) (drop (suc i) s) ≡ suc (suc (fit (replicate m trail) (drop (i + 3) s)))
       second-fits m z = first-fits ∙ ap suc (rw (z, trail-fits s (i + 2) m e2, add-two i, add-three i))
 
-      pub last-3 : n ≡ 1 → Sequence 3 true
+      pub last-3 : n ≡ 1 → TrailsHere 3 true
       unfolding fit
       last-3 z = whole 2 (second-fits 0 z) (omega arith)
 
-      pub stop-4 : trailAt s (i + 3) 0x80 0xBF ≡ false → n ≡ 2 → Sequence 3 false
+      pub stop-4 : trailAt s (i + 3) 0x80 0xBF ≡ false → n ≡ 2 → TrailsHere 3 false
       stop-4 e3 z = broken 2 (second-fits 1 z ∙ ap (λ (k : ℕ). suc (suc k)) (trail-stops s (i + 3) 1 e3)) (omega arith)
 
-      pub last-4 : trailAt s (i + 3) 0x80 0xBF ≡ true → n ≡ 2 → Sequence 4 true
+      pub last-4 : trailAt s (i + 3) 0x80 0xBF ≡ true → n ≡ 2 → TrailsHere 4 true
       unfolding fit
       last-4 e3 z = whole 3 (second-fits 1 z ∙ ap (λ (k : ℕ). suc (suc k)) (trail-fits s (i + 3) 0 e3)) (omega arith)
 

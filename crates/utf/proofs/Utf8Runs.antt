@@ -11,13 +11,13 @@ use borrow.Author.Tests.{ltb-true, ltb-false, leb-true}
 use lib.Dec.{T}
 use lib.ListN.{length, take, drop, getD, length-drop, drop-of-length-le, length-append}
 use lib.Seq.{drop-cons, drop-drop, take-add, take-at, length-take-le}
-use Rattle.unicode.specs.Unicode.{Piece, scalar, malformed, utf8, pieceText, textOf, replaced, Range, Row, within, fit, First, firstBy, firstOf, rowIn, table-3-7, readFrom, utf8Pieces}
+use Rattle.unicode.specs.Unicode.{Piece, scalar, malformed, utf8, pieceText, piecesText, replacements, Range, Sequence, within, fit, First, firstBy, firstOf, sequenceIn, table-3-7, readFrom, utf8Pieces}
 use Rattle.utf.specs.Utf8Code.{firstAt, isScalar, PieceAt, Good, Stop}
 use Rattle.unicode.specs.Unicode.{utf8Text}
 use Rattle.utf.specs.Ascii.{AsciiRun}
 use Rattle.utf.proofs.AsciiLaws.{run-first, rest}
 use Rattle.utf.proofs.Utf8Laws.{step-ascii}
-use Rattle.buffer.specs.Buffer.{written}
+use Rattle.buffer.specs.Buffer.{overwritten}
 use Rattle.buffer.proofs.Writing.{Writing, next}
 use Rattle.unicode.proofs.Reading.{read-cons, text-append, replaced-append}
 use Rattle.unicode.proofs.Utf8Bytes.{first-text}
@@ -25,7 +25,7 @@ use Rattle.unicode.proofs.Utf8Bytes.{first-text}
 -- ---- a run, put together
 
 pub good-none : (l : List ℕ) → Good 0 l
-unfolding textOf replaced
+unfolding piecesText replacements
 good-none l = record { ps = []; split = refl; text = refl; none = refl; fits = omega arith }
 
 pub good-more : (n m : ℕ) (l : List ℕ) → Good n l → Good m (drop n l) → Good (n + m) l
@@ -50,17 +50,17 @@ fit-length (r ∷ rs) (b ∷ bs) = go (within b r) (fit-length rs bs)
     go true h = omega arith
     go false h = omega arith
 
-by-length : (o : Option Row) (b : ℕ) (bs : List ℕ) → firstBy o b bs .more ≤ length bs
+by-length : (o : Option Sequence) (b : ℕ) (bs : List ℕ) → firstBy o b bs .more ≤ length bs
 unfolding firstBy
 by-length none b bs = omega arith
 by-length (some r) b bs = fit-length (r .trails) bs
 
 pub more-length : (b : ℕ) (bs : List ℕ) → firstOf b bs .more ≤ length bs
 unfolding firstOf
-more-length b bs = by-length (rowIn table-3-7 b) b bs
+more-length b bs = by-length (sequenceIn table-3-7 b) b bs
 
 good-one : (b : ℕ) (bs : List ℕ) (p : Piece) → firstOf b bs .piece ≡ p → isScalar p ≡ true → Good (suc (firstOf b bs .more)) (b ∷ bs)
-unfolding textOf pieceText replaced
+unfolding piecesText pieceText replacements
 good-one b bs (scalar v) e q = record {
   ps = scalar v ∷ [];
   split = read-cons firstOf b bs ∙ rw e;
@@ -105,7 +105,7 @@ good-text n l g = rw (g .split) (text-append (g .ps) (utf8Pieces (drop n l)) ∙
 -- the text of the piece at i, and of what follows it
 module _ (s : List ℕ) (i n : ℕ) (ok : Bool) (h : i < length s) (p : PieceAt s i n ok) where
   pub piece-text : utf8Text (drop i s) ≡ pieceText (firstAt s i .piece) ++ utf8Text (drop (i + n) s)
-  unfolding utf8Text textOf firstAt
+  unfolding utf8Text piecesText firstAt
   piece-text =
       let m : ℕ = firstOf (getD s i 0) (drop (suc i) s) .more in
       let q : suc i + m ≡ i + n = omega (arith, p .0) in
@@ -153,7 +153,7 @@ module _ (s : List ℕ) (i n : ℕ) (h : i < length s) where
   broken-next p = ap length (piece-text s i n false h p) ∙ length-append (pieceText (firstAt s i .piece)) _ ∙ rw (broken-length s i n p)
 
 pub text-end : (s : List ℕ) (i : ℕ) → length s ≤ i → utf8Text (drop i s) ≡ []
-unfolding utf8Text readFrom textOf
+unfolding utf8Text readFrom piecesText
 text-end s i h = rw (drop-of-length-le s h)
 
 -- ---- ASCII
@@ -186,7 +186,7 @@ ascii-byte s i h k = rw (next s i h) (good-text 1 (getD s i 0 ∷ drop (i + 1) s
 -- ---- a run of ASCII that was copied
 
 -- the first n bytes of the text were written, and they are those of a run of ASCII
-pub ascii-written : (s d out : List ℕ) (n : ℕ) → AsciiRun n s → Writing (utf8Text s) d (utf8Text (drop n s)) out n → out ≡ written (take n s) d
+pub ascii-written : (s d out : List ℕ) (n : ℕ) → AsciiRun n s → Writing (utf8Text s) d (utf8Text (drop n s)) out n → out ≡ overwritten (take n s) d
 ascii-written s d out n r w =
     let k : length (take n s) ≡ n = length-take-le n s (r .fits) in
     w .buffer ∙ rw (good-text n s (ascii-good n s r), take-at (take n s) (utf8Text (drop n s)) n k, k)

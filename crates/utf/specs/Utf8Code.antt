@@ -5,7 +5,7 @@ use mathlib.Core.List.{List, [], _∷_, _++_}
 use mathlib.Core.Path.{_≡_}
 use lib.Dec.{leb, ltb, eqb}
 use lib.ListN.{length, take, drop, getD, replicate}
-use Rattle.unicode.specs.Unicode.{Piece, scalar, malformed, Range, range, trail, within, fit, First, firstOf, utf8Pieces, textOf, replaced}
+use Rattle.unicode.specs.Unicode.{Piece, scalar, malformed, Range, range, trail, within, fit, First, firstOf, utf8Pieces, piecesText, replacements}
 
 -- the byte at j is there and lies in the range
 unfoldable pub trailAt : List ℕ → ℕ → ℕ → ℕ → Bool
@@ -47,8 +47,8 @@ pub record Coded (P : ℕ → Bool → Type 0) (r : ℕ) : Type 0 where
 pub record Good (n : ℕ) (l : List ℕ) : Type 0 where
   pub ps : List Piece
   pub split : utf8Pieces l ≡ ps ++ utf8Pieces (drop n l)
-  pub text : textOf ps ≡ take n l
-  pub none : replaced ps ≡ 0
+  pub text : piecesText ps ≡ take n l
+  pub none : replacements ps ≡ 0
   pub fits : n ≤ length l
 
 -- What follows the first n bytes of l: a malformed part of `bad` bytes, or, where that is 0, nothing

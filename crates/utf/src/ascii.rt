@@ -4,7 +4,7 @@ ghost use mathlib.Core.Path.{_≡_};
 ghost use mathlib.Core.Bool.{true, false, not};
 ghost use Prim.Native.Nat.{_≤_};
 ghost use lib.ListN.{length, take};
-ghost use Rattle.buffer.specs.Buffer.{written};
+ghost use Rattle.buffer.specs.Buffer.{overwritten};
 ghost use Rattle.unicode.specs.Unicode.{utf8Text};
 ghost use Rattle.unicode.specs.Ascii.{allAscii};
 ghost use Rattle.utf.specs.Ascii.{AsciiRun};
@@ -148,7 +148,7 @@ fn one_if(x: bool) -> usize
 // Copies eight bytes. They go through an array, so that all are read before one is written: one load and one store.
 fn copy_8(s: &[u8], out: &mut [u8])
     requires { ⌜ (8 ≤ length (now s)) × (8 ≤ length (now out)) ⌝ }
-    ensures { λ _. ⌜ now (out .exit) ≡ written (take 8 (now (s .entry))) (now (out .entry)) ⌝ }
+    ensures { λ _. ⌜ now (out .exit) ≡ overwritten (take 8 (now (s .entry))) (now (out .entry)) ⌝ }
 {
     let mut block = [0u8; 8];
     copy(&s[0..8], &mut block);
@@ -157,7 +157,7 @@ fn copy_8(s: &[u8], out: &mut [u8])
 
 fn copy_32(s: &[u8], out: &mut [u8])
     requires { ⌜ (32 ≤ length (now s)) × (32 ≤ length (now out)) ⌝ }
-    ensures { λ _. ⌜ now (out .exit) ≡ written (take 32 (now (s .entry))) (now (out .entry)) ⌝ }
+    ensures { λ _. ⌜ now (out .exit) ≡ overwritten (take 32 (now (s .entry))) (now (out .entry)) ⌝ }
 {
     let mut block = [0u8; 32];
     copy(&s[0..32], &mut block);
@@ -208,7 +208,7 @@ fn copy_ascii_8s(s: &[u8], out: &mut [u8]) -> usize
 fn copy_ascii_bytes(s: &[u8], out: &mut [u8]) -> usize
     requires { ⌜ length (utf8Text (now s)) ≤ length (now out) ⌝ }
     ensures run { λ r. ⌜ AsciiRun r (now (s .entry)) ⌝ }
-    ensures bytes { λ r. ⌜ now (out .exit) ≡ written (take r (now (s .entry))) (now (out .entry)) ⌝ }
+    ensures bytes { λ r. ⌜ now (out .exit) ≡ overwritten (take r (now (s .entry))) (now (out .entry)) ⌝ }
 {
     let mut i = 0;
     while i < s.len() {

@@ -13,7 +13,7 @@ ghost use mathlib.Core.List.{List};
 ghost use mathlib.Core.Path.{_≡_};
 ghost use Prim.Native.Nat.{ℕ, _+_, _<_, _≤_};
 ghost use lib.ListN.{length, take, drop, getD};
-ghost use Rattle.buffer.specs.Buffer.{written};
+ghost use Rattle.buffer.specs.Buffer.{overwritten};
 ghost use Rattle.unicode.specs.Unicode.{utf8, pieceText, utf8Text};
 ghost use Rattle.utf.specs.Utf8Code.{firstAt, Coded, PieceAt};
 ghost use Rattle.utf.specs.Lossy.{Lone, PartLength, Wrote};
@@ -122,7 +122,7 @@ pub fn utf8_lossy_len(s: &[u8]) -> usize
 // Writes U+FFFD.
 fn write_replacement(out: &mut [u8])
     requires { ⌜ 3 ≤ length (now out) ⌝ }
-    ensures { λ _. ⌜ now (out .exit) ≡ written (utf8 0xFFFD) (now (out .entry)) ⌝ }
+    ensures { λ _. ⌜ now (out .exit) ≡ overwritten (utf8 0xFFFD) (now (out .entry)) ⌝ }
 {
     out[0] = 0xEF;
     out[1] = 0xBF;
@@ -132,7 +132,7 @@ fn write_replacement(out: &mut [u8])
 // Copies the two or three bytes of s from i on.
 fn copy_common(s: &[u8], i: usize, n: usize, out: &mut [u8])
     requires { ⌜ (i + n ≤ length (now s)) × ((n ≤ length (now out)) × ((2 ≤ n) × (n ≤ 3))) ⌝ }
-    ensures { λ _. ⌜ now (out .exit) ≡ written (take n (drop i (now (s .entry)))) (now (out .entry)) ⌝ }
+    ensures { λ _. ⌜ now (out .exit) ≡ overwritten (take n (drop i (now (s .entry)))) (now (out .entry)) ⌝ }
 {
     out[0] = s[i];
     out[1] = s[i + 1];
@@ -153,7 +153,7 @@ fn begins_none(b: u8) -> bool
 fn write_sequence(s: &[u8], i: usize, out: &mut [u8]) -> usize
     requires { ⌜ (i < length (now s)) × (length (pieceText (firstAt (now s) i .piece)) ≤ length (now out)) ⌝ }
     ensures piece { λ r. ⌜ Coded (PieceAt (now (s .entry)) i) r ⌝ }
-    ensures bytes { λ _. ⌜ now (out .exit) ≡ written (pieceText (firstAt (now (s .entry)) i .piece)) (now (out .entry)) ⌝ }
+    ensures bytes { λ _. ⌜ now (out .exit) ≡ overwritten (pieceText (firstAt (now (s .entry)) i .piece)) (now (out .entry)) ⌝ }
 {
     let m = common_at(s, i);
     if m != 0 {
@@ -174,7 +174,7 @@ fn write_sequence(s: &[u8], i: usize, out: &mut [u8]) -> usize
 fn write_piece(s: &[u8], i: usize, out: &mut [u8]) -> usize
     requires { ⌜ (i < length (now s)) × (length (pieceText (firstAt (now s) i .piece)) ≤ length (now out)) ⌝ }
     ensures piece { λ r. ⌜ Coded (PieceAt (now (s .entry)) i) r ⌝ }
-    ensures bytes { λ _. ⌜ now (out .exit) ≡ written (pieceText (firstAt (now (s .entry)) i .piece)) (now (out .entry)) ⌝ }
+    ensures bytes { λ _. ⌜ now (out .exit) ≡ overwritten (pieceText (firstAt (now (s .entry)) i .piece)) (now (out .entry)) ⌝ }
 {
     if begins_none(s[i]) {
         write_replacement(out);
@@ -217,7 +217,7 @@ fn write_some(s: &[u8], out: &mut [u8]) -> Part
 fn write_runs(s: &[u8], out: &mut [u8]) -> usize
     requires { ⌜ length (utf8Text (now s)) ≤ length (now out) ⌝ }
     ensures count { λ r. ⌜ r ≡ length (utf8Text (now (s .entry))) ⌝ }
-    ensures bytes { λ _. ⌜ now (out .exit) ≡ written (utf8Text (now (s .entry))) (now (out .entry)) ⌝ }
+    ensures bytes { λ _. ⌜ now (out .exit) ≡ overwritten (utf8Text (now (s .entry))) (now (out .entry)) ⌝ }
 {
     let mut i = 0;
     let mut o = 0;
@@ -240,7 +240,7 @@ fn write_runs(s: &[u8], out: &mut [u8]) -> usize
 pub fn utf8_lossy_write(s: &[u8], out: &mut [u8]) -> usize
     requires { ⌜ length (utf8Text (now s)) ≤ length (now out) ⌝ }
     ensures count { λ r. ⌜ r ≡ length (utf8Text (now (s .entry))) ⌝ }
-    ensures bytes { λ _. ⌜ now (out .exit) ≡ written (utf8Text (now (s .entry))) (now (out .entry)) ⌝ }
+    ensures bytes { λ _. ⌜ now (out .exit) ≡ overwritten (utf8Text (now (s .entry))) (now (out .entry)) ⌝ }
 {
     let r = run_of(s);
     let e = r.end;

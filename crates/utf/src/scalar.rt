@@ -2,7 +2,7 @@
 ghost use mathlib.Core.Path.{_≡_};
 ghost use Prim.Native.Nat.{_<_, _≤_};
 ghost use lib.ListN.{length};
-ghost use Rattle.buffer.specs.Buffer.{written};
+ghost use Rattle.buffer.specs.Buffer.{overwritten};
 ghost use Rattle.unicode.specs.Unicode.{utf8};
 
 // Its length.
@@ -25,7 +25,7 @@ pub fn scalar_len(v: u32) -> usize
 pub fn write_scalar(v: u32, out: &mut [u8]) -> usize
     requires { ⌜ (v < 0x110000) × (length (utf8 v) ≤ length (now out)) ⌝ }
     ensures count { λ r. ⌜ r ≡ length (utf8 v) ⌝ }
-    ensures bytes { λ _. ⌜ now (out .exit) ≡ written (utf8 v) (now (out .entry)) ⌝ }
+    ensures bytes { λ _. ⌜ now (out .exit) ≡ overwritten (utf8 v) (now (out .entry)) ⌝ }
 {
     if v < 0x80 {
         out[0] = v as u8;

@@ -5,7 +5,7 @@ ghost use mathlib.Core.Path.{_≡_};
 ghost use mathlib.Core.Bool.{false, cond};
 ghost use Prim.Native.Nat.{ℕ, _+_, _%_, _<_, _≤_};
 ghost use lib.ListN.{length, drop, getD, replicate};
-ghost use Rattle.buffer.specs.Buffer.{written};
+ghost use Rattle.buffer.specs.Buffer.{overwritten};
 ghost use Rattle.buffer.specs.Filling.{Filling};
 ghost use Rattle.utf.specs.Utf16Code.{unitAt, Utf16Next, bitOf, Extra, starts, takesThree, unitBytes, Counted, Laid, BlockEnd, AfterFirst};
 ghost use Rattle.unicode.specs.Unicode.{range, within, utf16Text};
@@ -430,7 +430,7 @@ fn write_varied(s: &[u8], out: &mut [u8]) -> Progress
 pub fn utf16_lossy_write(s: &[u8], out: &mut [u8]) -> usize
     requires { ⌜ length (utf16Text (now s)) ≤ length (now out) ⌝ }
     ensures count { λ r. ⌜ r ≡ length (utf16Text (now (s .entry))) ⌝ }
-    ensures bytes { λ _. ⌜ now (out .exit) ≡ written (utf16Text (now (s .entry))) (now (out .entry)) ⌝ }
+    ensures bytes { λ _. ⌜ now (out .exit) ≡ overwritten (utf16Text (now (s .entry))) (now (out .entry)) ⌝ }
 {
     let t = write_varied(s, out);
     let mut o = t.written;

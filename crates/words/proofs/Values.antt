@@ -11,7 +11,6 @@ use mir.Syntax.{Width, w16, w32, w64}
 use mir.Val.{SFits, toZ, ofZ}
 use mir.ValLaws.{toZ-ofZ}
 use Rattle.types.specs.declared.Db2Value.{Db2Value}
-use Rattle.types.specs.declared.Db2Value.the-variants as value
 use Rattle.types.specs.declared.ValuePlace.{ValuePlace}
 use Rattle.types.specs.Held.{floatBits}
 use Rattle.numbers.specs.Number.{Number, numberValue, realOf, doubleOf}
@@ -24,26 +23,26 @@ InFormat f x = T (fits f x) × (isNan x ≡ false)
 
 -- every number of a value has its bits, as those of the code have; a Real and a Double are no NaN
 abbrev pub InRange : Db2Value → Type 0
-InRange value.Null = Unit {0}
-InRange (value.SmallInt z) = SFits w16 z
-InRange (value.Integer z) = SFits w32 z
-InRange (value.BigInt z) = SFits w64 z
-InRange (value.Real x) = InFormat binary32 x
-InRange (value.RealNan n) = n < 2 ^ 32
-InRange (value.Double x) = InFormat binary64 x
-InRange (value.DoubleNan n) = Unit {0}
-InRange (value.Decimal p) = Unit {0}
-InRange (value.Char p) = Unit {0}
-InRange (value.VarChar p) = Unit {0}
-InRange (value.Binary p) = Unit {0}
-InRange (value.Blob p) = Unit {0}
-InRange (value.Clob p) = Unit {0}
-InRange (value.RowId p) = Unit {0}
-InRange (value.Date p) = Unit {0}
-InRange (value.Time p) = Unit {0}
-InRange (value.Timestamp p) = Unit {0}
-InRange (value.Boolean b) = Unit {0}
-InRange (value.Xml p) = Unit {0}
+InRange Db2Value.Null = Unit {0}
+InRange (Db2Value.SmallInt z) = SFits w16 z
+InRange (Db2Value.Integer z) = SFits w32 z
+InRange (Db2Value.BigInt z) = SFits w64 z
+InRange (Db2Value.Real x) = InFormat binary32 x
+InRange (Db2Value.RealNan n) = n < 2 ^ 32
+InRange (Db2Value.Double x) = InFormat binary64 x
+InRange (Db2Value.DoubleNan n) = Unit {0}
+InRange (Db2Value.Decimal p) = Unit {0}
+InRange (Db2Value.Char p) = Unit {0}
+InRange (Db2Value.VarChar p) = Unit {0}
+InRange (Db2Value.Binary p) = Unit {0}
+InRange (Db2Value.Blob p) = Unit {0}
+InRange (Db2Value.Clob p) = Unit {0}
+InRange (Db2Value.RowId p) = Unit {0}
+InRange (Db2Value.Date p) = Unit {0}
+InRange (Db2Value.Time p) = Unit {0}
+InRange (Db2Value.Timestamp p) = Unit {0}
+InRange (Db2Value.Boolean b) = Unit {0}
+InRange (Db2Value.Xml p) = Unit {0}
 
 -- ---- the low bits of a signed number's 64 are its bits
 low16 : (z : ℤ) → SFits w16 z → ofZ w64 z % 2 ^ 16 ≡ ofZ w16 z
@@ -69,14 +68,14 @@ module _ (f : Format) (x : Float) (h : InFormat f x) where
   no-nan : nanBits f (floatBits f x) ≡ false
   no-nan = nanBits-is f (floatBits f x) ∙ ap isNan back ∙ h .1
 
-real-back : (x : Float) → InFormat binary32 x → numberValue (realOf (floatBits binary32 x % 2 ^ 32)) ≡ value.Real x
+real-back : (x : Float) → InFormat binary32 x → numberValue (realOf (floatBits binary32 x % 2 ^ 32)) ≡ Db2Value.Real x
 unfolding realOf
 real-back x h =
     let small : floatBits binary32 x < 2 ^ 32 = bits-small binary32 x h in
     let e : floatBits binary32 x % 2 ^ 32 ≡ floatBits binary32 x = omega arith in
     rw (e, no-nan binary32 x h, back binary32 x h)
 
-double-back : (x : Float) → InFormat binary64 x → numberValue (doubleOf (floatBits binary64 x)) ≡ value.Double x
+double-back : (x : Float) → InFormat binary64 x → numberValue (doubleOf (floatBits binary64 x)) ≡ Db2Value.Double x
 unfolding doubleOf
 double-back x h = rw (no-nan binary64 x h, back binary64 x h)
 
@@ -86,48 +85,48 @@ flag-back false = refl
 
 variant-back : (v : Db2Value) → InRange v → variantNamed (sortWord v) (numberWord v) (lengthWord v) ≡ v
 unfolding variantNamed
-variant-back value.Null h = refl
-variant-back (value.SmallInt z) h = rw (low16 z h, toZ-ofZ w16 z h)
-variant-back (value.Integer z) h = rw (low32 z h, toZ-ofZ w32 z h)
-variant-back (value.BigInt z) h = rw (toZ-ofZ w64 z h)
-variant-back (value.Real x) h = real-back x h
-variant-back (value.RealNan n) h = let e : n % 2 ^ 32 ≡ n = omega arith in rw e
-variant-back (value.Double x) h = double-back x h
-variant-back (value.DoubleNan n) h = refl
-variant-back (value.Decimal p) h = refl
-variant-back (value.Char p) h = refl
-variant-back (value.VarChar p) h = refl
-variant-back (value.Binary p) h = refl
-variant-back (value.Blob p) h = refl
-variant-back (value.Clob p) h = refl
-variant-back (value.RowId p) h = refl
-variant-back (value.Date p) h = refl
-variant-back (value.Time p) h = refl
-variant-back (value.Timestamp p) h = refl
-variant-back (value.Boolean b) h = rw (flag-back b)
-variant-back (value.Xml p) h = refl
+variant-back Db2Value.Null h = refl
+variant-back (Db2Value.SmallInt z) h = rw (low16 z h, toZ-ofZ w16 z h)
+variant-back (Db2Value.Integer z) h = rw (low32 z h, toZ-ofZ w32 z h)
+variant-back (Db2Value.BigInt z) h = rw (toZ-ofZ w64 z h)
+variant-back (Db2Value.Real x) h = real-back x h
+variant-back (Db2Value.RealNan n) h = let e : n % 2 ^ 32 ≡ n = omega arith in rw e
+variant-back (Db2Value.Double x) h = double-back x h
+variant-back (Db2Value.DoubleNan n) h = refl
+variant-back (Db2Value.Decimal p) h = refl
+variant-back (Db2Value.Char p) h = refl
+variant-back (Db2Value.VarChar p) h = refl
+variant-back (Db2Value.Binary p) h = refl
+variant-back (Db2Value.Blob p) h = refl
+variant-back (Db2Value.Clob p) h = refl
+variant-back (Db2Value.RowId p) h = refl
+variant-back (Db2Value.Date p) h = refl
+variant-back (Db2Value.Time p) h = refl
+variant-back (Db2Value.Timestamp p) h = refl
+variant-back (Db2Value.Boolean b) h = rw (flag-back b)
+variant-back (Db2Value.Xml p) h = refl
 
 sort-small : (v : Db2Value) → sortWord v < 2 ^ 8
-sort-small value.Null = omega arith
-sort-small (value.SmallInt z) = omega arith
-sort-small (value.Integer z) = omega arith
-sort-small (value.BigInt z) = omega arith
-sort-small (value.Real x) = omega arith
-sort-small (value.RealNan n) = omega arith
-sort-small (value.Double x) = omega arith
-sort-small (value.DoubleNan n) = omega arith
-sort-small (value.Decimal p) = omega arith
-sort-small (value.Char p) = omega arith
-sort-small (value.VarChar p) = omega arith
-sort-small (value.Binary p) = omega arith
-sort-small (value.Blob p) = omega arith
-sort-small (value.Clob p) = omega arith
-sort-small (value.RowId p) = omega arith
-sort-small (value.Date p) = omega arith
-sort-small (value.Time p) = omega arith
-sort-small (value.Timestamp p) = omega arith
-sort-small (value.Boolean b) = omega arith
-sort-small (value.Xml p) = omega arith
+sort-small Db2Value.Null = omega arith
+sort-small (Db2Value.SmallInt z) = omega arith
+sort-small (Db2Value.Integer z) = omega arith
+sort-small (Db2Value.BigInt z) = omega arith
+sort-small (Db2Value.Real x) = omega arith
+sort-small (Db2Value.RealNan n) = omega arith
+sort-small (Db2Value.Double x) = omega arith
+sort-small (Db2Value.DoubleNan n) = omega arith
+sort-small (Db2Value.Decimal p) = omega arith
+sort-small (Db2Value.Char p) = omega arith
+sort-small (Db2Value.VarChar p) = omega arith
+sort-small (Db2Value.Binary p) = omega arith
+sort-small (Db2Value.Blob p) = omega arith
+sort-small (Db2Value.Clob p) = omega arith
+sort-small (Db2Value.RowId p) = omega arith
+sort-small (Db2Value.Date p) = omega arith
+sort-small (Db2Value.Time p) = omega arith
+sort-small (Db2Value.Timestamp p) = omega arith
+sort-small (Db2Value.Boolean b) = omega arith
+sort-small (Db2Value.Xml p) = omega arith
 
 flag-small : (b : Bool) → cond b 1 0 < 2
 flag-small true = omega arith

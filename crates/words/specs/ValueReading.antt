@@ -8,7 +8,6 @@ use mir.Syntax.{w16, w32, w64}
 use mir.Val.{toZ}
 use Rattle.types.specs.declared.Place.{Place}
 use Rattle.types.specs.declared.Db2Value.{Db2Value}
-use Rattle.types.specs.declared.Db2Value.the-variants as value
 use Rattle.types.specs.declared.ValuePlace.{ValuePlace}
 use Rattle.numbers.specs.Number.{numberValue, realOf, doubleOf}
 
@@ -16,31 +15,31 @@ use Rattle.numbers.specs.Number.{numberValue, realOf, doubleOf}
 -- RealNan, as a row's is
 abbrev pub valuesWith : ℕ → Place → List Db2Value
 valuesWith n p =
-    value.Null
-    ∷ value.SmallInt (toZ w16 (n % 2 ^ 16))
-    ∷ value.Integer (toZ w32 (n % 2 ^ 32))
-    ∷ value.BigInt (toZ w64 n)
+    Db2Value.Null
+    ∷ Db2Value.SmallInt (toZ w16 (n % 2 ^ 16))
+    ∷ Db2Value.Integer (toZ w32 (n % 2 ^ 32))
+    ∷ Db2Value.BigInt (toZ w64 n)
     ∷ numberValue (realOf (n % 2 ^ 32))
-    ∷ value.RealNan (n % 2 ^ 32)
+    ∷ Db2Value.RealNan (n % 2 ^ 32)
     ∷ numberValue (doubleOf n)
-    ∷ value.DoubleNan n
-    ∷ value.Decimal p
-    ∷ value.Char p
-    ∷ value.VarChar p
-    ∷ value.Binary p
-    ∷ value.Blob p
-    ∷ value.Clob p
-    ∷ value.RowId p
-    ∷ value.Date p
-    ∷ value.Time p
-    ∷ value.Timestamp p
-    ∷ value.Boolean (eqb n 1)
-    ∷ value.Xml p
+    ∷ Db2Value.DoubleNan n
+    ∷ Db2Value.Decimal p
+    ∷ Db2Value.Char p
+    ∷ Db2Value.VarChar p
+    ∷ Db2Value.Binary p
+    ∷ Db2Value.Blob p
+    ∷ Db2Value.Clob p
+    ∷ Db2Value.RowId p
+    ∷ Db2Value.Date p
+    ∷ Db2Value.Time p
+    ∷ Db2Value.Timestamp p
+    ∷ Db2Value.Boolean (eqb n 1)
+    ∷ Db2Value.Xml p
     ∷ []
 
 -- the value of the variant that has this place in the enum, by the second and the third word
 unfoldable pub variantNamed : ℕ → ℕ → ℕ → Db2Value
-variantNamed sort n k = getD (valuesWith n (record { start = n; len = k })) sort value.Null
+variantNamed sort n k = getD (valuesWith n (record { start = n; len = k })) sort Db2Value.Null
 
 -- the value that three words name, and whether it is external
 unfoldable pub valueNamed : ℕ → ℕ → ℕ → ValuePlace

@@ -3,44 +3,43 @@ use Prim.Native.Nat.{ℕ, _+_, _*_, _^_}
 use mathlib.Core.Bool.{cond}
 use mathlib.Core.List.{List, [], _∷_}
 use Rattle.types.specs.declared.Db2Value.{Db2Value}
-use Rattle.types.specs.declared.Db2Value.the-variants as value
 use Rattle.types.specs.declared.ValuePlace.{ValuePlace}
-use Rattle.types.specs.Held.{Held, bits, row, textBuffer, held}
+use Rattle.types.specs.Held.{Held, bits, inRow, inText, held}
 
 -- the place of a value's variant in the enum
 abbrev pub sortWord : Db2Value → ℕ
-sortWord value.Null = 0
-sortWord (value.SmallInt z) = 1
-sortWord (value.Integer z) = 2
-sortWord (value.BigInt z) = 3
-sortWord (value.Real x) = 4
-sortWord (value.RealNan n) = 5
-sortWord (value.Double x) = 6
-sortWord (value.DoubleNan n) = 7
-sortWord (value.Decimal p) = 8
-sortWord (value.Char p) = 9
-sortWord (value.VarChar p) = 10
-sortWord (value.Binary p) = 11
-sortWord (value.Blob p) = 12
-sortWord (value.Clob p) = 13
-sortWord (value.RowId p) = 14
-sortWord (value.Date p) = 15
-sortWord (value.Time p) = 16
-sortWord (value.Timestamp p) = 17
-sortWord (value.Boolean b) = 18
-sortWord (value.Xml p) = 19
+sortWord Db2Value.Null = 0
+sortWord (Db2Value.SmallInt z) = 1
+sortWord (Db2Value.Integer z) = 2
+sortWord (Db2Value.BigInt z) = 3
+sortWord (Db2Value.Real x) = 4
+sortWord (Db2Value.RealNan n) = 5
+sortWord (Db2Value.Double x) = 6
+sortWord (Db2Value.DoubleNan n) = 7
+sortWord (Db2Value.Decimal p) = 8
+sortWord (Db2Value.Char p) = 9
+sortWord (Db2Value.VarChar p) = 10
+sortWord (Db2Value.Binary p) = 11
+sortWord (Db2Value.Blob p) = 12
+sortWord (Db2Value.Clob p) = 13
+sortWord (Db2Value.RowId p) = 14
+sortWord (Db2Value.Date p) = 15
+sortWord (Db2Value.Time p) = 16
+sortWord (Db2Value.Timestamp p) = 17
+sortWord (Db2Value.Boolean b) = 18
+sortWord (Db2Value.Xml p) = 19
 
 -- the number by its bits, or where the place begins
 abbrev pub heldNumber : Held → ℕ
 heldNumber (bits n) = n
-heldNumber (row p) = p .start
-heldNumber (textBuffer p) = p .start
+heldNumber (inRow p) = p .start
+heldNumber (inText p) = p .start
 
 -- the length of the place, and 0 where there is none
 abbrev pub heldLength : Held → ℕ
 heldLength (bits n) = 0
-heldLength (row p) = p .len
-heldLength (textBuffer p) = p .len
+heldLength (inRow p) = p .len
+heldLength (inText p) = p .len
 
 -- the first of the three words: bits 0 to 7 the place of the variant, bit 8 external, the others 0
 abbrev pub kindWord : ValuePlace → ℕ

@@ -5,11 +5,10 @@ use mathlib.Core.List.{List, [], _∷_}
 use mathlib.Core.Option.{Option, some, none}
 use lib.Dec.{ltb, eqb}
 use lib.ListN.{getD}
-use Rattle.types.specs.Names.{nameOf, ownNumbers}
+use Rattle.types.specs.Names.{nameOf, ownNumbers, isAbsent, isLittleEndian}
 use Rattle.types.specs.declared.Db2Type.{Db2Type}
 use Rattle.types.specs.declared.Db2Type.the-variants as type
 use Rattle.types.specs.declared.ByteOrder.{ByteOrder}
-use Rattle.types.specs.declared.ByteOrder.the-variants.{BigEndian, LittleEndian}
 use Rattle.types.specs.declared.ReferenceLength.{ReferenceLength}
 use Rattle.types.specs.declared.ReferenceLength.the-variants.{Absent, Width}
 use Rattle.types.specs.declared.ColumnDescriptor.{ColumnDescriptor}
@@ -20,13 +19,11 @@ packType t = nameOf t + ownNumbers t * 2 ^ 8
 
 -- 1 for little-endian
 abbrev pub littleEndianBit : ByteOrder → ℕ
-littleEndianBit BigEndian = 0
-littleEndianBit LittleEndian = 1
+littleEndianBit o = cond (isLittleEndian o) 1 0
 
 -- 1 where a reference length is there
 abbrev pub referenceBit : ReferenceLength → ℕ
-referenceBit Absent = 0
-referenceBit (Width n) = 1
+referenceBit r = cond (isAbsent r) 0 1
 
 -- the reference length, and 0 where there is none
 abbrev pub referenceWidth : ReferenceLength → ℕ

@@ -4,7 +4,7 @@ use lib.ListN.{List·getD-map}
 use Prim.Native.Nat.{_%_}
 use Rattle.types.specs.Places.{maxColumns}
 use Rattle.qrydsc.specs.Qrydsc.{DescriptionTold}
-use Rattle.by_value.specs.ByValue.{lengthOf, lengthAt}
+use Rattle.by_value.specs.ByValue.{ownLength, lengthAt}
 use borrow.Author.Needs.{needs}
 use Rattle.by_value.proofs.by_value_parse_qrydsc.Statement.{statement}
 use Rattle.by_value.proofs.by_value_parse_qrydsc.Tie as tie
@@ -25,7 +25,7 @@ returns : tie.Need-returns
 returns c =
     let d = c .before .before .before .parse-qrydsc in
     let i = c .before .before .before .before .before .args .index % maxColumns in
-    sym (List·getD-map lengthOf (d .result .columns .columns) i _) ∙ ap (λ (t : DescriptionTold). lengthAt (t .columns) i) (d .ensures)
+    sym (List·getD-map ownLength (d .result .columns .columns) i _) ∙ ap (λ (t : DescriptionTold). lengthAt (t .columns) i) (d .ensures)
 
 pub by-value-parse-qrydsc-spec : {M : Type 1} → statement M
 by-value-parse-qrydsc-spec =

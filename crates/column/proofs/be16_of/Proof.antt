@@ -1,7 +1,7 @@
 -- `column::be16_of` meets its contract: the number of two bytes is computed by its definition. Assumes nothing.
 use native.Mathlib.Omega.{arith}
 use borrow.Author.Needs.{needs}
-use Rattle.numbers.specs.Number.{number}
+use Rattle.numbers.specs.Number.{unsigned}
 use Rattle.column.proofs.be16_of.Statement.{statement}
 use Rattle.column.proofs.be16_of.Tie as tie
 
@@ -12,7 +12,7 @@ add-result : tie.Need-add-result
 add-result c = search needs
 
 returns : tie.Need-returns
-unfolding number
+unfolding unsigned
 returns c = omega arith
 
 pub be16-of-spec : {M : Type 1} → statement M

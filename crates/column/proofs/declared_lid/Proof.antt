@@ -1,7 +1,7 @@
 -- `column::declared_lid` meets its contract: each way out rewrites with its tests, and with what the callees ensure. Assumes nothing.
 use mathlib.Core.List.{[], _∷_}
 use Rattle.types.specs.declared.ByteOrder.the-variants.{BigEndian}
-use Rattle.numbers.specs.Number.{number}
+use Rattle.numbers.specs.Number.{unsigned}
 use Rattle.column.specs.Group.{declaredColumn}
 use borrow.Author.Needs.{needs}
 use Rattle.column.proofs.declared_lid.Statement.{statement}
@@ -19,7 +19,7 @@ returns : tie.Need-returns
 unfolding declaredColumn
 returns c =
     let a = c .before .before .args in
-    rw (c .before .be16-of .ensures, c .declared-nullable .ensures (number BigEndian (a .first ∷ a .second ∷ [])))
+    rw (c .before .be16-of .ensures, c .declared-nullable .ensures (unsigned BigEndian (a .first ∷ a .second ∷ [])))
 
 pub declared-lid-spec : {M : Type 1} → statement M
 declared-lid-spec = tie.close (tie.spec be16-of-requires declared-nullable-requires returns)

@@ -3,7 +3,7 @@ use borrow.Author.Tests.{eq-eqb, ne-eqb}
 use Rattle.types.specs.Types.{baseTypes, listedOr, fromDrdaType}
 use mathlib.Core.List.{[], _∷_}
 use Rattle.types.specs.declared.ByteOrder.the-variants.{BigEndian}
-use Rattle.numbers.specs.Number.{number}
+use Rattle.numbers.specs.Number.{unsigned}
 use Rattle.column.specs.Group.{undeclaredColumn}
 use borrow.Author.Needs.{needs}
 use Rattle.column.proofs.undeclared_lid.Statement.{statement}
@@ -35,7 +35,7 @@ returns-2 : tie.Need-returns-2
 unfolding undeclaredColumn
 returns-2 c =
     let a = c .before .before .before .before .args in
-    let n = number BigEndian (a .first ∷ a .second ∷ []) in
+    let n = unsigned BigEndian (a .first ∷ a .second ∷ []) in
     rw (ne-eqb _ _ (c .before .before .before .if1 .left), c .before .be16-of .ensures, c .compact-gda-ccsid .ensures n, c .before .before .compact-gda-code .ensures n)
 
 pub undeclared-lid-spec : {M : Type 1} → statement M

@@ -9,7 +9,7 @@ use denote.Ref.{now}
 use lib.ListN.{length, take, drop, take-append-drop}
 use lib.Seq.{length-take-le, take-length}
 use Rattle.unicode.specs.Ascii.{allAscii}
-use Rattle.buffer.specs.Buffer.{written}
+use Rattle.buffer.specs.Buffer.{overwritten}
 use Rattle.buffer.proofs.Writing.{Writing, wrote-first, wrote-rest, fits, fits-rest, as-long, over, all, end}
 use Rattle.utf.specs.Ascii.{AsciiRun}
 use Rattle.utf.proofs.AsciiLaws.{none-high, some-high, run-block, rest}
@@ -57,7 +57,7 @@ module _ (c : tie.After-has-high) where
   run : AsciiRun N S
   run = c .before .before .before .before .copy-ascii-long .ensures .0
 
-  left : Out ≡ written (take N S) D
+  left : Out ≡ overwritten (take N S) D
   left = c .before .before .before .before .copy-ascii-long .ensures .1
 
   least : length S ≤ length (guessText S)
@@ -98,7 +98,7 @@ returns c =
     let h : length (take (N d) (S d)) ≤ length (textIn Ebcdic037 (S d)) = omega (arith, ap length e, least d, front d, run d .fits) in
     let k : length (take (N d) (S d)) ≤ length (D d) = omega (arith, least d, room d, front d, run d .fits) in
     let p = c .before .before .text-write .ensures in
-    rw e (p .0, p .1 ∙ ap (written (textIn Ebcdic037 (S d))) (left d) ∙ over (textIn Ebcdic037 (S d)) (take (N d) (S d)) (D d) h k)
+    rw e (p .0, p .1 ∙ ap (overwritten (textIn Ebcdic037 (S d))) (left d) ∙ over (textIn Ebcdic037 (S d)) (take (N d) (S d)) (D d) h k)
 
 sub-copy : tie.Need-sub-copy
 sub-copy c = search needs

@@ -7,13 +7,13 @@ use denote.Ref.{now}
 use lib.ListN.{length, getD, set, length-set}
 use lib.Seq.{slice}
 use Rattle.buffer.proofs.Writing.{Writing, start, stored, fits, as-long, all, end}
-use Rattle.packed.specs.Packed.{character, digits}
+use Rattle.packed.specs.Packed.{character, digitText}
 use Rattle.packed.proofs.Nibbles.{bytes-next, slice-done}
 use Rattle.packed.proofs.by_byte_write.Statement.{statement}
 use Rattle.packed.proofs.by_byte_write.Tie as tie
 
 abbrev Inv-loop : tie.InvT-loop
-Inv-loop s i j out₀ o₀ k₀ out o k = (k ≤ j) × Writing (slice (2 * i) (2 * j) (digits s)) out₀ (slice (2 * k) (2 * j) (digits s)) out o
+Inv-loop s i j out₀ o₀ k₀ out o k = (k ≤ j) × Writing (slice (2 * i) (2 * j) (digitText s)) out₀ (slice (2 * k) (2 * j) (digitText s)) out o
 
 abbrev μ-loop : tie.MeasureT-loop
 μ-loop s i j out₀ o₀ k₀ out o k = j - k
@@ -35,7 +35,7 @@ module _ (c : tie.After-shared-slice-known Inv-loop μ-loop) where
   abbrev j : ℕ
   j = c .before .before .before .args .j
 
-  next : slice (2 * k) (2 * j) (digits S) ≡ character (getD S k 0 / 16) ∷ character (getD S k 0 % 16) ∷ slice (2 * (k + 1)) (2 * j) (digits S)
+  next : slice (2 * k) (2 * j) (digitText S) ≡ character (getD S k 0 / 16) ∷ character (getD S k 0 % 16) ∷ slice (2 * (k + 1)) (2 * j) (digitText S)
   next = bytes-next S k j (c .before .loop-test .taken) (c .before .before .before .pre .1 .0)
 
 add-out : tie.Need-add-out Inv-loop μ-loop
@@ -72,7 +72,7 @@ returns : tie.Need-returns Inv-loop μ-loop
 returns c =
     let l = c .before .loop in
     let a = c .before .before .args in
-    let done = slice-done (digits (now (a .«data»))) (2 * l .k) (2 * a .j) (omega arith) (omega arith) in
+    let done = slice-done (digitText (now (a .«data»))) (2 * l .k) (2 * a .j) (omega arith) (omega arith) in
     (all (l .inv .1) done, end (l .inv .1) done)
 
 pub by-byte-write-spec : {M : Type 1} → statement M

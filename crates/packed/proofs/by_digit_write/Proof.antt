@@ -7,13 +7,13 @@ use denote.Ref.{now}
 use lib.ListN.{length}
 use lib.Seq.{slice}
 use Rattle.buffer.proofs.Writing.{Writing, start, stored, fits, as-long, all, end}
-use Rattle.packed.specs.Packed.{digits}
+use Rattle.packed.specs.Packed.{digitText}
 use Rattle.packed.proofs.Nibbles.{slice-next, slice-done}
 use Rattle.packed.proofs.by_digit_write.Statement.{statement}
 use Rattle.packed.proofs.by_digit_write.Tie as tie
 
 abbrev Inv-loop : tie.InvT-loop
-Inv-loop s a e out₀ o₀ k₀ out o k = (k ≤ e) × Writing (slice a e (digits s)) out₀ (slice k e (digits s)) out o
+Inv-loop s a e out₀ o₀ k₀ out o k = (k ≤ e) × Writing (slice a e (digitText s)) out₀ (slice k e (digitText s)) out o
 
 abbrev μ-loop : tie.MeasureT-loop
 μ-loop s a e out₀ o₀ k₀ out o k = e - k
@@ -35,7 +35,7 @@ module _ (c : tie.After-digit-at Inv-loop μ-loop) where
   abbrev e : ℕ
   e = c .before .before .before .before .before .args .e
 
-  next : slice k e (digits S) ≡ c .digit-at .result ∷ slice (k + 1) e (digits S)
+  next : slice k e (digitText S) ≡ c .digit-at .result ∷ slice (k + 1) e (digitText S)
   next =
       slice-next S k e (c .digit-at .result) (c .before .loop-test .taken) (c .before .before .before .before .before .pre .1 .0)
       (c .digit-at .ensures)

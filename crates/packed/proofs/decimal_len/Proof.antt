@@ -5,7 +5,7 @@ use native.Mathlib.Omega.{arith}
 use borrow.Author.Needs.{needs}
 use denote.Ref.{now}
 use lib.ListN.{length, take, length-append}
-use Rattle.packed.specs.Packed.{sign, digits, trimmed, fraction}
+use Rattle.packed.specs.Packed.{signText, digitText, trimmed, fraction}
 use Rattle.packed.proofs.Nibbles.{parts}
 use Rattle.packed.proofs.decimal_len.Statement.{statement}
 use Rattle.packed.proofs.decimal_len.Tie as tie
@@ -43,12 +43,12 @@ returns c =
     let args = a .before .before .before .args in
     let s = now (args .«data») in
     let wide = a .before .wide in
-    let w = trimmed (take (a .above .result) (digits s)) in
-    let f = fraction (wide .result) (digits s) in
+    let w = trimmed (take (a .above .result) (digitText s)) in
+    let f = fraction (wide .result) (digitText s) in
     omega (
       arith,
       ap length (parts (args .scale) s (a .above .result) (wide .result) (wide .ensures .0) (a .above .ensures)),
-      length-append (sign s) (w ++ f),
+      length-append (signText s) (w ++ f),
       length-append w f,
     )
 

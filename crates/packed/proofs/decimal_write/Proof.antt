@@ -7,7 +7,7 @@ use borrow.Author.Needs.{needs}
 use denote.Ref.{now}
 use lib.ListN.{length, take, drop, length-append}
 use Rattle.buffer.proofs.Writing.{Writing, wrote-first, wrote-rest, fits, fits-rest, as-long, all, end}
-use Rattle.packed.specs.Packed.{sign, digits, trimmed, fraction, decimalText}
+use Rattle.packed.specs.Packed.{signText, digitText, trimmed, fraction, decimalText}
 use Rattle.packed.proofs.Nibbles.{parts}
 use Rattle.packed.proofs.decimal_write.Statement.{statement}
 use Rattle.packed.proofs.decimal_write.Tie as tie
@@ -39,13 +39,13 @@ module _ (c : tie.After-above) where
   T = decimalText (entry .args .scale) S
 
   abbrev Sg : List ℕ
-  Sg = sign S
+  Sg = signText S
 
   abbrev Wh : List ℕ
-  Wh = trimmed (take (c .above .result) (digits S))
+  Wh = trimmed (take (c .above .result) (digitText S))
 
   abbrev Fr : List ℕ
-  Fr = fraction (c .before .wide .result) (digits S)
+  Fr = fraction (c .before .wide .result) (digitText S)
 
   text : T ≡ Sg ++ (Wh ++ Fr)
   text = parts (entry .args .scale) S (c .above .result) (c .before .wide .result) (c .before .wide .ensures .0) (c .above .ensures)

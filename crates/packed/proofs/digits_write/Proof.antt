@@ -9,7 +9,7 @@ use denote.Ref.{now}
 use lib.ListN.{length, take, drop, length-append}
 use lib.Seq.{slice}
 use Rattle.buffer.proofs.Writing.{Writing, wrote-first, wrote-rest, fits, fits-rest, as-long, all, end}
-use Rattle.packed.specs.Packed.{digits}
+use Rattle.packed.specs.Packed.{digitText}
 use Rattle.packed.proofs.Nibbles.{digits-length, slice-split}
 use Rattle.packed.proofs.digits_write.Statement.{statement}
 use Rattle.packed.proofs.digits_write.Tie as tie
@@ -56,23 +56,23 @@ module _ (c : tie.Else1) where
   j = to / 2
 
   abbrev T : List ℕ
-  T = slice from to (digits S)
+  T = slice from to (digitText S)
 
   abbrev A : List ℕ
-  A = slice from (2 * i) (digits S)
+  A = slice from (2 * i) (digitText S)
 
   abbrev B : List ℕ
-  B = slice (2 * i) (2 * j) (digits S)
+  B = slice (2 * i) (2 * j) (digitText S)
 
   abbrev C : List ℕ
-  C = slice (2 * j) to (digits S)
+  C = slice (2 * j) to (digitText S)
 
   text : T ≡ A ++ (B ++ C)
   text =
-      let k : to ≤ length (digits S) = omega (arith, digits-length S, entry .pre) in
+      let k : to ≤ length (digitText S) = omega (arith, digits-length S, entry .pre) in
       let h : 2 * i ≤ 2 * j = omega (arith, c .if1 .left, entry .pre) in
-      slice-split (digits S) from (2 * i) to (omega arith) (omega arith) k
-      ∙ ap (λ (l : List ℕ). A ++ l) (slice-split (digits S) (2 * i) (2 * j) to h (omega arith) k)
+      slice-split (digitText S) from (2 * i) to (omega arith) (omega arith) k
+      ∙ ap (λ (l : List ℕ). A ++ l) (slice-split (digitText S) (2 * i) (2 * j) to h (omega arith) k)
 
 by-digit-write-requires-2 : tie.Need-by-digit-write-requires-2
 by-digit-write-requires-2 c κs =

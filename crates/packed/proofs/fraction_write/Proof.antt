@@ -8,7 +8,7 @@ use denote.Ref.{now}
 use lib.ListN.{length, take, drop, set}
 use lib.Seq.{slice}
 use Rattle.buffer.proofs.Writing.{Writing, start, stored, wrote-rest, fits, fits-rest, as-long, all, end}
-use Rattle.packed.specs.Packed.{digits, zeros, fraction}
+use Rattle.packed.specs.Packed.{digitText, zeros, fraction}
 use Rattle.packed.proofs.Nibbles.{digits-length, no-fraction, some-fraction}
 use Rattle.packed.proofs.fraction_write.Statement.{statement}
 use Rattle.packed.proofs.fraction_write.Tie as tie
@@ -43,13 +43,13 @@ module _ (c : tie.Else1) where
   t = 2 * length S - 1
 
   abbrev T : List ℕ
-  T = fraction scale (digits S)
+  T = fraction scale (digitText S)
 
   abbrev R : List ℕ
-  R = slice (t - scale) t (digits S)
+  R = slice (t - scale) t (digitText S)
 
   point : T ≡ 0x2E ∷ (zeros (scale - t) ++ R)
-  point = some-fraction scale (digits S) t (digits-length S) (c .if1 .left)
+  point = some-fraction scale (digitText S) t (digits-length S) (c .if1 .left)
 
 slice-write-out : tie.Need-slice-write-out
 slice-write-out c = omega (arith, ap length (point c), entry c .pre)
@@ -125,10 +125,10 @@ module _ (c : tie.After-above2) where
   A = a (b d)
 
   abbrev From : List ℕ
-  From = slice (c .above2 .result) (t A) (digits (S A))
+  From = slice (c .above2 .result) (t A) (digitText (S A))
 
   last : R A ≡ From ++ []
-  last = ap (λ (n : ℕ). slice n (t A) (digits (S A))) (sym (c .above2 .ensures)) ∙ sym (append-nil _)
+  last = ap (λ (n : ℕ). slice n (t A) (digitText (S A))) (sym (c .above2 .ensures)) ∙ sym (append-nil _)
 
 digits-write-requires : tie.Need-digits-write-requires
 digits-write-requires c κs =

@@ -4,7 +4,7 @@ use native.Mathlib.Omega.{arith}
 use denote.Ref.{now}
 use lib.ListN.{length}
 use lib.Seq.{length-slice}
-use Rattle.packed.specs.Packed.{digits}
+use Rattle.packed.specs.Packed.{digitText}
 use Rattle.packed.proofs.Nibbles.{digits-length, no-whole}
 use Rattle.packed.proofs.whole_len.Statement.{statement}
 use Rattle.packed.proofs.whole_len.Tie as tie
@@ -22,7 +22,7 @@ returns-2 : tie.Need-returns-2
 returns-2 c =
     let a = c .before .before .before in
     let s = now (a .args .«data») in
-    (sym (ap length (c .whole-start .ensures .left) ∙ length-slice _ _ (digits s) (omega (arith, digits-length s, a .pre))), omega arith)
+    (sym (ap length (c .whole-start .ensures .left) ∙ length-slice _ _ (digitText s) (omega (arith, digits-length s, a .pre))), omega arith)
 
 pub whole-len-spec : {M : Type 1} → statement M
 whole-len-spec = tie.close (tie.spec returns whole-start-requires sub-result returns-2)

@@ -7,8 +7,8 @@ use borrow.Author.Needs.{needs}
 use denote.Ref.{now}
 use lib.ListN.{length}
 use Rattle.buffer.proofs.Writing.{start, stored, all, end}
-use Rattle.buffer.specs.Buffer.{written}
-use Rattle.packed.specs.Packed.{digits}
+use Rattle.buffer.specs.Buffer.{overwritten}
+use Rattle.packed.specs.Packed.{digitText}
 use Rattle.packed.proofs.Nibbles.{no-whole}
 use Rattle.packed.proofs.whole_write.Statement.{statement}
 use Rattle.packed.proofs.whole_write.Tie as tie
@@ -16,7 +16,7 @@ use Rattle.packed.proofs.whole_write.Tie as tie
 slice-write-out : tie.Need-slice-write-out
 slice-write-out c =
     let a = c .before .before .before in
-    omega (arith, ap length (no-whole (digits (now (a .args .«data»))) (a .args .w) (c .if1 .taken)), a .pre)
+    omega (arith, ap length (no-whole (digitText (now (a .args .«data»))) (a .args .w) (c .if1 .taken)), a .pre)
 
 same-length : tie.Need-same-length
 same-length c = search needs
@@ -43,7 +43,7 @@ returns-2 c =
     let d = now (c .before .before .before .before .before .before .before .before .args .out) in
     let e = sym (c .before .before .before .before .whole-start .ensures .left) in
     let k = c .before .before .digits-write .ensures in
-    (k .0 ∙ ap length e, k .1 ∙ ap (λ (l : List ℕ). written l d) e)
+    (k .0 ∙ ap length e, k .1 ∙ ap (λ (l : List ℕ). overwritten l d) e)
 
 pub whole-write-spec : {M : Type 1} → statement M
 whole-write-spec =

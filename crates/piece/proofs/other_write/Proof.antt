@@ -6,7 +6,7 @@ use native.Mathlib.Omega.{arith}
 use lib.ListN.{length}
 use lib.Seq.{length-take-le}
 use denote.Ref.{now}
-use Rattle.buffer.specs.Buffer.{written}
+use Rattle.buffer.specs.Buffer.{overwritten}
 use Rattle.cell.proofs.ItemLaws.{cut-there}
 use Rattle.piece.proofs.ItemLaws.{got-within, got-text, got-place, read-decodes}
 use borrow.Author.Needs.{needs}
@@ -46,7 +46,7 @@ returns : tie.Need-returns
 returns c =
     let decodes = (read-decodes (c .before .before .before .before .before .before .before .before .before .decode-column-value .result) (c .before .before .before .before .before .before .before .before .before .before .before .before .before .args .column) (now (c .before .before .before .before .before .before .before .before .before .before .before .before .before .args .rest)) (c .before .before .before .before .before .before .before .before .before .decode-column-value .ensures) (c .before .before .before .before .before .before .before .before .before .before .column-need .result) (c .before .before .before .before .before .before .before .before .before .before .column-need .ensures .0) (c .before .before .before .before .before .item-read .result) (c .before .before .before .before .before .before .is-marked .result) (c .before .before .before .before .before .item-read .ensures) (omega (arith, c .before .before .before .before .before .before .before .before .before .before .column-need .ensures .0, c .before .before .before .before .before .before .before .before .before .before .before .before .before .pre .0)) (c .before .before .before .before .before .before .before .before .before .before .before .before .before .args .at) (λ t. c .before .before .before .before .before .before .before .before .before .before .before .before .before .pre .1 .1 .1 .1 (sym (c .before .before .before .before .before .before .is-marked .ensures) ∙ t))) in
     let text = got-text (c .before .before .before .before .before .item-read .result) (c .before .before .before .before .before .before .before .before .before .before .before .before .before .args .column) (now (c .before .before .before .before .before .before .before .before .before .before .before .before .before .args .rest)) decodes (c .before .before .before .before .before .before .before .before .before .before .column-need .result) (c .before .before .before .before .before .before .before .before .before .before .column-need .ensures .0) in
-    (got-place (c .before .before .before .before .before .item-read .result) (c .before .before .before .before .before .before .before .before .before .before .before .before .before .args .column) (now (c .before .before .before .before .before .before .before .before .before .before .before .before .before .args .rest)) decodes (c .before .before .before .before .before .before .before .before .before .before .column-need .result) (c .before .before .before .before .before .before .before .before .before .before .column-need .ensures .0) (c .before .before .before .before .before .before .before .before .before .before .before .before .before .args .at) (c .before .before .before .before .before .before .before .before .before .before .before .before .before .args .next) _ (c .before .before .before .before .before .before .before .refers .result) (c .before .before .item-write .ensures .0) (c .before .before .before .before .before .before .before .refers .ensures), (c .before .before .before .before .before .before .before .before .before .before .column-need .ensures .0, (c .before .before .item-write .ensures .1 .0 ∙ ap length text, c .before .before .item-write .ensures .1 .1 ∙ ap (λ (t : List ℕ). written t (now (c .before .before .before .before .before .before .before .before .before .before .before .before .before .args .out))) text)))
+    (got-place (c .before .before .before .before .before .item-read .result) (c .before .before .before .before .before .before .before .before .before .before .before .before .before .args .column) (now (c .before .before .before .before .before .before .before .before .before .before .before .before .before .args .rest)) decodes (c .before .before .before .before .before .before .before .before .before .before .column-need .result) (c .before .before .before .before .before .before .before .before .before .before .column-need .ensures .0) (c .before .before .before .before .before .before .before .before .before .before .before .before .before .args .at) (c .before .before .before .before .before .before .before .before .before .before .before .before .before .args .next) _ (c .before .before .before .before .before .before .before .refers .result) (c .before .before .item-write .ensures .0) (c .before .before .before .before .before .before .before .refers .ensures), (c .before .before .before .before .before .before .before .before .before .before .column-need .ensures .0, (c .before .before .item-write .ensures .1 .0 ∙ ap length text, c .before .before .item-write .ensures .1 .1 ∙ ap (λ (t : List ℕ). overwritten t (now (c .before .before .before .before .before .before .before .before .before .before .before .before .before .args .out))) text)))
 
 pub other-write-spec : {M : Type 1} → statement M
 other-write-spec =

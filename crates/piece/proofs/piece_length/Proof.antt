@@ -4,7 +4,7 @@ use mathlib.Core.Bool.{true≢false}
 use native.Mathlib.Omega.{arith}
 use denote.Ref.{now}
 use lib.ListN.{length, length-drop}
-use Rattle.piece.specs.Piece.{PlainPiece}
+use Rattle.piece.specs.Piece.{PlainCell}
 use Rattle.piece.proofs.PieceLaws.{leadOf, all-after, null-takes, absent-text, lead-within, value-takes, value-stands, value-reads}
 use borrow.Author.Needs.{needs}
 use Rattle.piece.proofs.piece_length.Statement.{statement}
@@ -35,7 +35,7 @@ add-used : tie.Need-add-used
 add-used c = let u = rw (all-after (c .before .before .before .lead .result) (now (c .before .before .before .before .before .before .before .args .rest)), c .before .before .before .lead .ensures .0) at (c .before .value-length .ensures .0) in record { fits = omega (arith, u, c .before .before .before .lead .ensures .0, value-takes (c .before .before .before .before .before .before .before .args .column) (now (c .before .before .before .before .before .before .before .args .rest)) (sym (c .before .before .before .before .before .is-null .ensures) ∙ c .before .before .before .before .if1 .left), c .before .before .before .before .before .before .before .pre .0, c .before .before .before .before .before .before .before .pre .1) }
 
 returns-2 : tie.Need-returns-2
-returns-2 c = let w = rw (all-after (c .before .before .before .lead .result) (now (c .before .before .before .before .before .before .before .args .rest)), c .before .before .before .lead .ensures .0) at (c .before .value-length .ensures) in (omega (arith, w .0, c .before .before .before .lead .ensures .0, value-takes (c .before .before .before .before .before .before .before .args .column) (now (c .before .before .before .before .before .before .before .args .rest)) (sym (c .before .before .before .before .before .is-null .ensures) ∙ c .before .before .before .before .if1 .left)), (w .1 .0 ∙ ap length (sym (value-reads (c .before .before .before .before .before .before .before .args .column) (now (c .before .before .before .before .before .before .before .args .rest)) (sym (c .before .before .before .before .before .is-null .ensures) ∙ c .before .before .before .before .if1 .left))), λ at h. subst PlainPiece (sym (value-stands (c .before .before .before .before .before .before .before .args .column) (now (c .before .before .before .before .before .before .before .args .rest)) (sym (c .before .before .before .before .before .is-null .ensures) ∙ c .before .before .before .before .if1 .left) at)) (w .1 .1 h)))
+returns-2 c = let w = rw (all-after (c .before .before .before .lead .result) (now (c .before .before .before .before .before .before .before .args .rest)), c .before .before .before .lead .ensures .0) at (c .before .value-length .ensures) in (omega (arith, w .0, c .before .before .before .lead .ensures .0, value-takes (c .before .before .before .before .before .before .before .args .column) (now (c .before .before .before .before .before .before .before .args .rest)) (sym (c .before .before .before .before .before .is-null .ensures) ∙ c .before .before .before .before .if1 .left)), (w .1 .0 ∙ ap length (sym (value-reads (c .before .before .before .before .before .before .before .args .column) (now (c .before .before .before .before .before .before .before .args .rest)) (sym (c .before .before .before .before .before .is-null .ensures) ∙ c .before .before .before .before .if1 .left))), λ at h. subst PlainCell (sym (value-stands (c .before .before .before .before .before .before .before .args .column) (now (c .before .before .before .before .before .before .before .args .rest)) (sym (c .before .before .before .before .before .is-null .ensures) ∙ c .before .before .before .before .if1 .left) at)) (w .1 .1 h)))
 
 pub piece-length-spec : {M : Type 1} → statement M
 piece-length-spec =

@@ -5,11 +5,11 @@ use mathlib.Core.List.{List}
 use native.Mathlib.Omega.{arith}
 use lib.ListN.{length, length-drop}
 use denote.Ref.{now}
-use Rattle.buffer.specs.Buffer.{written}
-use Rattle.rules.specs.Walk.{Piece}
-use Rattle.rules.specs.Row.{pieceValue}
+use Rattle.buffer.specs.Buffer.{overwritten}
+use Rattle.rules.specs.Walk.{Cell}
+use Rattle.rules.specs.Row.{cellValue}
 use Rattle.rules.specs.Conversions.{ported}
-use Rattle.piece.specs.Piece.{PlainPiece}
+use Rattle.piece.specs.Piece.{PlainCell}
 use Rattle.piece.proofs.PieceLaws.{leadOf, all-after, null-takes, null-absent, absent-text, lead-within, value-takes, value-stands, value-reads}
 use borrow.Author.Needs.{needs}
 use Rattle.piece.proofs.piece_write.Statement.{statement}
@@ -22,8 +22,8 @@ null-piece-requires : tie.Need-null-piece-requires
 null-piece-requires c κs = search needs
 
 returns : tie.Need-returns
-unfolding pieceValue
-returns c = (c .null-piece .ensures .0 ∙ ap (λ (p : Piece). pieceValue ported p (c .before .before .before .before .before .args .next)) (sym (null-absent (c .before .before .before .before .before .args .column) (now (c .before .before .before .before .before .args .rest)) (sym (c .before .before .is-null .ensures) ∙ c .before .if1 .taken) (omega (arith, null-takes (c .before .before .before .before .before .args .column) (now (c .before .before .before .before .before .args .rest)) (sym (c .before .before .is-null .ensures) ∙ c .before .if1 .taken), c .before .before .before .before .before .pre .0)) (c .before .before .before .before .before .args .at))), (c .null-piece .ensures .1 .0 ∙ sym (null-takes (c .before .before .before .before .before .args .column) (now (c .before .before .before .before .before .args .rest)) (sym (c .before .before .is-null .ensures) ∙ c .before .if1 .taken)), (c .null-piece .ensures .1 .1 ∙ ap length (sym (absent-text (c .before .before .before .before .before .args .column) (now (c .before .before .before .before .before .args .rest)) (sym (c .before .before .is-null .ensures) ∙ c .before .if1 .taken) (omega (arith, null-takes (c .before .before .before .before .before .args .column) (now (c .before .before .before .before .before .args .rest)) (sym (c .before .before .is-null .ensures) ∙ c .before .if1 .taken), c .before .before .before .before .before .pre .0)))), ap (λ (t : List ℕ). written t (now (c .before .before .before .before .before .args .out))) (sym (absent-text (c .before .before .before .before .before .args .column) (now (c .before .before .before .before .before .args .rest)) (sym (c .before .before .is-null .ensures) ∙ c .before .if1 .taken) (omega (arith, null-takes (c .before .before .before .before .before .args .column) (now (c .before .before .before .before .before .args .rest)) (sym (c .before .before .is-null .ensures) ∙ c .before .if1 .taken), c .before .before .before .before .before .pre .0)))))))
+unfolding cellValue
+returns c = (c .null-piece .ensures .0 ∙ ap (λ (p : Cell). cellValue ported p (c .before .before .before .before .before .args .next)) (sym (null-absent (c .before .before .before .before .before .args .column) (now (c .before .before .before .before .before .args .rest)) (sym (c .before .before .is-null .ensures) ∙ c .before .if1 .taken) (omega (arith, null-takes (c .before .before .before .before .before .args .column) (now (c .before .before .before .before .before .args .rest)) (sym (c .before .before .is-null .ensures) ∙ c .before .if1 .taken), c .before .before .before .before .before .pre .0)) (c .before .before .before .before .before .args .at))), (c .null-piece .ensures .1 .0 ∙ sym (null-takes (c .before .before .before .before .before .args .column) (now (c .before .before .before .before .before .args .rest)) (sym (c .before .before .is-null .ensures) ∙ c .before .if1 .taken)), (c .null-piece .ensures .1 .1 ∙ ap length (sym (absent-text (c .before .before .before .before .before .args .column) (now (c .before .before .before .before .before .args .rest)) (sym (c .before .before .is-null .ensures) ∙ c .before .if1 .taken) (omega (arith, null-takes (c .before .before .before .before .before .args .column) (now (c .before .before .before .before .before .args .rest)) (sym (c .before .before .is-null .ensures) ∙ c .before .if1 .taken), c .before .before .before .before .before .pre .0)))), ap (λ (t : List ℕ). overwritten t (now (c .before .before .before .before .before .args .out))) (sym (absent-text (c .before .before .before .before .before .args .column) (now (c .before .before .before .before .before .args .rest)) (sym (c .before .before .is-null .ensures) ∙ c .before .if1 .taken) (omega (arith, null-takes (c .before .before .before .before .before .args .column) (now (c .before .before .before .before .before .args .rest)) (sym (c .before .before .is-null .ensures) ∙ c .before .if1 .taken), c .before .before .before .before .before .pre .0)))))))
 
 lead-requires : tie.Need-lead-requires
 lead-requires c κs = search needs
@@ -41,7 +41,7 @@ add-value-write : tie.Need-add-value-write
 add-value-write c = search needs
 
 value-write-requires : tie.Need-value-write-requires
-value-write-requires c κs = rw (all-after (c .before .before .lead .result) (now (c .before .before .before .before .before .before .before .args .rest)), c .before .before .lead .ensures .0) (omega (arith, value-takes (c .before .before .before .before .before .before .before .args .column) (now (c .before .before .before .before .before .before .before .args .rest)) (sym (c .before .before .before .before .is-null .ensures) ∙ c .before .before .before .if1 .left), length-drop (leadOf (c .before .before .before .before .before .before .before .args .column)) (now (c .before .before .before .before .before .before .before .args .rest)), c .before .before .before .before .before .before .before .pre .0), (omega (arith, length-drop (leadOf (c .before .before .before .before .before .before .before .args .column)) (now (c .before .before .before .before .before .before .before .args .rest)), lead-within (c .before .before .before .before .before .before .before .args .column) (now (c .before .before .before .before .before .before .before .args .rest)) (sym (c .before .before .before .before .is-null .ensures) ∙ c .before .before .before .if1 .left), c .before .before .before .before .before .before .before .pre .1 .0), (subst (λ (t : List ℕ). length t ≤ length (now (c .before .before .before .before .before .before .before .args .out))) (value-reads (c .before .before .before .before .before .before .before .args .column) (now (c .before .before .before .before .before .before .before .args .rest)) (sym (c .before .before .before .before .is-null .ensures) ∙ c .before .before .before .if1 .left)) (c .before .before .before .before .before .before .before .pre .1 .1 .0), (c .before .before .before .before .before .before .before .pre .1 .1 .1 .0, λ t. subst PlainPiece (value-stands (c .before .before .before .before .before .before .before .args .column) (now (c .before .before .before .before .before .before .before .args .rest)) (sym (c .before .before .before .before .is-null .ensures) ∙ c .before .before .before .if1 .left) (c .before .before .before .before .before .before .before .args .at)) (c .before .before .before .before .before .before .before .pre .1 .1 .1 .1 t)))))
+value-write-requires c κs = rw (all-after (c .before .before .lead .result) (now (c .before .before .before .before .before .before .before .args .rest)), c .before .before .lead .ensures .0) (omega (arith, value-takes (c .before .before .before .before .before .before .before .args .column) (now (c .before .before .before .before .before .before .before .args .rest)) (sym (c .before .before .before .before .is-null .ensures) ∙ c .before .before .before .if1 .left), length-drop (leadOf (c .before .before .before .before .before .before .before .args .column)) (now (c .before .before .before .before .before .before .before .args .rest)), c .before .before .before .before .before .before .before .pre .0), (omega (arith, length-drop (leadOf (c .before .before .before .before .before .before .before .args .column)) (now (c .before .before .before .before .before .before .before .args .rest)), lead-within (c .before .before .before .before .before .before .before .args .column) (now (c .before .before .before .before .before .before .before .args .rest)) (sym (c .before .before .before .before .is-null .ensures) ∙ c .before .before .before .if1 .left), c .before .before .before .before .before .before .before .pre .1 .0), (subst (λ (t : List ℕ). length t ≤ length (now (c .before .before .before .before .before .before .before .args .out))) (value-reads (c .before .before .before .before .before .before .before .args .column) (now (c .before .before .before .before .before .before .before .args .rest)) (sym (c .before .before .before .before .is-null .ensures) ∙ c .before .before .before .if1 .left)) (c .before .before .before .before .before .before .before .pre .1 .1 .0), (c .before .before .before .before .before .before .before .pre .1 .1 .1 .0, λ t. subst PlainCell (value-stands (c .before .before .before .before .before .before .before .args .column) (now (c .before .before .before .before .before .before .before .args .rest)) (sym (c .before .before .before .before .is-null .ensures) ∙ c .before .before .before .if1 .left) (c .before .before .before .before .before .before .before .args .at)) (c .before .before .before .before .before .before .before .pre .1 .1 .1 .1 t)))))
 
 add-used : tie.Need-add-used
 add-used c = let u = rw (all-after (c .before .before .before .before .before .before .before .lead .result) (now (c .before .before .before .before .before .before .before .before .before .before .before .before .args .rest)), c .before .before .before .before .before .before .before .lead .ensures .0) at (c .before .before .before .before .value-write .ensures .1 .0) in record { fits = omega (arith, u, c .before .before .before .before .before .before .before .lead .ensures .0, value-takes (c .before .before .before .before .before .before .before .before .before .before .before .before .args .column) (now (c .before .before .before .before .before .before .before .before .before .before .before .before .args .rest)) (sym (c .before .before .before .before .before .before .before .before .before .is-null .ensures) ∙ c .before .before .before .before .before .before .before .before .if1 .left), c .before .before .before .before .before .before .before .before .before .before .before .before .pre .0, c .before .before .before .before .before .before .before .before .before .before .before .before .pre .1 .0) }
@@ -53,7 +53,7 @@ returns-2 : tie.Need-returns-2
 returns-2 c =
     let w = rw (all-after (c .before .before .before .before .before .before .before .lead .result) (now (c .before .before .before .before .before .before .before .before .before .before .before .before .args .rest)), c .before .before .before .before .before .before .before .lead .ensures .0) at (c .before .before .before .before .value-write .ensures) in
     let text = sym (value-reads (c .before .before .before .before .before .before .before .before .before .before .before .before .args .column) (now (c .before .before .before .before .before .before .before .before .before .before .before .before .args .rest)) (sym (c .before .before .before .before .before .before .before .before .before .is-null .ensures) ∙ c .before .before .before .before .before .before .before .before .if1 .left)) in
-    (w .0 ∙ ap (λ (p : Piece). pieceValue ported p (c .before .before .before .before .before .before .before .before .before .before .before .before .args .next)) (sym (value-stands (c .before .before .before .before .before .before .before .before .before .before .before .before .args .column) (now (c .before .before .before .before .before .before .before .before .before .before .before .before .args .rest)) (sym (c .before .before .before .before .before .before .before .before .before .is-null .ensures) ∙ c .before .before .before .before .before .before .before .before .if1 .left) (c .before .before .before .before .before .before .before .before .before .before .before .before .args .at))), (omega (arith, w .1 .0, c .before .before .before .before .before .before .before .lead .ensures .0, value-takes (c .before .before .before .before .before .before .before .before .before .before .before .before .args .column) (now (c .before .before .before .before .before .before .before .before .before .before .before .before .args .rest)) (sym (c .before .before .before .before .before .before .before .before .before .is-null .ensures) ∙ c .before .before .before .before .before .before .before .before .if1 .left)), (w .1 .1 .0 ∙ ap length text, w .1 .1 .1 ∙ ap (λ (t : List ℕ). written t (now (c .before .before .before .before .before .before .before .before .before .before .before .before .args .out))) text)))
+    (w .0 ∙ ap (λ (p : Cell). cellValue ported p (c .before .before .before .before .before .before .before .before .before .before .before .before .args .next)) (sym (value-stands (c .before .before .before .before .before .before .before .before .before .before .before .before .args .column) (now (c .before .before .before .before .before .before .before .before .before .before .before .before .args .rest)) (sym (c .before .before .before .before .before .before .before .before .before .is-null .ensures) ∙ c .before .before .before .before .before .before .before .before .if1 .left) (c .before .before .before .before .before .before .before .before .before .before .before .before .args .at))), (omega (arith, w .1 .0, c .before .before .before .before .before .before .before .lead .ensures .0, value-takes (c .before .before .before .before .before .before .before .before .before .before .before .before .args .column) (now (c .before .before .before .before .before .before .before .before .before .before .before .before .args .rest)) (sym (c .before .before .before .before .before .before .before .before .before .is-null .ensures) ∙ c .before .before .before .before .before .before .before .before .if1 .left)), (w .1 .1 .0 ∙ ap length text, w .1 .1 .1 ∙ ap (λ (t : List ℕ). overwritten t (now (c .before .before .before .before .before .before .before .before .before .before .before .before .args .out))) text)))
 
 pub piece-write-spec : {M : Type 1} → statement M
 piece-write-spec =

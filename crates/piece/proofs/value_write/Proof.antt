@@ -5,7 +5,7 @@ use mathlib.Core.List.{List}
 use native.Mathlib.Omega.{arith}
 use lib.ListN.{length}
 use denote.Ref.{now}
-use Rattle.buffer.specs.Buffer.{written}
+use Rattle.buffer.specs.Buffer.{overwritten}
 use Rattle.numbers.specs.Number.{smallIntIn, integerIn, bigIntIn, realIn, doubleIn}
 use Rattle.piece.proofs.NumberLaws.{number-need, number-text, number-place}
 use borrow.Author.Needs.{needs}
@@ -63,27 +63,27 @@ other-write-requires c κs = search needs
 returns : tie.Need-returns
 returns c =
     let text = number-text (c .before .before .before .before .before .before .args .column) (c .before .before .enum-told .given .1) 2 refl (now (c .before .before .before .before .before .before .args .rest)) (smallIntIn (c .before .before .before .before .before .before .args .column .«byte_order»)) (λ l. refl) in
-    (c .number-piece .ensures .0 ∙ number-place (c .before .before .before .before .before .before .args .column) (c .before .before .enum-told .given .1) 2 refl (now (c .before .before .before .before .before .before .args .rest)) (smallIntIn (c .before .before .before .before .before .before .args .column .«byte_order»)) (λ l. refl) (λ l. refl) (c .before .before .before .before .before .before .args .at) (c .before .before .before .before .before .before .args .next) _ (c .before .small-int .ensures), (c .number-piece .ensures .1 .0 ∙ number-need (c .before .before .before .before .before .before .args .column) (c .before .before .enum-told .given .1) 2 refl (now (c .before .before .before .before .before .before .args .rest)), (c .number-piece .ensures .1 .1 ∙ sym (ap length text), ap (λ (t : List ℕ). written t (now (c .before .before .before .before .before .before .args .out))) (sym text))))
+    (c .number-piece .ensures .0 ∙ number-place (c .before .before .before .before .before .before .args .column) (c .before .before .enum-told .given .1) 2 refl (now (c .before .before .before .before .before .before .args .rest)) (smallIntIn (c .before .before .before .before .before .before .args .column .«byte_order»)) (λ l. refl) (λ l. refl) (c .before .before .before .before .before .before .args .at) (c .before .before .before .before .before .before .args .next) _ (c .before .small-int .ensures), (c .number-piece .ensures .1 .0 ∙ number-need (c .before .before .before .before .before .before .args .column) (c .before .before .enum-told .given .1) 2 refl (now (c .before .before .before .before .before .before .args .rest)), (c .number-piece .ensures .1 .1 ∙ sym (ap length text), ap (λ (t : List ℕ). overwritten t (now (c .before .before .before .before .before .before .args .out))) (sym text))))
 
 returns-2 : tie.Need-returns-2
 returns-2 c =
     let text = number-text (c .before .before .before .before .before .before .args .column) (c .before .before .enum-told2 .given .1) 4 refl (now (c .before .before .before .before .before .before .args .rest)) (integerIn (c .before .before .before .before .before .before .args .column .«byte_order»)) (λ l. refl) in
-    (c .number-piece2 .ensures .0 ∙ number-place (c .before .before .before .before .before .before .args .column) (c .before .before .enum-told2 .given .1) 4 refl (now (c .before .before .before .before .before .before .args .rest)) (integerIn (c .before .before .before .before .before .before .args .column .«byte_order»)) (λ l. refl) (λ l. refl) (c .before .before .before .before .before .before .args .at) (c .before .before .before .before .before .before .args .next) _ (c .before .integer .ensures), (c .number-piece2 .ensures .1 .0 ∙ number-need (c .before .before .before .before .before .before .args .column) (c .before .before .enum-told2 .given .1) 4 refl (now (c .before .before .before .before .before .before .args .rest)), (c .number-piece2 .ensures .1 .1 ∙ sym (ap length text), ap (λ (t : List ℕ). written t (now (c .before .before .before .before .before .before .args .out))) (sym text))))
+    (c .number-piece2 .ensures .0 ∙ number-place (c .before .before .before .before .before .before .args .column) (c .before .before .enum-told2 .given .1) 4 refl (now (c .before .before .before .before .before .before .args .rest)) (integerIn (c .before .before .before .before .before .before .args .column .«byte_order»)) (λ l. refl) (λ l. refl) (c .before .before .before .before .before .before .args .at) (c .before .before .before .before .before .before .args .next) _ (c .before .integer .ensures), (c .number-piece2 .ensures .1 .0 ∙ number-need (c .before .before .before .before .before .before .args .column) (c .before .before .enum-told2 .given .1) 4 refl (now (c .before .before .before .before .before .before .args .rest)), (c .number-piece2 .ensures .1 .1 ∙ sym (ap length text), ap (λ (t : List ℕ). overwritten t (now (c .before .before .before .before .before .before .args .out))) (sym text))))
 
 returns-3 : tie.Need-returns-3
 returns-3 c =
     let text = number-text (c .before .before .before .before .before .before .args .column) (c .before .before .enum-told3 .given .1) 8 refl (now (c .before .before .before .before .before .before .args .rest)) (bigIntIn (c .before .before .before .before .before .before .args .column .«byte_order»)) (λ l. refl) in
-    (c .number-piece3 .ensures .0 ∙ number-place (c .before .before .before .before .before .before .args .column) (c .before .before .enum-told3 .given .1) 8 refl (now (c .before .before .before .before .before .before .args .rest)) (bigIntIn (c .before .before .before .before .before .before .args .column .«byte_order»)) (λ l. refl) (λ l. refl) (c .before .before .before .before .before .before .args .at) (c .before .before .before .before .before .before .args .next) _ (c .before .big-int .ensures), (c .number-piece3 .ensures .1 .0 ∙ number-need (c .before .before .before .before .before .before .args .column) (c .before .before .enum-told3 .given .1) 8 refl (now (c .before .before .before .before .before .before .args .rest)), (c .number-piece3 .ensures .1 .1 ∙ sym (ap length text), ap (λ (t : List ℕ). written t (now (c .before .before .before .before .before .before .args .out))) (sym text))))
+    (c .number-piece3 .ensures .0 ∙ number-place (c .before .before .before .before .before .before .args .column) (c .before .before .enum-told3 .given .1) 8 refl (now (c .before .before .before .before .before .before .args .rest)) (bigIntIn (c .before .before .before .before .before .before .args .column .«byte_order»)) (λ l. refl) (λ l. refl) (c .before .before .before .before .before .before .args .at) (c .before .before .before .before .before .before .args .next) _ (c .before .big-int .ensures), (c .number-piece3 .ensures .1 .0 ∙ number-need (c .before .before .before .before .before .before .args .column) (c .before .before .enum-told3 .given .1) 8 refl (now (c .before .before .before .before .before .before .args .rest)), (c .number-piece3 .ensures .1 .1 ∙ sym (ap length text), ap (λ (t : List ℕ). overwritten t (now (c .before .before .before .before .before .before .args .out))) (sym text))))
 
 returns-4 : tie.Need-returns-4
 returns-4 c =
     let text = number-text (c .before .before .before .before .before .before .args .column) (c .before .before .enum-told4 .given .1) 4 refl (now (c .before .before .before .before .before .before .args .rest)) (realIn (c .before .before .before .before .before .before .args .column .«byte_order»)) (λ l. refl) in
-    (c .number-piece4 .ensures .0 ∙ number-place (c .before .before .before .before .before .before .args .column) (c .before .before .enum-told4 .given .1) 4 refl (now (c .before .before .before .before .before .before .args .rest)) (realIn (c .before .before .before .before .before .before .args .column .«byte_order»)) (λ l. refl) (λ l. refl) (c .before .before .before .before .before .before .args .at) (c .before .before .before .before .before .before .args .next) _ (c .before .real .ensures), (c .number-piece4 .ensures .1 .0 ∙ number-need (c .before .before .before .before .before .before .args .column) (c .before .before .enum-told4 .given .1) 4 refl (now (c .before .before .before .before .before .before .args .rest)), (c .number-piece4 .ensures .1 .1 ∙ sym (ap length text), ap (λ (t : List ℕ). written t (now (c .before .before .before .before .before .before .args .out))) (sym text))))
+    (c .number-piece4 .ensures .0 ∙ number-place (c .before .before .before .before .before .before .args .column) (c .before .before .enum-told4 .given .1) 4 refl (now (c .before .before .before .before .before .before .args .rest)) (realIn (c .before .before .before .before .before .before .args .column .«byte_order»)) (λ l. refl) (λ l. refl) (c .before .before .before .before .before .before .args .at) (c .before .before .before .before .before .before .args .next) _ (c .before .real .ensures), (c .number-piece4 .ensures .1 .0 ∙ number-need (c .before .before .before .before .before .before .args .column) (c .before .before .enum-told4 .given .1) 4 refl (now (c .before .before .before .before .before .before .args .rest)), (c .number-piece4 .ensures .1 .1 ∙ sym (ap length text), ap (λ (t : List ℕ). overwritten t (now (c .before .before .before .before .before .before .args .out))) (sym text))))
 
 returns-5 : tie.Need-returns-5
 returns-5 c =
     let text = number-text (c .before .before .before .before .before .before .args .column) (c .before .before .enum-told5 .given .1) 8 refl (now (c .before .before .before .before .before .before .args .rest)) (doubleIn (c .before .before .before .before .before .before .args .column .«byte_order»)) (λ l. refl) in
-    (c .number-piece5 .ensures .0 ∙ number-place (c .before .before .before .before .before .before .args .column) (c .before .before .enum-told5 .given .1) 8 refl (now (c .before .before .before .before .before .before .args .rest)) (doubleIn (c .before .before .before .before .before .before .args .column .«byte_order»)) (λ l. refl) (λ l. refl) (c .before .before .before .before .before .before .args .at) (c .before .before .before .before .before .before .args .next) _ (c .before .double .ensures), (c .number-piece5 .ensures .1 .0 ∙ number-need (c .before .before .before .before .before .before .args .column) (c .before .before .enum-told5 .given .1) 8 refl (now (c .before .before .before .before .before .before .args .rest)), (c .number-piece5 .ensures .1 .1 ∙ sym (ap length text), ap (λ (t : List ℕ). written t (now (c .before .before .before .before .before .before .args .out))) (sym text))))
+    (c .number-piece5 .ensures .0 ∙ number-place (c .before .before .before .before .before .before .args .column) (c .before .before .enum-told5 .given .1) 8 refl (now (c .before .before .before .before .before .before .args .rest)) (doubleIn (c .before .before .before .before .before .before .args .column .«byte_order»)) (λ l. refl) (λ l. refl) (c .before .before .before .before .before .before .args .at) (c .before .before .before .before .before .before .args .next) _ (c .before .double .ensures), (c .number-piece5 .ensures .1 .0 ∙ number-need (c .before .before .before .before .before .before .args .column) (c .before .before .enum-told5 .given .1) 8 refl (now (c .before .before .before .before .before .before .args .rest)), (c .number-piece5 .ensures .1 .1 ∙ sym (ap length text), ap (λ (t : List ℕ). overwritten t (now (c .before .before .before .before .before .before .args .out))) (sym text))))
 
 same-length : tie.Need-same-length
 same-length c = search needs

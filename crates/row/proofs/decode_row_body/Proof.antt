@@ -60,7 +60,7 @@ module _ (c : tie.After-loop Inv-loop μ-loop Inv-loop2 μ-loop2) where
   whole : Whole (walkBody (covered (c .before .before .before .before .args .t3)) (c .before .before .before .before .args .start) (now (c .before .before .before .before .args .«data»))) (c .before .loop .end)
   whole =
       record {
-        pieces = c .before .loop .inv .1 .passed;
+        cells = c .before .loop .inv .1 .passed;
         is = walking-end _ _ _ (c .before .loop .inv .1) (omega (arith, all-covered (c .before .before .before .before)));
       }
 

@@ -13,7 +13,7 @@ use Rattle.rules.specs.Row.{covered, rowTexts}
 use Rattle.rules.specs.Conversions.{ported}
 use Rattle.rules.proofs.Walks.{piecesOf}
 use Rattle.rules.proofs.Progress.{Measuring, measuring-start, measuring-there, measuring-bound, measuring-step, measuring-end, end-within, covered-at, rest-is}
-use Rattle.piece.proofs.Bound.{Bytes}
+use Rattle.piece.proofs.Bound.{AreBytes}
 use Rattle.piece.proofs.MarkLaws.{plain-more}
 use Rattle.piece.specs.Marks.{PlainMarks}
 use Rattle.piece.specs.Texts.{textsOf}
@@ -47,7 +47,7 @@ module _ (c : tie.Start Inv-loop μ-loop) where
   all-texts : length (textsOf (walkBody (covered (c .args .t4)) (c .args .start) (now (c .args .«data»)))) ≡ length (rowTexts ported (piecesOf (walkBody (covered (c .args .t4)) (c .args .start) (now (c .args .«data»)))))
   all-texts = ap length (texts-are (walkBody (covered (c .args .t4)) (c .args .start) (now (c .args .«data»))))
 
-  bound : Bytes (now (c .args .«data»)) → length (rowTexts ported (piecesOf (walkBody (covered (c .args .t4)) (c .args .start) (now (c .args .«data»))))) ≤ 3 * (c .args .end - c .args .start) + 258 * c .args .t4 .count
+  bound : AreBytes (now (c .args .«data»)) → length (rowTexts ported (piecesOf (walkBody (covered (c .args .t4)) (c .args .start) (now (c .args .«data»))))) ≤ 3 * (c .args .end - c .args .start) + 258 * c .args .t4 .count
   bound bytes = covered-bound (c .args .t4) enough (owned-scaled (c .args .t4 .columns) _ (c .good .1 .1 .1 .0 .1 .1 .0 .1 .1)) (c .args .start) (c .args .end) (now (c .args .«data»)) bytes (c .pre .1 .0) (c .pre .1 .1 .1 .0)
 
 -- a turn: the column, and what is lent of the input

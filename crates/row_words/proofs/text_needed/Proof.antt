@@ -11,7 +11,7 @@ use Rattle.rules.specs.Row.{rowTexts}
 use Rattle.rules.specs.Conversions.{ported}
 use Rattle.rules.proofs.Walks.{piecesOf}
 use Rattle.rules.proofs.Progress.{Measuring, measuring-start, measuring-there, measuring-bound, measuring-step, measuring-end, end-within, rest-is}
-use Rattle.piece.proofs.Bound.{Bytes}
+use Rattle.piece.proofs.Bound.{AreBytes}
 use Rattle.piece.proofs.MarkLaws.{plain-more}
 use Rattle.row_words.specs.Passes.{columnsNamed}
 use Rattle.piece.specs.Marks.{PlainMarks}
@@ -41,7 +41,7 @@ module _ (c : tie.Start Inv-loop μ-loop) where
   ends : (c .args .start ≤ c .args .end) × (c .args .end ≤ length (now (c .args .«data»)))
   ends = end-within (columnsNamed (now (c .args .columns))) (c .args .start) (now (c .args .«data»)) (piecesOf walked) (c .args .end) (c .pre .1 .0) whole
 
-  bound : Bytes (now (c .args .«data»)) → length (rowTexts ported (piecesOf walked)) ≤ 3 * (c .args .end - c .args .start) + 258 * (length (now (c .args .columns)) / 2)
+  bound : AreBytes (now (c .args .«data»)) → length (rowTexts ported (piecesOf walked)) ≤ 3 * (c .args .end - c .args .start) + 258 * (length (now (c .args .columns)) / 2)
   bound h = rw (named-length (now (c .args .columns))) at (named-bound (now (c .args .columns)) (c .args .start) (now (c .args .«data»)) (piecesOf walked) (c .args .end) h (ends .0) whole)
 
   texts : length (rowTexts ported (piecesOf walked)) ≡ length (textsOf walked)

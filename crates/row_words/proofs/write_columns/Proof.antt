@@ -7,7 +7,7 @@ use denote.Ref.{now}
 use lib.ListN.{length, length-drop}
 use Rattle.buffer.proofs.Writing as writing
 use Rattle.rules.specs.Walk.{Walk, done, walkBody}
-use Rattle.rules.specs.Row.{acceptance, rowTexts, bodyDecision, textAfter}
+use Rattle.rules.specs.Row.{accept, rowTexts, bodyDecision, textAfter}
 use Rattle.rules.specs.Conversions.{ported}
 use Rattle.rules.proofs.Walks.{piecesOf}
 use Rattle.rules.proofs.Progress.{placing-there, placing-room, placing-within, rest-is}
@@ -40,7 +40,7 @@ module _ (c : tie.Start Inv-loop μ-loop) where
   texts : textsOf walked ≡ rowTexts ported (piecesOf walked)
   texts = texts-are walked
 
-  decided : bodyDecision ported (columnsNamed (now (c .args .columns))) (c .args .start) (now (c .args .«data»)) (now (c .args .text)) ≡ acceptance (piecesOf walked) (c .args .end)
+  decided : bodyDecision ported (columnsNamed (now (c .args .columns))) (c .args .start) (now (c .args .«data»)) (now (c .args .text)) ≡ accept (piecesOf walked) (c .args .end)
   decided = decided-accepted (columnsNamed (now (c .args .columns))) (c .args .start) (now (c .args .«data»)) (now (c .args .text)) (c .args .end) (c .pre .1 .1 .0) (c .pre .1 .1 .1 .1 .0)
 
 loop-holds : tie.Need-loop-holds Inv-loop μ-loop

@@ -7,7 +7,7 @@ use lib.IntN.{ℤ}
 use lib.ListN.{List·getD-eq-default}
 use mir.Syntax.{w16, w32, w64}
 use Rattle.numbers.proofs.Laws.{signed-is}
-use Rattle.types.specs.declared.Db2Value.the-variants as value
+use Rattle.types.specs.declared.Db2Value.{Db2Value}
 use Rattle.words.specs.ValueReading.{valuesWith, variantNamed}
 use Rattle.words.proofs.TypeWords.{none-below}
 use Rattle.words.proofs.variant_named.Statement.{statement}
@@ -46,15 +46,15 @@ returns c = rw (c .match .keys1)
 
 returns-2 : tie.Need-returns-2
 unfolding variantNamed
-returns-2 c = rw (c .before .match .keys2) (ap (λ (y : ℤ). value.SmallInt y) (signed-is w16 (c .before .before .args .number % 2 ^ 16) (record { fits = omega arith }) (c .signed16 .result) (c .signed16 .ensures) _ refl))
+returns-2 c = rw (c .before .match .keys2) (ap (λ (y : ℤ). Db2Value.SmallInt y) (signed-is w16 (c .before .before .args .number % 2 ^ 16) (record { fits = omega arith }) (c .signed16 .result) (c .signed16 .ensures) _ refl))
 
 returns-3 : tie.Need-returns-3
 unfolding variantNamed
-returns-3 c = rw (c .before .match .keys3) (ap (λ (y : ℤ). value.Integer y) (signed-is w32 (c .before .before .args .number % 2 ^ 32) (record { fits = omega arith }) (c .signed32 .result) (c .signed32 .ensures) _ refl))
+returns-3 c = rw (c .before .match .keys3) (ap (λ (y : ℤ). Db2Value.Integer y) (signed-is w32 (c .before .before .args .number % 2 ^ 32) (record { fits = omega arith }) (c .signed32 .result) (c .signed32 .ensures) _ refl))
 
 returns-4 : tie.Need-returns-4
 unfolding variantNamed
-returns-4 c = rw (c .before .match .keys4) (ap (λ (y : ℤ). value.BigInt y) (signed-is w64 (c .before .before .args .number) (c .before .before .fits .number) (c .signed64 .result) (c .signed64 .ensures) _ refl))
+returns-4 c = rw (c .before .match .keys4) (ap (λ (y : ℤ). Db2Value.BigInt y) (signed-is w64 (c .before .before .args .number) (c .before .before .fits .number) (c .signed64 .result) (c .signed64 .ensures) _ refl))
 
 returns-5 : tie.Need-returns-5
 unfolding variantNamed
@@ -122,7 +122,7 @@ returns-20 c = rw (c .match .keys20)
 
 returns-21 : tie.Need-returns-21
 unfolding variantNamed
-returns-21 c = sym (List·getD-eq-default (valuesWith (c .before .args .number) (record { start = c .before .args .number; len = c .before .args .len })) value.Null (none-below (c .before .args .sort) 20 (c .match .rest)))
+returns-21 c = sym (List·getD-eq-default (valuesWith (c .before .args .number) (record { start = c .before .args .number; len = c .before .args .len })) Db2Value.Null (none-below (c .before .args .sort) 20 (c .match .rest)))
 
 pub variant-named-spec : {M : Type 1} → statement M
 variant-named-spec =

@@ -6,7 +6,7 @@ use native.Mathlib.Omega.{arith}
 use borrow.Author.Needs.{needs}
 use denote.Ref.{now}
 use lib.ListN.{length, take, drop, length-append}
-use Rattle.buffer.specs.Buffer.{written}
+use Rattle.buffer.specs.Buffer.{overwritten}
 use Rattle.buffer.proofs.Writing.{Writing, wrote-first, wrote-rest, fits, fits-rest, as-long, all, end}
 use Rattle.conversion.specs.Hex.{hexText}
 use Rattle.conversion.proofs.hex.marked_hex_write.Statement.{statement}

@@ -7,7 +7,7 @@ use lib.ListN.{length}
 use denote.Ref.{now}
 use Rattle.types.proofs.Keys.{one-of}
 use Rattle.cell.proofs.CellItem.{enum}
-use Rattle.piece.specs.Piece.{itemText, textStart}
+use Rattle.piece.specs.Piece.{textHeld, textStart}
 use Rattle.piece.proofs.ItemLaws.{text-within, text-readable, text-shorter, text-cut, plain-cut}
 use borrow.Author.Needs.{needs}
 use Rattle.piece.proofs.items.item_len.Statement.{statement}
@@ -46,7 +46,7 @@ returns-2 : tie.Need-returns-2
 returns-2 c = (c .before .before .before .reading-len .ensures .0 ∙ ap length (text-cut (c .before .before .before .before .before .before .before .before .before .args .item) (now (c .before .before .before .before .before .before .before .before .before .args .bytes)) (c .before .before .before .before .before .before .item .given .0 .0) (c .before .before .before .before .before .before .item .given .0 .1 .0) (c .before .before .before .before .before .before .item .given .0 .1 .1 .0) (c .before .before .before .before .before .before .item .given .0 .1 .1 .1 .0) (c .before .before .before .before .before .before .item .given .1) (c .before .before .before .before .before .before .before .before .before .pre .1)), λ h. absurd (true≢false (sym h)))
 
 returns-3 : tie.Need-returns-3
-returns-3 c = (one-of enum (λ x. 0 ≡ length (itemText x (now (c .before .before .args .bytes)))) 0 (1 ∷ 2 ∷ 3 ∷ []) (c .before .before .args .item) (c .match .keys2) ((λ v. refl), ((λ v. refl), ((λ v. refl), (λ v. refl)))), λ h. absurd (true≢false (sym h)))
+returns-3 c = (one-of enum (λ x. 0 ≡ length (textHeld x (now (c .before .before .args .bytes)))) 0 (1 ∷ 2 ∷ 3 ∷ []) (c .before .before .args .item) (c .match .keys2) ((λ v. refl), ((λ v. refl), ((λ v. refl), (λ v. refl)))), λ h. absurd (true≢false (sym h)))
 
 pub item-len-spec : {M : Type 1} → statement M
 item-len-spec =

@@ -5,9 +5,9 @@ use mathlib.Core.List.{List}
 use native.Mathlib.Omega.{arith}
 use lib.ListN.{length}
 use denote.Ref.{now}
-use Rattle.buffer.specs.Buffer.{written}
+use Rattle.buffer.specs.Buffer.{overwritten}
 use Rattle.cell.specs.declared.CellItem.{CellItem}
-use Rattle.piece.specs.Piece.{Within}
+use Rattle.piece.specs.Piece.{LiesWithin}
 use Rattle.piece.proofs.ItemLaws.{text-within, text-readable, text-cut, text-value}
 use borrow.Author.Needs.{needs}
 use Rattle.piece.proofs.items.item_write.Statement.{statement}
@@ -26,7 +26,7 @@ enum-known-item-3 : tie.Need-enum-known-item-3
 enum-known-item-3 c = search needs
 
 add-part-value : tie.Need-add-part-value
-add-part-value c = let w = subst (λ (x : CellItem). Within x (now (c .before .before .before .before .before .args .bytes))) (c .before .item3 .given .1) (c .before .before .before .before .before .pre .1 .0) in record { fits = omega (arith, w, c .before .before .before .before .before .pre .0) }
+add-part-value c = let w = subst (λ (x : CellItem). LiesWithin x (now (c .before .before .before .before .before .args .bytes))) (c .before .item3 .given .1) (c .before .before .before .before .before .pre .1 .0) in record { fits = omega (arith, w, c .before .before .before .before .before .pre .0) }
 
 part-value-requires : tie.Need-part-value-requires
 part-value-requires c κs = search needs
@@ -71,7 +71,7 @@ returns-5 : tie.Need-returns-5
 returns-5 c =
     let cut = text-cut (c .before .before .before .before .before .before .before .before .before .before .before .args .item) (now (c .before .before .before .before .before .before .before .before .before .before .before .args .bytes)) (c .before .before .before .before .before .before .before .item4 .given .0 .0) (c .before .before .before .before .before .before .before .item4 .given .0 .1 .0) (c .before .before .before .before .before .before .before .item4 .given .0 .1 .1 .0) (c .before .before .before .before .before .before .before .item4 .given .0 .1 .1 .1 .0) (c .before .before .before .before .before .before .before .item4 .given .1) (c .before .before .before .before .before .before .before .before .before .before .before .pre .1 .0) in
     let n = c .before .before .before .reading-write .ensures .0 ∙ ap length cut in
-    (c .text-value .ensures ∙ text-value (c .before .before .before .before .before .before .before .before .before .before .before .args .item) (now (c .before .before .before .before .before .before .before .before .before .before .before .args .bytes)) (c .before .before .before .before .before .before .before .item4 .given .0 .0) (c .before .before .before .before .before .before .before .item4 .given .0 .1 .0) (c .before .before .before .before .before .before .before .item4 .given .0 .1 .1 .0) (c .before .before .before .before .before .before .before .item4 .given .0 .1 .1 .1 .0) (c .before .before .before .before .before .before .before .item4 .given .1) (c .before .before .before .before .before .before .before .before .before .before .before .pre .1 .0) (c .before .before .before .before .before .before .before .before .before .before .before .args .at) (c .before .before .before .before .before .before .before .before .before .before .before .args .next) (c .before .before .before .reading-write .result) n, (n, c .before .before .before .reading-write .ensures .1 ∙ ap (λ (t : List ℕ). written t (now (c .before .before .before .before .before .before .before .before .before .before .before .args .out))) cut))
+    (c .text-value .ensures ∙ text-value (c .before .before .before .before .before .before .before .before .before .before .before .args .item) (now (c .before .before .before .before .before .before .before .before .before .before .before .args .bytes)) (c .before .before .before .before .before .before .before .item4 .given .0 .0) (c .before .before .before .before .before .before .before .item4 .given .0 .1 .0) (c .before .before .before .before .before .before .before .item4 .given .0 .1 .1 .0) (c .before .before .before .before .before .before .before .item4 .given .0 .1 .1 .1 .0) (c .before .before .before .before .before .before .before .item4 .given .1) (c .before .before .before .before .before .before .before .before .before .before .before .pre .1 .0) (c .before .before .before .before .before .before .before .before .before .before .before .args .at) (c .before .before .before .before .before .before .before .before .before .before .before .args .next) (c .before .before .before .reading-write .result) n, (n, c .before .before .before .reading-write .ensures .1 ∙ ap (λ (t : List ℕ). overwritten t (now (c .before .before .before .before .before .before .before .before .before .before .before .args .out))) cut))
 
 pub item-write-spec : {M : Type 1} → statement M
 item-write-spec =

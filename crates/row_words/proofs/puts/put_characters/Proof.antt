@@ -4,7 +4,7 @@ use Prim.Native.Nat.{ℕ, _≤_}
 use mathlib.Core.List.{List}
 use lib.ListN.{length}
 use denote.Ref.{now}
-use Rattle.buffer.specs.Buffer.{written}
+use Rattle.buffer.specs.Buffer.{overwritten}
 use Rattle.row_words.specs.Passes.{wordsSet}
 use Rattle.row_words.proofs.Characters.{part-reads, part-plain}
 use borrow.Author.Needs.{needs}

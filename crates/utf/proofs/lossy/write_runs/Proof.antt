@@ -6,7 +6,7 @@ use native.Mathlib.Omega.{arith}
 use borrow.Author.Needs.{needs}
 use denote.Ref.{now}
 use lib.ListN.{length, take, drop, length-drop}
-use Rattle.buffer.specs.Buffer.{written}
+use Rattle.buffer.specs.Buffer.{overwritten}
 use Rattle.unicode.specs.Unicode.{utf8Text}
 use Rattle.utf.specs.Lossy.{Wrote}
 use Rattle.utf.proofs.AsciiLaws.{rest, rest-length}
@@ -152,7 +152,7 @@ module _ (c : tie.After-copy Inv-loop μ-loop) where
   w₁ : Wrote (S (at (at₁ of))) (D (at (at₁ of))) (take (O (at₁ of)) (Out (at₁ of)) ++ (c .copy .last .1 .0 ++ drop (length (Out (at₁ of)) - O (at₁ of)) (drop (O (at₁ of)) (Out (at₁ of))))) (I (at₁ of) + G of) (O (at₁ of) + G of)
   w₁ =
       let d = at₁ of in
-      let q : c .copy .last .1 .0 ≡ written (take (G of) (drop (I d) (S (at d)))) (take (length (Out d) - O d) (drop (O d) (Out d))) = rw (same-part of) at (c .copy .ensures .1) in
+      let q : c .copy .last .1 .0 ≡ overwritten (take (G of) (drop (I d) (S (at d)))) (take (length (Out d) - O d) (drop (O d) (Out d))) = rw (same-part of) at (c .copy .ensures .1) in
       copied-lent (S (at d)) (D (at d)) (Out d) (I d) (O d) (w d) (G of) (left of) (c .copy .last .1 .0) (G of) (omega arith) (of .good-blocks .ensures) (rw (rest (S (at d)) (I d)) q)
 
 add-o-2 : tie.Need-add-o-2 Inv-loop μ-loop

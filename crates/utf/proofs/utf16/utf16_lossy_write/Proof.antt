@@ -4,7 +4,7 @@ use mathlib.Core.List.{List, _++_}
 use mathlib.Core.Path.{_≡_, refl, ap, _∙_}
 use denote.Ref.{now}
 use lib.ListN.{length, take, drop}
-use Rattle.buffer.specs.Buffer.{written}
+use Rattle.buffer.specs.Buffer.{overwritten}
 use Rattle.buffer.specs.Filling.{Filling}
 use Rattle.unicode.specs.Unicode.{utf8, utf16Text}
 use Rattle.utf.specs.Utf16Code.{Utf16Next}
@@ -27,7 +27,7 @@ module _ {s d out : List ℕ} {i o v n : ℕ} (w : Filling (utf16Text s) d (utf1
   room : length (utf8 v) ≤ length (take (length out - o) (drop o out))
   room = fits-rest w (utf8 v) (utf16Text (drop (i + n) s)) (t .here) refl
 
-  wrote-scalar : (ys : List ℕ) → ys ≡ written (utf8 v) (take (length out - o) (drop o out)) → (m : ℕ) → m ≡ length (utf8 v)
+  wrote-scalar : (ys : List ℕ) → ys ≡ overwritten (utf8 v) (take (length out - o) (drop o out)) → (m : ℕ) → m ≡ length (utf8 v)
       → Filling (utf16Text s) d (utf16Text (drop (i + n) s)) (take o out ++ (ys ++ drop (length out - o) (drop o out))) (o + m)
   wrote-scalar ys q m e = wrote-text w (utf8 v) (utf16Text (drop (i + n) s)) (t .here) ys q m e
 

@@ -5,7 +5,7 @@ use mathlib.Core.List.{List}
 use lib.ListN.{length, take, drop}
 use Rattle.numbers.specs.Number.{Number as RowNumber, numberValue}
 use Rattle.packed.specs.Packed.{decimalText, mostBytes}
-use Rattle.conversion.specs.Conversion.{textIn}
+use Rattle.conversion.specs.Picked.{textIn}
 use Rattle.types.specs.declared.ColumnDescriptor.{ColumnDescriptor}
 use Rattle.rules.specs.Extent.{need, extentOf}
 use Rattle.rules.specs.Conversions.{ported}

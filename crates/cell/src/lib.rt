@@ -31,7 +31,8 @@ ghost use Rattle.rules.specs.Meaning.{Item, Lob, decimal, lobEmpty, lobReferenc
 ghost use Rattle.rules.specs.Extent.{need, extentOf};
 ghost use Rattle.types.specs.declared.ReferenceLength.{ReferenceLength};
 ghost use Rattle.rules.specs.Conversions.{ported};
-ghost use Rattle.conversion.specs.Conversion.{textIn, characterText, graphicText};
+ghost use Rattle.conversion.specs.Conversion.{characterText, graphicText};
+ghost use Rattle.conversion.specs.Picked.{textIn};
 ghost use Rattle.packed.specs.Packed.{decimalText, mostBytes};
 ghost use Rattle.cell.specs.Cell.{byteSort, textSort, lobOf, Holds, Decodes};
 

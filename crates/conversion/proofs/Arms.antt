@@ -5,7 +5,7 @@ use mathlib.Core.Path.{_≡_, refl, sym, ap, subst, _∙_}
 use lib.ListN.{length}
 use Rattle.buffer.specs.Buffer.{overwritten}
 use Rattle.conversion.specs.declared.Conversion.{Conversion}
-use Rattle.conversion.specs.Conversion.{textIn}
+use Rattle.conversion.specs.Picked.{textIn}
 use Rattle.conversion.specs.Measure.{Measures}
 
 -- the conversion p was found to be q

@@ -13,7 +13,7 @@ use Rattle.buffer.specs.Buffer.{overwritten}
 use Rattle.buffer.proofs.Writing.{Writing}
 use Rattle.codepage.proofs.Bound.{ebcdic-least}
 use Rattle.conversion.specs.declared.Conversion.the-variants.{Ebcdic037}
-use Rattle.conversion.specs.Conversion.{textIn}
+use Rattle.conversion.specs.Picked.{textIn}
 use Rattle.conversion.specs.Guess.{guessText}
 
 -- where a part is not ASCII, the whole is not

@@ -1,5 +1,6 @@
 pub mod HexLaws
 pub mod PlainText
+pub mod Picks
 pub mod Arms
 pub mod Utf8Texts
 pub mod Guesses

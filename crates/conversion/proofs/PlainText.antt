@@ -14,7 +14,8 @@ use Rattle.codepage.proofs.Bound.{latin1-bound, ebcdic-bound}
 use Rattle.conversion.specs.declared.Conversion.{Conversion}
 use Rattle.conversion.specs.declared.Conversion.the-variants.{Plain, Utf8, Latin1, Ebcdic037, Utf16, Locator, RowId}
 use Rattle.conversion.specs.Hex.{hexText}
-use Rattle.conversion.specs.Conversion.{textIn, locatorMark, rowIdMark}
+use Rattle.conversion.specs.Conversion.{locatorMark, rowIdMark, locatorText, rowIdText}
+use Rattle.conversion.specs.Picked.{textIn}
 use Rattle.conversion.specs.Measure.{Measures}
 
 -- ---- UTF-8 without a malformed part
@@ -40,12 +41,12 @@ unfolding hexText
 hex-length [] = refl
 hex-length (b ∷ bs) = omega (arith, hex-length bs)
 
-pub locator-length : (s : List ℕ) → 14 + 2 * length s ≡ length (textIn Locator s)
-unfolding textIn
+pub locator-length : (s : List ℕ) → 14 + 2 * length s ≡ length (locatorText s)
+unfolding locatorText
 locator-length s = omega (arith, hex-length s, length-append locatorMark (hexText s))
 
-pub row-id-length : (s : List ℕ) → 2 + 2 * length s ≡ length (textIn RowId s)
-unfolding textIn
+pub row-id-length : (s : List ℕ) → 2 + 2 * length s ≡ length (rowIdText s)
+unfolding rowIdText
 row-id-length s = omega (arith, hex-length s, length-append rowIdMark (hexText s))
 
 -- ---- the longest text
@@ -57,5 +58,5 @@ text-bound Utf8 s h = omega (arith, utf8-bound s)
 text-bound Latin1 s h = omega (arith, latin1-bound s h)
 text-bound Ebcdic037 s h = omega (arith, ebcdic-bound s h)
 text-bound Utf16 s h = omega (arith, utf16-bound s)
-text-bound Locator s h = omega (arith, hex-length s, length-append locatorMark (hexText s))
-text-bound RowId s h = omega (arith, hex-length s, length-append rowIdMark (hexText s))
+text-bound Locator s h = omega (arith, locator-length s)
+text-bound RowId s h = omega (arith, row-id-length s)

@@ -7,16 +7,15 @@ use native.Mathlib.Omega.{arith}
 use lib.Dec.{eqb, ltb}
 use lib.ListN.{length, getD}
 use borrow.Author.Tests.{ltb-true, lt-ltb}
-use Rattle.unicode.specs.Unicode.{utf8}
+use Rattle.unicode.specs.Unicode.{utf8, utf8Text, utf16Text}
 use Rattle.unicode.specs.Ascii.{allAscii}
 use Rattle.unicode.specs.Laws.{WellFormed, AreBytes}
 use Rattle.unicode.proofs.Ranges.{both}
 use Rattle.unicode.proofs.Laws.{texts}
+use Rattle.codepage.specs.CodePage.{byteText, codePoint819, codePoint037}
 use Rattle.codepage.proofs.WellFormed.{latin1-well-formed, ebcdic-well-formed}
-use Rattle.conversion.specs.declared.Conversion.{Conversion}
-use Rattle.conversion.specs.declared.Conversion.the-variants.{Plain, Utf8, Latin1, Ebcdic037, Utf16, Locator, RowId}
 use Rattle.conversion.specs.Hex.{hexDigit, hexText}
-use Rattle.conversion.specs.Conversion.{textIn, locatorMark, rowIdMark, characterConversion, isUtf16, graphicConversion, characterText, graphicText, locatorText, rowIdText}
+use Rattle.conversion.specs.Conversion.{locatorMark, rowIdMark, isUtf16, characterText, graphicText, locatorText, rowIdText}
 
 -- ---- ASCII
 
@@ -53,56 +52,32 @@ hex-ascii (b ∷ s) h = rw (digit-ascii (b / 16) (omega (arith, h 0)), digit-asc
 
 -- ---- the texts
 
--- what holds of both conversions holds of the one that a test picks
-picked : (P : Conversion → Type 0) (b : Bool) (x y : Conversion) → (b ≡ true → P x) → P y → P (cond b x y)
+-- what holds of both texts holds of the one that a test picks
+picked : (P : List ℕ → Type 0) (b : Bool) (x y : List ℕ) → (b ≡ true → P x) → P y → P (cond b x y)
 picked P true x y f g = f refl
 picked P false x y f g = g
 
 module _ (s : List ℕ) (h : AreBytes s) where
-  abbrev Fine : Conversion → Type 0
-  Fine p = WellFormed utf8 (textIn p s)
+  abbrev Fine : List ℕ → Type 0
+  Fine t = WellFormed utf8 t
 
-  utf8-fine : Fine Utf8
-  unfolding textIn
-  utf8-fine = texts .utf8-text s h
-
-  utf16-fine : Fine Utf16
-  unfolding textIn
-  utf16-fine = texts .utf16-text s h
-
-  latin1-fine : Fine Latin1
-  unfolding textIn
-  latin1-fine = latin1-well-formed s h
-
-  ebcdic-fine : Fine Ebcdic037
-  unfolding textIn
-  ebcdic-fine = ebcdic-well-formed s h
-
-  plain-fine : allAscii s ≡ true → Fine Plain
-  unfolding textIn
-  plain-fine e = ascii-well-formed s e
-
-  by-characters : (ccsid : ℕ) → Fine (characterConversion ccsid s)
-  unfolding characterConversion
-  by-characters ccsid =
-      picked Fine (eqb ccsid 1208) Utf8 _ (λ e. utf8-fine)
-      (picked Fine (eqb ccsid 819) Latin1 _ (λ e. latin1-fine)
-      (picked Fine (eqb ccsid 37) Ebcdic037 _ (λ e. ebcdic-fine)
-      (picked Fine (eqb ccsid 500) Ebcdic037 _ (λ e. ebcdic-fine)
-      (picked Fine (allAscii s) Plain _ plain-fine ebcdic-fine))))
-
-  pub characters-well-formed : (ccsid : ℕ) → WellFormed utf8 (characterText ccsid s)
+  pub characters-well-formed : (ccsid : ℕ) → Fine (characterText ccsid s)
   unfolding characterText
-  characters-well-formed ccsid = by-characters ccsid
+  characters-well-formed ccsid =
+      picked Fine (eqb ccsid 1208) (utf8Text s) _ (λ e. texts .utf8-text s h)
+      (picked Fine (eqb ccsid 819) (byteText codePoint819 s) _ (λ e. latin1-well-formed s h)
+      (picked Fine (eqb ccsid 37) (byteText codePoint037 s) _ (λ e. ebcdic-well-formed s h)
+      (picked Fine (eqb ccsid 500) (byteText codePoint037 s) _ (λ e. ebcdic-well-formed s h)
+      (picked Fine (allAscii s) s _ (λ e. ascii-well-formed s e) (ebcdic-well-formed s h)))))
 
-  pub graphics-well-formed : (ccsid : ℕ) → WellFormed utf8 (graphicText ccsid s)
-  unfolding graphicText graphicConversion
-  graphics-well-formed ccsid = picked Fine (isUtf16 ccsid (length s)) Utf16 _ (λ e. utf16-fine) (by-characters ccsid)
+  pub graphics-well-formed : (ccsid : ℕ) → Fine (graphicText ccsid s)
+  unfolding graphicText
+  graphics-well-formed ccsid = picked Fine (isUtf16 ccsid (length s)) (utf16Text s) _ (λ e. texts .utf16-text s h) (characters-well-formed ccsid)
 
-  pub locator-well-formed : WellFormed utf8 (locatorText s)
-  unfolding textIn allAscii
+  pub locator-well-formed : Fine (locatorText s)
+  unfolding locatorText allAscii
   locator-well-formed = ascii-well-formed (locatorMark ++ hexText s) (ascii-append locatorMark (hexText s) refl (hex-ascii s h))
 
-  pub row-id-well-formed : WellFormed utf8 (rowIdText s)
-  unfolding textIn allAscii
+  pub row-id-well-formed : Fine (rowIdText s)
+  unfolding rowIdText allAscii
   row-id-well-formed = ascii-well-formed (rowIdMark ++ hexText s) (ascii-append rowIdMark (hexText s) refl (hex-ascii s h))

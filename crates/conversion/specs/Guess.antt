@@ -4,7 +4,7 @@ use mathlib.Core.Bool.{cond}
 use mathlib.Core.List.{List}
 use mathlib.Core.Path.{_≡_}
 use Rattle.unicode.specs.Ascii.{allAscii}
-use Rattle.conversion.specs.Conversion.{textIn, characterConversion, graphicConversion}
+use Rattle.conversion.specs.Picked.{textIn, characterConversion, graphicConversion}
 use Rattle.conversion.specs.declared.Conversion.{Conversion}
 use Rattle.conversion.specs.declared.Conversion.the-variants.{Plain, Ebcdic037}
 

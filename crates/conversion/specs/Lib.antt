@@ -1,4 +1,5 @@
 pub mod Hex
 pub mod Conversion
+pub mod Picked
 pub mod Measure
 pub mod Guess

@@ -21,7 +21,8 @@ ghost use lib.ListN.{length, take};
 ghost use Rattle.refusal.specs.Refusal.{inputLimit};
 ghost use Rattle.buffer.specs.Buffer.{overwritten};
 ghost use Rattle.utf.specs.Ascii.{AsciiRun};
-ghost use Rattle.conversion.specs.Conversion.{characterConversion, graphicConversion, isUtf16, textIn};
+ghost use Rattle.conversion.specs.Conversion.{isUtf16};
+ghost use Rattle.conversion.specs.Picked.{characterConversion, graphicConversion, textIn};
 ghost use Rattle.conversion.specs.Guess.{guessText, Guessed};
 ghost use Rattle.conversion.specs.Measure.{Measures};
 

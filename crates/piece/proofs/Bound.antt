@@ -15,7 +15,9 @@ use Rattle.types.specs.declared.ReferenceLength.the-variants.{Absent, Width}
 use Rattle.types.specs.declared.ColumnDescriptor.{ColumnDescriptor}
 use Rattle.conversion.specs.declared.Conversion.{Conversion}
 use Rattle.conversion.specs.declared.Conversion.the-variants as by
-use Rattle.conversion.specs.Conversion.{textIn, characterConversion, graphicConversion, characterText, graphicText}
+use Rattle.conversion.specs.Conversion.{characterText, graphicText, locatorText, rowIdText}
+use Rattle.conversion.specs.Picked.{textIn, characterConversion, graphicConversion}
+use Rattle.conversion.proofs.Picks.{characters-picked, graphics-picked}
 use Rattle.conversion.proofs.PlainText.{text-bound}
 use Rattle.packed.specs.Packed.{signNibble, signText, digitText, trimmed, fraction, decimalText}
 use Rattle.packed.proofs.Nibbles.{digits-length, no-fraction, fraction-length}
@@ -81,19 +83,24 @@ module _ (s : List ℕ) (h : AreBytes s) where
   less n = omega (arith, length-drop n s)
 
   characters-short : (ccsid n : ℕ) → length (characterText ccsid (drop n s)) ≤ 3 * length s + 258
-  unfolding characterText
-  characters-short ccsid n = text-short (characterConversion ccsid (drop n s)) (drop n s) s (bytes-drop n s h) (less n)
+  characters-short ccsid n =
+      rw (← characters-picked ccsid (drop n s)) (text-short (characterConversion ccsid (drop n s)) (drop n s) s (bytes-drop n s h) (less n))
 
   graphics-short : (ccsid n : ℕ) → length (graphicText ccsid (drop n s)) ≤ 3 * length s + 258
-  unfolding graphicText
-  graphics-short ccsid n = text-short (graphicConversion ccsid (drop n s)) (drop n s) s (bytes-drop n s h) (less n)
+  graphics-short ccsid n =
+      rw (← graphics-picked ccsid (drop n s)) (text-short (graphicConversion ccsid (drop n s)) (drop n s) s (bytes-drop n s h) (less n))
 
   inline-short : (n : ℕ) → length (ported .inlineText (drop n s)) ≤ 3 * length s + 258
   unfolding textIn
   inline-short n = text-short by.Utf8 (drop n s) s (bytes-drop n s h) (less n)
 
-  locator-short : (n : ℕ) → length (textIn by.Locator (drop n s)) ≤ 3 * length s + 258
+  locator-short : (n : ℕ) → length (locatorText (drop n s)) ≤ 3 * length s + 258
+  unfolding textIn
   locator-short n = text-short by.Locator (drop n s) s (bytes-drop n s h) (less n)
+
+  row-id-short : length (rowIdText s) ≤ 3 * length s + 258
+  unfolding textIn
+  row-id-short = text-short by.RowId s s h (omega arith)
 
   empty-short : (k : Lob) → Short s (lobEmpty k)
   unfolding lobEmpty itemText
@@ -121,7 +128,7 @@ module _ (s : List ℕ) (h : AreBytes s) where
       (either (Short s) (allZero (drop 1 s)) (lobEmpty k) (lobReference ported k s) (empty-short k) (reference-short k))
       (either (Short s) b (lobReference ported k s) (lobInline ported k s) (reference-short k) (inline-item-short k))
 
-  header-text-short : (b : Bool) → Short s (text TextSort.clob (textIn by.Locator (cond b (drop 2 s) s)))
+  header-text-short : (b : Bool) → Short s (text TextSort.clob (locatorText (cond b (drop 2 s) s)))
   unfolding itemText
   header-text-short true = locator-short 2
   header-text-short false = locator-short 0
@@ -129,7 +136,7 @@ module _ (s : List ℕ) (h : AreBytes s) where
   header-short : Short s (headerItem ported s)
   unfolding headerItem itemText
   header-short =
-      either (Short s) (isEmptyHeader (headerBytes s)) (text TextSort.clob []) (text TextSort.clob (textIn by.Locator (headerBytes s))) (omega arith) (header-text-short (saysHeader s))
+      either (Short s) (isEmptyHeader (headerBytes s)) (text TextSort.clob []) (text TextSort.clob (locatorText (headerBytes s))) (omega arith) (header-text-short (saysHeader s))
 
   varying-short : (n : ℕ) (t : List ℕ) → length t ≤ 3 * length s + 258 → Short s (varyingItem ported n t s)
   unfolding varyingItem itemText
@@ -146,7 +153,7 @@ module _ (s : List ℕ) (h : AreBytes s) where
   lob-char-short : (n ccsid : ℕ) → Short s (lobCharItem ported n ccsid s)
   unfolding lobCharItem itemText
   lob-char-short n ccsid =
-      either (Short s) (isShortReference n s) (text TextSort.clob (textIn by.Locator s)) (text TextSort.clob (characterText ccsid s)) (locator-short 0) (characters-short ccsid 0)
+      either (Short s) (isShortReference n s) (text TextSort.clob (locatorText s)) (text TextSort.clob (characterText ccsid s)) (locator-short 0) (characters-short ccsid 0)
 
 -- a Decimal's scale fits a byte
 abbrev pub Scaled : Db2Type → Type 0
@@ -179,7 +186,7 @@ type-short type.ClobLocator c s f h = reference-short s h clobs
 type-short type.DbClobLocator c s f h = reference-short s h clobs
 type-short (type.LobBytes n) c s f h = lob-bytes-short s h (low15 n) (c .ccsid)
 type-short (type.LobChar n) c s f h = lob-char-short s h (low15 n) (c .ccsid)
-type-short (type.RowId n) c s f h = text-short by.RowId s s h (omega arith)
+type-short (type.RowId n) c s f h = row-id-short s h
 type-short type.Boolean c s f h = omega arith
 type-short type.Xml c s f h = lob-short s h (c .«extdta_reference_length») false xmls
 type-short type.Null c s f h = omega arith

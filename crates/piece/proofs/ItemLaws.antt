@@ -10,7 +10,7 @@ use Rattle.types.specs.declared.ColumnDescriptor.{ColumnDescriptor}
 use Rattle.types.specs.declared.Db2Value.{Db2Value}
 use Rattle.types.specs.declared.ValuePlace.{ValuePlace}
 use Rattle.conversion.specs.declared.Conversion.the-variants as by
-use Rattle.conversion.specs.Conversion.{textIn}
+use Rattle.conversion.specs.Picked.{textIn}
 use Rattle.rules.specs.Extent.{need, extentOf}
 use Rattle.rules.specs.Meaning.{Item, text, itemIn, refersIn}
 use Rattle.rules.specs.Row.{place, textValue, valueOf, itemText, cellItem, cellValue}

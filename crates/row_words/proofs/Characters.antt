@@ -10,7 +10,8 @@ use Rattle.types.specs.Names.{bit8000}
 use Rattle.types.specs.FixedLength.{packedLength}
 use Rattle.packed.specs.Packed.{decimalText}
 use Rattle.conversion.specs.declared.Conversion.{Conversion}
-use Rattle.conversion.specs.Conversion.{textIn, characterText}
+use Rattle.conversion.specs.Conversion.{characterText}
+use Rattle.conversion.specs.Picked.{textIn}
 use Rattle.rules.specs.Extent.{be16, need, extentOf}
 use Rattle.rules.specs.Meaning.{itemIn, varyingItem, isEmptyLob, refersIn}
 use Rattle.rules.specs.Row.{valueOf, itemText, cellItem, cellValue}

@@ -9,7 +9,7 @@ use borrow.Author.Tests.{leb-true, eqb-true, eq-eqb}
 use Rattle.refusal.specs.Refusal.{Told, accepted, refused, inputLimit}
 use Rattle.types.specs.Places.{filled, blankValue, columnList}
 use Rattle.numbers.specs.Number.{unsigned}
-use Rattle.conversion.specs.Conversion.{textIn}
+use Rattle.conversion.specs.Conversion.{locatorText}
 use Rattle.conversion.specs.Hex.{hexText}
 use Rattle.rules.specs.Extent.{isReference, isHexDigit, hexDigits, isShortReference, saysHeader, lobNeed, need}
 use Rattle.rules.specs.OwnEnd.{carriesOwnEnd, allCarryOwnEnd}
@@ -121,7 +121,7 @@ from-test [] e = tt
 from-test (x ∷ xs) e = (all-parts x (and-left (breaks x) (allOf xs) e), from-test xs (and-right (breaks x) (allOf xs) e))
 
 computed : allOf exceptions ≡ true
-unfolding exceptions carriesOwnEnd allCarryOwnEnd rowAnswer answerOf rowDecision bodyDecision walkDecision walkBody walk skipOf columnNeed cellOf consCell need lobNeed isReference saysHeader isShortReference hexDigits isHexDigit unsigned anyDecFloat columnList filled blankValue rowValues rowTexts cellValue cellItem itemIn startOf valueOf itemText textsTogether varyingItem headerItem lobItem lobEmpty lobReference lobBytesItem lobCharItem allZero textIn hexText
+unfolding exceptions carriesOwnEnd allCarryOwnEnd rowAnswer answerOf rowDecision bodyDecision walkDecision walkBody walk skipOf columnNeed cellOf consCell need lobNeed isReference saysHeader isShortReference hexDigits isHexDigit unsigned anyDecFloat columnList filled blankValue rowValues rowTexts cellValue cellItem itemIn startOf valueOf itemText textsTogether varyingItem headerItem lobItem lobEmpty lobReference lobBytesItem lobCharItem allZero locatorText hexText
 computed = refl
 
 pub exceptions-break : AllBreak exceptions

@@ -6,8 +6,6 @@ use borrow.Author.Tests.{lt-ltb, le-ltb}
 use lib.ListN.{length}
 use Rattle.refusal.specs.Refusal.{inputLimit}
 use Rattle.buffer.specs.Buffer.{TextTold, refusedText, textAnswer, textBuffer}
-use Rattle.conversion.specs.Conversion.{textIn}
-use Rattle.conversion.specs.declared.Conversion.{Conversion}
 use Rattle.text.specs.Text.{conversionAnswer, conversionBuffer}
 
 module _ (s d : List ℕ) {a : TextTold} where
@@ -15,8 +13,8 @@ module _ (s d : List ℕ) {a : TextTold} where
   unfolding conversionAnswer conversionBuffer
   too-long t h q = rw (q, lt-ltb inputLimit (length s) h) (refl, refl)
 
-  -- the conversion q was picked as p
-  pub picked : {p q : Conversion} → p ≡ q → length s ≤ inputLimit → (ys : List ℕ) → (a ≡ textAnswer (textIn p s) d) × (ys ≡ textBuffer (textIn p s) d)
-      → (a ≡ conversionAnswer s (textIn q s) d) × (ys ≡ conversionBuffer s (textIn q s) d)
+  -- the text t is u, that of the conversion that was picked
+  pub picked : {t u : List ℕ} → u ≡ t → length s ≤ inputLimit → (ys : List ℕ) → (a ≡ textAnswer u d) × (ys ≡ textBuffer u d)
+      → (a ≡ conversionAnswer s t d) × (ys ≡ conversionBuffer s t d)
   unfolding conversionAnswer conversionBuffer
   picked e h ys r = rw (le-ltb inputLimit (length s) h, ← e) r

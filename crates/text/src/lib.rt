@@ -19,7 +19,8 @@ ghost use lib.ListN.{length};
 ghost use Rattle.refusal.specs.Refusal.{inputLimit};
 ghost use Rattle.buffer.specs.Buffer.{toldText, textAnswer, textBuffer};
 ghost use Rattle.unicode.specs.Likely.{likelyText};
-ghost use Rattle.conversion.specs.Conversion.{textIn, characterText, graphicText, locatorText, rowIdText};
+ghost use Rattle.conversion.specs.Conversion.{characterText, graphicText, locatorText, rowIdText};
+ghost use Rattle.conversion.specs.Picked.{textIn};
 ghost use Rattle.conversion.specs.Guess.{guessText, Guessed};
 ghost use Rattle.text.specs.Text.{conversionAnswer, conversionBuffer};
 

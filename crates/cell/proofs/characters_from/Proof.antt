@@ -1,7 +1,8 @@
 -- `cell::characters_from` meets its contract: the conversion is the one that the CCSID asks for. Assumes nothing.
 use mathlib.Core.Path.{ap, _∙_}
 use denote.Ref.{now}
-use Rattle.conversion.specs.Conversion.{characterConversion, characterText}
+use Rattle.conversion.specs.Picked.{characterConversion}
+use Rattle.conversion.proofs.Picks.{characters-by}
 use Rattle.cell.proofs.ItemLaws.{all-from}
 use borrow.Author.Needs.{needs}
 use Rattle.cell.proofs.characters_from.Statement.{statement}
@@ -23,10 +24,9 @@ text-from-requires : tie.Need-text-from-requires
 text-from-requires c κs = search needs
 
 returns : tie.Need-returns
-unfolding characterText
 returns c = let a = c .before .before .before .before .args in
     let e = c .before .character-conversion .ensures ∙ ap (characterConversion (a .ccsid)) (all-from (a .from) (now (a .bytes))) in
-    rw (← e) (c .text-from .ensures)
+    rw (← characters-by _ _ e) (c .text-from .ensures)
 
 pub characters-from-spec : {M : Type 1} → statement M
 characters-from-spec =

@@ -1,7 +1,7 @@
 -- `cell::empty_text` meets its contract: the text of no bytes is empty. Assumes nothing.
 use mathlib.Core.Path.{refl}
 use native.Mathlib.Omega.{arith}
-use Rattle.conversion.specs.Conversion.{textIn}
+use Rattle.conversion.specs.Picked.{textIn}
 use Rattle.cell.proofs.empty_text.Statement.{statement}
 use Rattle.cell.proofs.empty_text.Tie as tie
 

@@ -1,7 +1,8 @@
 -- `cell::graphics_from` meets its contract: the conversion is the one that the CCSID asks for. Assumes nothing.
 use mathlib.Core.Path.{ap, _∙_}
 use denote.Ref.{now}
-use Rattle.conversion.specs.Conversion.{graphicConversion, graphicText}
+use Rattle.conversion.specs.Picked.{graphicConversion}
+use Rattle.conversion.proofs.Picks.{graphics-by}
 use Rattle.cell.proofs.ItemLaws.{all-from}
 use borrow.Author.Needs.{needs}
 use Rattle.cell.proofs.graphics_from.Statement.{statement}
@@ -23,10 +24,9 @@ text-from-requires : tie.Need-text-from-requires
 text-from-requires c κs = search needs
 
 returns : tie.Need-returns
-unfolding graphicText
 returns c = let a = c .before .before .before .before .args in
     let e = c .before .graphic-conversion .ensures ∙ ap (graphicConversion (a .ccsid)) (all-from (a .from) (now (a .bytes))) in
-    rw (← e) (c .text-from .ensures)
+    rw (← graphics-by _ _ e) (c .text-from .ensures)
 
 pub graphics-from-spec : {M : Type 1} → statement M
 graphics-from-spec =

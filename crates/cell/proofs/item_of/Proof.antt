@@ -8,6 +8,7 @@ use Rattle.rules.specs.Extent.{graphicUnit}
 use Rattle.rules.specs.Meaning.{ByteSort, Item, varyingItem}
 use Rattle.cell.specs.declared.CellItem.the-variants as cell
 use Rattle.cell.proofs.ItemLaws.{whole-part, holds-by, need-by, fixed-there, packed-there, counted-there, absent-there, absent-xml, number-holds}
+use Rattle.conversion.specs.Picked.{textIn}
 use borrow.Author.Needs.{needs}
 use Rattle.cell.proofs.item_of.Statement.{statement}
 use Rattle.cell.proofs.item_of.Tie as tie
@@ -278,6 +279,7 @@ returns-27 : tie.Need-returns-27
 returns-27 c = holds-by (c .before .before .before .before .before .args .column) (now (c .before .before .before .before .before .args .bytes)) (c .before .before .t5 .given .1) (c .lob-char-item .result) (c .lob-char-item .ensures)
 
 returns-28 : tie.Need-returns-28
+unfolding textIn
 returns-28 c = holds-by (c .before .before .before .before .args .column) (now (c .before .before .before .before .args .bytes)) (c .before .enum-told21 .given .1) (c .text-from .result) (c .text-from .ensures)
 
 returns-29 : tie.Need-returns-29

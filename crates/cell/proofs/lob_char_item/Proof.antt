@@ -1,6 +1,7 @@
 -- `cell::lob_char_item` meets its contract: the test decides the definition's. Assumes nothing.
 use mathlib.Core.Path.{sym, _∙_}
 use Rattle.rules.specs.Meaning.{lobCharItem}
+use Rattle.conversion.specs.Picked.{textIn}
 use borrow.Author.Needs.{needs}
 use Rattle.cell.proofs.lob_char_item.Statement.{statement}
 use Rattle.cell.proofs.lob_char_item.Tie as tie
@@ -12,7 +13,7 @@ text-from-requires : tie.Need-text-from-requires
 text-from-requires c κs = search needs
 
 returns : tie.Need-returns
-unfolding lobCharItem
+unfolding lobCharItem textIn
 returns c = rw (sym (c .before .before .is-short-reference .ensures) ∙ c .before .if1 .taken) (c .text-from .ensures)
 
 characters-from-requires : tie.Need-characters-from-requires

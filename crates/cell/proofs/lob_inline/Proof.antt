@@ -1,6 +1,6 @@
 -- `cell::lob_inline` meets its contract: in each arm the kind is known. Assumes nothing.
 use Rattle.rules.specs.Meaning.{lobInline}
-use Rattle.conversion.specs.Conversion.{textIn}
+use Rattle.conversion.specs.Picked.{textIn}
 use borrow.Author.Needs.{needs}
 use Rattle.cell.proofs.lob_inline.Statement.{statement}
 use Rattle.cell.proofs.lob_inline.Tie as tie

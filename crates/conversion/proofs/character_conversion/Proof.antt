@@ -3,7 +3,7 @@ use borrow.Author.Needs.{needs}
 use borrow.Author.Tests.{eq-eqb, ne-eqb, not-true, not-false}
 use denote.Ref.{now}
 use Rattle.unicode.specs.Ascii.{allAscii}
-use Rattle.conversion.specs.Conversion.{characterConversion}
+use Rattle.conversion.specs.Picked.{characterConversion}
 use Rattle.utf.proofs.AsciiLaws.{none-high, some-high}
 use Rattle.conversion.proofs.character_conversion.Statement.{statement}
 use Rattle.conversion.proofs.character_conversion.Tie as tie

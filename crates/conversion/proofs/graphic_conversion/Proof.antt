@@ -1,7 +1,7 @@
 -- `conversion::graphic_conversion` meets its contract. Assumes nothing.
 use mathlib.Core.Path.{_≡_, sym, _∙_}
 use borrow.Author.Needs.{needs}
-use Rattle.conversion.specs.Conversion.{graphicConversion}
+use Rattle.conversion.specs.Picked.{graphicConversion}
 use Rattle.conversion.proofs.graphic_conversion.Statement.{statement}
 use Rattle.conversion.proofs.graphic_conversion.Tie as tie
 

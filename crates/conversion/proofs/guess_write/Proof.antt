@@ -14,7 +14,7 @@ use Rattle.buffer.proofs.Writing.{Writing, wrote-first, wrote-rest, fits, fits-
 use Rattle.utf.specs.Ascii.{AsciiRun}
 use Rattle.utf.proofs.AsciiLaws.{none-high, some-high, run-block, rest}
 use Rattle.conversion.specs.declared.Conversion.the-variants.{Ebcdic037}
-use Rattle.conversion.specs.Conversion.{textIn}
+use Rattle.conversion.specs.Picked.{textIn}
 use Rattle.conversion.specs.Guess.{guessText}
 use Rattle.conversion.proofs.Guesses.{part-high, as-ascii, as-ebcdic, guess-least}
 use Rattle.conversion.proofs.guess_write.Statement.{statement}

@@ -4,7 +4,8 @@ use mathlib.Core.Logic.{inl, inr}
 use mathlib.Core.Path.{_≡_, sym, subst}
 use borrow.Author.Tests.{ne-eqb}
 use lib.Dec.{T}
-use Rattle.conversion.specs.Conversion.{characterConversion, isUtf16, graphicConversion}
+use Rattle.conversion.specs.Conversion.{isUtf16}
+use Rattle.conversion.specs.Picked.{characterConversion, graphicConversion}
 use Rattle.conversion.proofs.is_guessed.Statement.{statement}
 use Rattle.conversion.proofs.is_guessed.Tie as tie
 

@@ -1,7 +1,7 @@
 -- `conversion::text_measure` meets its contract, by the conversion. Assumes nothing.
 use mathlib.Core.Path.{refl}
 use borrow.Author.Needs.{needs}
-use Rattle.conversion.specs.Conversion.{textIn}
+use Rattle.conversion.specs.Picked.{textIn}
 use Rattle.conversion.proofs.Arms.{measured, measured-as}
 use Rattle.conversion.proofs.PlainText.{locator-length, row-id-length}
 use Rattle.conversion.proofs.text_measure.Statement.{statement}
@@ -72,9 +72,11 @@ unfolding textIn
 returns-5 c = measured (c .before .enum-told5 .given .1) _ _ (c .utf16-lossy-len .ensures)
 
 returns-6 : tie.Need-returns-6
+unfolding textIn
 returns-6 c = measured (c .enum-told6 .given .1) _ _ (locator-length _)
 
 returns-7 : tie.Need-returns-7
+unfolding textIn
 returns-7 c = measured (c .enum-told7 .given .1) _ _ (row-id-length _)
 
 pub text-measure-spec : {M : Type 1} → statement M

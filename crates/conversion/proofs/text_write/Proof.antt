@@ -1,7 +1,8 @@
 -- `conversion::text_write` meets its contract: each case by its writer. Assumes nothing.
 use borrow.Author.Needs.{needs}
 use denote.Ref.{now}
-use Rattle.conversion.specs.Conversion.{textIn}
+use Rattle.conversion.specs.Conversion.{locatorText, rowIdText}
+use Rattle.conversion.specs.Picked.{textIn}
 use Rattle.conversion.proofs.Arms.{room, wrote}
 use Rattle.conversion.proofs.text_write.Statement.{statement}
 use Rattle.conversion.proofs.text_write.Tie as tie
@@ -48,7 +49,7 @@ slice-aggregate-marked-hex-write : tie.Need-slice-aggregate-marked-hex-write
 slice-aggregate-marked-hex-write c = search needs
 
 marked-hex-write-requires : tie.Need-marked-hex-write-requires
-unfolding textIn
+unfolding textIn locatorText
 marked-hex-write-requires c κs = room (c .before .before .enum-told6 .given .1) (now (c .before .before .before .before .before .before .args .s)) _ (c .before .before .before .before .before .before .pre)
 
 enum-told-7 : tie.Need-enum-told-7
@@ -58,7 +59,7 @@ slice-aggregate-marked-hex-write-2 : tie.Need-slice-aggregate-marked-hex-write-2
 slice-aggregate-marked-hex-write-2 c = search needs
 
 marked-hex-write-requires-2 : tie.Need-marked-hex-write-requires-2
-unfolding textIn
+unfolding textIn rowIdText
 marked-hex-write-requires-2 c κs = room (c .before .before .enum-told7 .given .1) (now (c .before .before .before .before .before .before .args .s)) _ (c .before .before .before .before .before .before .pre)
 
 same-length : tie.Need-same-length
@@ -100,14 +101,14 @@ same-length-6 : tie.Need-same-length-6
 same-length-6 c = search needs
 
 returns-6 : tie.Need-returns-6
-unfolding textIn
+unfolding textIn locatorText
 returns-6 c = wrote (c .before .before .before .before .before .enum-told6 .given .1) _ _ _ _ (c .before .before .marked-hex-write .ensures .0) (c .before .before .marked-hex-write .ensures .1)
 
 same-length-7 : tie.Need-same-length-7
 same-length-7 c = search needs
 
 returns-7 : tie.Need-returns-7
-unfolding textIn
+unfolding textIn rowIdText
 returns-7 c = wrote (c .before .before .before .before .before .enum-told7 .given .1) _ _ _ _ (c .before .before .marked-hex-write2 .ensures .0) (c .before .before .marked-hex-write2 .ensures .1)
 
 pub text-write-spec : {M : Type 1} → statement M

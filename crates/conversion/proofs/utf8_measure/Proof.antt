@@ -11,7 +11,7 @@ use Rattle.unicode.specs.Unicode.{utf8Text}
 use Rattle.utf.proofs.AsciiLaws.{rest}
 use Rattle.utf.proofs.Bound.{utf8-bound}
 use Rattle.utf.proofs.Utf8Runs.{good-length}
-use Rattle.conversion.specs.Conversion.{textIn}
+use Rattle.conversion.specs.Picked.{textIn}
 use Rattle.conversion.proofs.PlainText.{utf8-plain, as-it-is}
 use Rattle.conversion.proofs.utf8_measure.Statement.{statement}
 use Rattle.conversion.proofs.utf8_measure.Tie as tie

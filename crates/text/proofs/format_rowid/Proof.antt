@@ -1,6 +1,6 @@
 -- `text::format_rowid` meets its contract: refused as too long, or converted. Assumes nothing.
-use mathlib.Core.Path.{refl}
 use borrow.Author.Needs.{needs}
+use Rattle.conversion.proofs.Picks.{row-id-picked}
 use Rattle.text.proofs.Alone.{too-long, picked}
 use Rattle.text.proofs.format_rowid.Statement.{statement}
 use Rattle.text.proofs.format_rowid.Tie as tie
@@ -18,7 +18,7 @@ same-length : tie.Need-same-length
 same-length c = search needs
 
 returns-2 : tie.Need-returns-2
-returns-2 c = picked _ _ refl (c .before .before .before .before .if1 .left) _ (c .before .before .convert .ensures)
+returns-2 c = picked _ _ (row-id-picked _) (c .before .before .before .before .if1 .left) _ (c .before .before .convert .ensures)
 
 pub format-rowid-spec : {M : Type 1} → statement M
 format-rowid-spec =

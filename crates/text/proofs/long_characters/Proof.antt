@@ -2,8 +2,8 @@
 use mathlib.Core.Path.{sym}
 use borrow.Author.Needs.{needs}
 use denote.Ref.{now}
-use Rattle.conversion.specs.Conversion.{characterText}
 use Rattle.conversion.specs.Guess.{guessText}
+use Rattle.conversion.proofs.Picks.{characters-by}
 use Rattle.text.proofs.Alone.{too-long, picked}
 use Rattle.text.proofs.long_characters.Statement.{statement}
 use Rattle.text.proofs.long_characters.Tie as tie
@@ -24,10 +24,10 @@ same-length : tie.Need-same-length
 same-length c = search needs
 
 returns-2 : tie.Need-returns-2
-unfolding characterText guessText
+unfolding guessText
 returns-2 c =
     let g = c .before .before .before .before .before .is-roomy-guess .ensures (c .before .before .before .before .if2 .taken) .1 in
-    picked _ _ (sym (g .characters (now (c .before .before .before .before .before .before .before .before .before .args .s)))) (c .before .before .before .before .before .before .if1 .left) _ (c .before .before .convert-guess .ensures)
+    picked _ _ (characters-by _ _ (sym (g .characters (now (c .before .before .before .before .before .before .before .before .before .args .s))))) (c .before .before .before .before .before .before .if1 .left) _ (c .before .before .convert-guess .ensures)
 
 character-conversion-requires : tie.Need-character-conversion-requires
 character-conversion-requires c κs = search needs
@@ -39,8 +39,7 @@ same-length-2 : tie.Need-same-length-2
 same-length-2 c = search needs
 
 returns-3 : tie.Need-returns-3
-unfolding characterText
-returns-3 c = picked _ _ (c .before .before .before .before .character-conversion .ensures) (c .before .before .before .before .before .before .before .if1 .left) _ (c .before .before .convert .ensures)
+returns-3 c = picked _ _ (characters-by _ _ (c .before .before .before .before .character-conversion .ensures)) (c .before .before .before .before .before .before .before .if1 .left) _ (c .before .before .convert .ensures)
 
 pub long-characters-spec : {M : Type 1} → statement M
 long-characters-spec =

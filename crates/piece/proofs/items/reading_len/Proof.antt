@@ -3,7 +3,7 @@ use mathlib.Core.Path.{sym, ap, _∙_}
 use mathlib.Core.Bool.{true≢false}
 use denote.Ref.{now}
 use Rattle.conversion.specs.declared.Conversion.{Conversion}
-use Rattle.conversion.specs.Conversion.{textIn}
+use Rattle.conversion.specs.Picked.{textIn}
 use borrow.Author.Needs.{needs}
 use Rattle.piece.proofs.items.reading_len.Statement.{statement}
 use Rattle.piece.proofs.items.reading_len.Tie as tie

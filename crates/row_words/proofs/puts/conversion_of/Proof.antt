@@ -1,8 +1,7 @@
 -- `row_words::puts::conversion_of` meets its contract: the bytes are their own text, or the CCSID says how they are read. Assumes nothing.
-use mathlib.Core.Path.{sym, ap, _∙_}
-use denote.Ref.{now}
-use Rattle.conversion.specs.declared.Conversion.{Conversion}
-use Rattle.conversion.specs.Conversion.{textIn, characterText}
+use mathlib.Core.Path.{sym, _∙_}
+use Rattle.conversion.specs.Picked.{textIn}
+use Rattle.conversion.proofs.Picks.{characters-by}
 use borrow.Author.Needs.{needs}
 use Rattle.row_words.proofs.puts.conversion_of.Statement.{statement}
 use Rattle.row_words.proofs.puts.conversion_of.Tie as tie
@@ -21,8 +20,7 @@ character-conversion-requires : tie.Need-character-conversion-requires
 character-conversion-requires c κs = search needs
 
 returns-2 : tie.Need-returns-2
-unfolding characterText
-returns-2 c = ap (λ (k : Conversion). textIn k (now (c .before .before .before .before .args .bytes))) (c .character-conversion .ensures)
+returns-2 c = characters-by _ _ (c .character-conversion .ensures)
 
 pub conversion-of-spec : {M : Type 1} → statement M
 conversion-of-spec = tie.close (tie.spec is-marked-requires returns cast-character-conversion character-conversion-requires returns-2)

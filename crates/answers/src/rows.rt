@@ -1,10 +1,10 @@
 // Whether the answer of the row call stands in a line.
-use lines::place::NOWHERE;
-use lines::place::bytes_at;
-use lines::place::decimal_at;
-use lines::place::hex_at;
-use lines::place::signed_at;
-use lines::place::text_at;
+use crate::place::NOWHERE;
+use crate::place::bytes_at;
+use crate::place::decimal_at;
+use crate::place::hex_at;
+use crate::place::signed_at;
+use crate::place::text_at;
 use row::value_bytes;
 use types::MAX_COLUMNS;
 use types::RowAnswer;
@@ -51,24 +51,6 @@ fn placed_at(line: &[u8], at: usize, mark: &[u8], place: u64, s: &[u8], out: &mu
     marked_at(line, colon, b":", s, out)
 }
 
-// The letter of a sort of value that has bytes; 0 where it has none.
-fn letter_of(sort: u64) -> u8 {
-    match sort {
-        8 => b'D',
-        9 => b'C',
-        10 => b'V',
-        11 => b'B',
-        12 => b'O',
-        13 => b'K',
-        14 => b'R',
-        15 => b'd',
-        16 => b't',
-        17 => b's',
-        19 => b'X',
-        _ => 0,
-    }
-}
-
 // A text, Binary or Blob, by its sort, its place and its bytes.
 fn bytes_value_at(
     line: &[u8],
@@ -78,12 +60,19 @@ fn bytes_value_at(
     s: &[u8],
     out: &mut [u8],
 ) -> usize {
-    let letter = letter_of(sort);
-    let mark = [letter, b':'];
-    match letter {
-        0 => NOWHERE,
-        b'B' | b'O' => placed_at(line, at, &mark, place, s, out),
-        _ => marked_at(line, at, &mark, s, out),
+    match sort {
+        8 => marked_at(line, at, b"D:", s, out),
+        9 => marked_at(line, at, b"C:", s, out),
+        10 => marked_at(line, at, b"V:", s, out),
+        11 => placed_at(line, at, b"B:", place, s, out),
+        12 => placed_at(line, at, b"O:", place, s, out),
+        13 => marked_at(line, at, b"K:", s, out),
+        14 => marked_at(line, at, b"R:", s, out),
+        15 => marked_at(line, at, b"d:", s, out),
+        16 => marked_at(line, at, b"t:", s, out),
+        17 => marked_at(line, at, b"s:", s, out),
+        19 => marked_at(line, at, b"X:", s, out),
+        _ => NOWHERE,
     }
 }
 

@@ -1,9 +1,14 @@
-// Inner. Lines for people, written to standard output by way of a buffer: decimal and hexadecimal numbers, texts with their control characters escaped,
-// bytes, floats, and columns of a table. It knows no rows and no types of columns.
+// Inner. How the programs print. Here: lines for people, written to standard output by way of a buffer: decimal and hexadecimal numbers, texts with
+// their control characters escaped, bytes, floats, and columns of a table. A line knows no rows and no types of columns. In `floats`: a float's
+// digits; in `type_names`: the names of the types.
+mod floats;
+pub mod type_names;
+mod wide;
+
 use conversion::hex::hex_digit;
-use float_digits::Digits;
-use float_digits::MOST_DIGITS;
-use float_digits::POINT;
+use floats::Digits;
+use floats::MOST_DIGITS;
+use floats::POINT;
 ghost use Prim.Native.Nat.{_<_};
 ghost use lib.ListN.{length};
 
@@ -351,7 +356,7 @@ impl Line {
         if size == 0 {
             return line.text(b"0.0");
         }
-        line.digits(float_digits::of_double(size))
+        line.digits(floats::of_double(size))
     }
 
     // A Real likewise.
@@ -367,6 +372,6 @@ impl Line {
         if size == 0 {
             return line.text(b"0.0");
         }
-        line.digits(float_digits::of_real(size))
+        line.digits(floats::of_real(size))
     }
 }

@@ -2,23 +2,23 @@
 // call and compares. It writes a line for each line that differs or is no request, and at the end how many lines there were and how many were
 // the same. The kinds of line: T decode_character_bytes, G decode_graphic_bytes, L bytes_are_likely_text, P decode_packed_decimal, F fixed_length,
 // Q parse_qrydsc and decode_row with its columns, H decode_row with columns of the line's own.
-use answers::columns_at;
-use answers::columns_of;
+use answers::columns::columns_at;
+use answers::columns::columns_of;
+use answers::columns::type_of;
+use answers::lines::answer_start;
+use answers::lines::bytes;
+use answers::lines::bytes_or_repeated;
+use answers::lines::field;
+use answers::lines::field_count;
+use answers::lines::fill;
+use answers::lines::find;
+use answers::lines::number;
+use answers::lines::part_start;
+use answers::place::decimal_at;
+use answers::place::text_at;
 use answers::rows::is_answer;
-use answers::type_of;
 use buffer::TextAnswer;
 use check::same;
-use lines::answer_start;
-use lines::bytes;
-use lines::bytes_or_repeated;
-use lines::field;
-use lines::field_count;
-use lines::fill;
-use lines::find;
-use lines::number;
-use lines::part_start;
-use lines::place::decimal_at;
-use lines::place::text_at;
 use qrydsc::parse_qrydsc;
 use refusal::TEXT_BUFFER_TOO_SHORT;
 use row::decode_row;
@@ -164,18 +164,25 @@ fn writes_each(call: Call, data: &[u8], want: &[u8], text: &mut [u8]) -> bool {
     refuses(call, data, 9, n, &mut text[0..n - 1])
 }
 
-// The number of `REFUSE6` and the like; 0 where the answer is no refusal.
-fn refusal_number(answer: &[u8]) -> usize
-    ensures { λ r. ⌜ r ≤ 9 ⌝ }
-{
+// What a stored answer is: a refusal by its number, as `REFUSE6`, or something else.
+enum Stored {
+    Refusal(u32),
+    Other,
+}
+
+fn refusal_of(answer: &[u8]) -> Stored {
     if answer.len() < 6 {
-        return 0;
+        return Stored::Other;
     }
     if !same(&answer[0..6], b"REFUSE") {
-        return 0;
+        return Stored::Other;
     }
     let r = number(&answer[6..], 9);
-    r.value
+    let n = r.value;
+    if n == 0 {
+        return Stored::Other;
+    }
+    Stored::Refusal(n as u32)
 }
 
 // Whether the call answers what is stored: a text, or a refusal without values.
@@ -185,11 +192,10 @@ fn answers(call: Call, data: &[u8], answer: &[u8], want: &mut [u8], text: &mut [
     if w.valid {
         return writes_each(call, data, &want[0..n], text);
     }
-    let r = refusal_number(answer);
-    if r == 0 {
-        return false;
+    match refusal_of(answer) {
+        Stored::Refusal(number) => refuses(call, data, number, 0, text),
+        Stored::Other => false,
     }
-    refuses(call, data, r as u32, 0, text)
 }
 
 // A line of kind T, G or P: the number that the call holds, and the bytes.
@@ -344,7 +350,10 @@ fn is_told_refused(refusal: u32, told: &[u8], answer: &[u8]) -> bool {
     if !same(told, b"C -") {
         return false;
     }
-    refusal_number(answer) == refusal as usize
+    match refusal_of(answer) {
+        Stored::Refusal(number) => number == refusal,
+        Stored::Other => false,
+    }
 }
 
 // The rest of a line of kind Q whose description has these columns.

@@ -1,8 +1,8 @@
 // A column in the table: its number, type, nullable, CCSID and byte order; and, where there is no row, its type code, length and reference length.
 use printing::Line;
-use type_names::first;
-use type_names::name_of;
-use type_names::number_count;
+use printing::type_names::first;
+use printing::type_names::name_of;
+use printing::type_names::number_count;
 use types::ByteOrder;
 use types::ColumnDescriptor;
 use types::Columns;

@@ -13,6 +13,7 @@ use Rattle.unicode.specs.Unicode.{scalar, within, range}
 use Rattle.unicode.specs.Likely.{isControl, isTabOrLineEnd, likelyPiece, likelyText}
 use Rattle.utf.specs.Utf8Code.{firstAt, trailAt, isScalar, PieceAt}
 use Rattle.utf.specs.Utf8Blocks.{Follows, Each, Ends, led}
+use Rattle.utf.specs.declared.likely.Character.the-variants.{Likely}
 use Rattle.utf.specs.LikelyCode.{LikelyAt, LikelyRun, Shown, AllShown, LikelyAfter}
 use Rattle.utf.proofs.Utf8Laws.{step-ascii}
 use Rattle.utf.proofs.Utf8BlockLaws.{neither, unless, ByPieces, whole-pieces}
@@ -31,13 +32,13 @@ likely-more n m s r q = record {
 }
 
 -- a piece more
-pub likely-next-piece : (s : List ℕ) (e n : ℕ) → LikelyRun e s → LikelyAt s e n → 0 < n → LikelyRun (e + n) s
-likely-next-piece s e n r a h = record { same = r .same ∙ a .some h; fits = a .fits }
+pub likely-next-piece : (s : List ℕ) (e n : ℕ) → LikelyRun e s → LikelyAt s e (Likely n) → LikelyRun (e + n) s
+likely-next-piece s e n r a = record { same = r .same ∙ a .1 .1; fits = a .1 .0 }
 
 first-run : (s : List ℕ) (k : ℕ) → 0 < length s → PieceAt s 0 k true → likelyPiece (firstAt s 0 .piece) ≡ true → LikelyRun k s
 first-run s k h p q =
     let e : 0 + k ≡ k = omega arith in
-    subst (λ (n : ℕ). LikelyRun n s) e (likely-next-piece s 0 k (likely-none s) (likely s 0 h k (p .0) q) (omega (arith, p .0)))
+    subst (λ (n : ℕ). LikelyRun n s) e (likely-next-piece s 0 k (likely-none s) (likely s 0 h k (p .0) q))
 
 -- ---- ASCII
 

@@ -12,6 +12,7 @@ use lib.Seq.{drop-cons, drop-drop, getD-drop}
 use Rattle.unicode.specs.Unicode.{Piece, scalar, malformed, utf8, First, firstBy, firstOf, fit, scalarFrom, table-3-7, within, range, readFrom, utf8Pieces}
 use Rattle.utf.specs.Utf8Code.{firstAt, trailAt, isScalar}
 use Rattle.unicode.specs.Likely.{isControl, isTabOrLineEnd, likelyPiece, allLikely, likelyText}
+use Rattle.utf.specs.declared.likely.Character.the-variants.{Likely, Unlikely}
 use Rattle.utf.specs.LikelyCode.{LikelyAt}
 use Rattle.unicode.proofs.Reading.{read-cons}
 use Rattle.unicode.proofs.ScalarBytes.{utf8-one, utf8-two, utf8-three, utf8-four}
@@ -29,16 +30,12 @@ likely-next s e h =
     rw (drop-cons s e 0 h, read-cons firstOf (getD s e 0) (drop (suc e) s), drop-drop m (suc e) s, q)
 
 module _ (s : List ℕ) (e : ℕ) (h : e < length s) where
-  pub unlikely : likelyPiece (firstAt s e .piece) ≡ false → LikelyAt s e 0
-  unlikely q = record { none = λ z. likely-next s e h ∙ rw q; some = λ z. let o : ⊥ = omega arith in absurd o; fits = omega arith }
+  pub unlikely : likelyPiece (firstAt s e .piece) ≡ false → LikelyAt s e Unlikely
+  unlikely q = likely-next s e h ∙ rw q
 
-  pub likely : (n : ℕ) → n ≡ suc (firstAt s e .more) → likelyPiece (firstAt s e .piece) ≡ true → LikelyAt s e n
+  pub likely : (n : ℕ) → n ≡ suc (firstAt s e .more) → likelyPiece (firstAt s e .piece) ≡ true → LikelyAt s e (Likely n)
   unfolding firstAt
-  likely n k q = record {
-    none = λ z. let o : ⊥ = omega arith in absurd o;
-    some = λ z. likely-next s e h ∙ rw (q, k);
-    fits = omega (arith, more-length (getD s e 0) (drop (suc e) s), length-drop (suc e) s);
-  }
+  likely n k q = (omega arith, (omega (arith, more-length (getD s e 0) (drop (suc e) s), length-drop (suc e) s), likely-next s e h ∙ rw (q, k)))
 
 -- ---- ASCII
 

@@ -5,7 +5,7 @@ use mathlib.Core.List.{List, [], _∷_}
 use mathlib.Core.Logic.{⊎-elim}
 use mathlib.Core.Path.{_≡_, refl, sym, ap, _∙_}
 use native.Mathlib.Omega.{arith}
-use borrow.Author.Tests.{ltb-true, ltb-false, eqb-true, eqb-false}
+use borrow.Author.Tests.{ltb-true, ltb-false, ne-eqb}
 use borrow.Author.Count.{below-more}
 use lib.Dec.{ltb, eqb}
 use lib.ListN.{length, take, drop, getD, length-drop}
@@ -13,8 +13,8 @@ use lib.Seq.{drop-drop, getD-take, getD-drop, length-take-le}
 use Rattle.unicode.specs.Unicode.{Range, range, trail, within, table-3-7, utf8Text}
 use Rattle.unicode.proofs.Ranges.{outside}
 use Rattle.buffer.proofs.Writing.{next}
-use Rattle.utf.specs.Utf8Code.{trailAt, ranges, PieceAt, Good}
-use Rattle.utf.proofs.Utf8Laws.{Passed, dummy, past, short, step-row, step-ascii, step-none, stop-2}
+use Rattle.utf.specs.Utf8Code.{trailAt, ranges, lowestAfter, highestAfter, PieceAt, Good}
+use Rattle.utf.proofs.Utf8Laws.{Passed, dummy, past, short, step-row, step-ascii, step-none, stop-2, RowOf, row-of-3, row-of-4, lowest-least, highest-most}
 use Rattle.utf.proofs.Utf8Runs.{good-length, whole-next, broken-next}
 use Rattle.utf.proofs.Utf8BlockLaws.{neither}
 use Rattle.utf.specs.Lossy.{NoTrail, leads, Lone, PartLength}
@@ -43,37 +43,12 @@ narrow s j low high h k e = go (ltb j (length s))
 
 module _ (s : List ℕ) (e : within (getD s 1 0) trail ≡ false) where
   by-row : (k low high n : ℕ) → Passed table-3-7 k (getD s 0 0) → getD table-3-7 k dummy .trails ≡ ranges low high n → 0x80 ≤ low → high ≤ 0xBF → PieceAt s 0 1 false
-  by-row k low high n p q h l =
-      let t = stop-2 s 0 low high n (narrow s 1 low high h l e) in
-      step-row s 0 k low high n 1 false p q (t .0) (t .1)
+  by-row k low high n p q h l = (rw (ne-eqb 0 (suc n) (omega arith)) at (step-row s 0 k low high n 0 p q (stop-2 s 0 low high n (narrow s 1 low high h l e))))
 
-  lone-3 : 0xE0 ≤ getD s 0 0 → getD s 0 0 < 0xF0 → PieceAt s 0 1 false
-  unfolding ranges
-  lone-3 h l = go (eqb (getD s 0 0) 0xE0) (ltb (getD s 0 0) 0xED) (eqb (getD s 0 0) 0xED) refl refl refl
-    where
-      go : (t u v : Bool) → eqb (getD s 0 0) 0xE0 ≡ t → ltb (getD s 0 0) 0xED ≡ u → eqb (getD s 0 0) 0xED ≡ v → PieceAt s 0 1 false
-      go true u v p q r = let x = eqb-true (getD s 0 0) 0xE0 p in by-row 2 0xA0 0xBF 1 (omega arith) refl (omega arith) (omega arith)
-      go false true v p q r =
-          let x = eqb-false (getD s 0 0) 0xE0 p in
-          let y = ltb-true (getD s 0 0) 0xED q in
-          by-row 3 0x80 0xBF 1 (omega arith) refl (omega arith) (omega arith)
-      go false false true p q r = let x = eqb-true (getD s 0 0) 0xED r in by-row 4 0x80 0x9F 1 (omega arith) refl (omega arith) (omega arith)
-      go false false false p q r =
-          let x = eqb-false (getD s 0 0) 0xED r in
-          let y = ltb-false (getD s 0 0) 0xED q in
-          by-row 5 0x80 0xBF 1 (omega arith) refl (omega arith) (omega arith)
-
-  lone-4 : 0xF0 ≤ getD s 0 0 → getD s 0 0 < 0xF5 → PieceAt s 0 1 false
-  unfolding ranges
-  lone-4 h l = go (eqb (getD s 0 0) 0xF0) (eqb (getD s 0 0) 0xF4) refl refl
-    where
-      go : (t u : Bool) → eqb (getD s 0 0) 0xF0 ≡ t → eqb (getD s 0 0) 0xF4 ≡ u → PieceAt s 0 1 false
-      go true u p q = let x = eqb-true (getD s 0 0) 0xF0 p in by-row 6 0x90 0xBF 2 (omega arith) refl (omega arith) (omega arith)
-      go false true p q = let x = eqb-true (getD s 0 0) 0xF4 q in by-row 8 0x80 0x8F 2 (omega arith) refl (omega arith) (omega arith)
-      go false false p q =
-          let x = eqb-false (getD s 0 0) 0xF0 p in
-          let y = eqb-false (getD s 0 0) 0xF4 q in
-          by-row 7 0x80 0xBF 2 (omega arith) refl (omega arith) (omega arith)
+  by-row-of : (n : ℕ) → RowOf (getD s 0 0) n → PieceAt s 0 1 false
+  by-row-of n r =
+      let b : ℕ = getD s 0 0 in
+      by-row (r .k) (lowestAfter b) (highestAfter b) n (r .passed) (r .trails) (lowest-least b) (highest-most b)
 
   lone : 0xC0 ≤ getD s 0 0 → PieceAt s 0 1 false
   unfolding ranges
@@ -85,8 +60,8 @@ module _ (s : List ℕ) (e : within (getD s 1 0) trail ≡ false) where
           let x = ltb-false (getD s 0 0) 0xC2 p in
           let y = ltb-true (getD s 0 0) 0xE0 q in
           by-row 1 0x80 0xBF 0 (omega arith) refl (omega arith) (omega arith)
-      go false false true w p q r o = lone-3 (ltb-false (getD s 0 0) 0xE0 q) (ltb-true (getD s 0 0) 0xF0 r)
-      go false false false true p q r o = lone-4 (ltb-false (getD s 0 0) 0xF0 r) (ltb-true (getD s 0 0) 0xF5 o)
+      go false false true w p q r o = by-row-of 1 (row-of-3 (getD s 0 0) (ltb-false (getD s 0 0) 0xE0 q) (ltb-true (getD s 0 0) 0xF0 r))
+      go false false false true p q r o = by-row-of 2 (row-of-4 (getD s 0 0) (ltb-false (getD s 0 0) 0xF0 r) (ltb-true (getD s 0 0) 0xF5 o))
       go false false false false p q r o = let x = ltb-false (getD s 0 0) 0xF5 o in step-none s 0 9 (omega arith)
 
   -- the text of a byte that is no trail byte, where none follows

@@ -13,7 +13,7 @@ use lib.ListN.{length, getD, take, drop, length-take, length-drop}
 use lib.Seq.{getD-take, getD-drop, length-take-le}
 use Rattle.unicode.specs.Unicode.{Range, range, within, trail, table-3-7}
 use Rattle.unicode.proofs.Ranges.{never, inside, is-inside, is-above, outside}
-use Rattle.utf.specs.Utf8Code.{trailAt, ranges, PieceAt, TrailsAt, Good}
+use Rattle.utf.specs.Utf8Code.{trailAt, ranges, PieceAt, fitAfter, Good}
 use Rattle.utf.specs.Utf8Blocks.{wanted, Follows, Each, Joined, Ends, led}
 use Rattle.utf.proofs.Utf8Laws.{Passed, dummy, step-row, there, last-2, last-3, last-4}
 use Rattle.utf.proofs.Utf8Runs.{good-none, good-first, good-more, good-at}
@@ -163,25 +163,25 @@ unfolding trailAt
 stands s j low high h e = rw (lt-ltb j (length s) h) e
 
 module _ (s : List ℕ) (n : ℕ) (v : Lead (getD s 0 0) n) where
-  by-lead : (m : ℕ) → TrailsAt s 0 (v .low) (v .high) n m true → PieceAt s 0 m true
-  by-lead m t = step-row s 0 (v .k) (v .low) (v .high) n m true (v .passed) (v .trails) (t .0) (t .1)
+  by-lead : (m : ℕ) → m ≡ fitAfter s 0 (v .low) (v .high) n → PieceAt s 0 (suc m) (eqb m (suc n))
+  by-lead m e = step-row s 0 (v .k) (v .low) (v .high) n m (v .passed) (v .trails) e
 
 -- the bytes that end so make a sequence of two, three or four
 piece-2 : (d e : ℕ) (l : List ℕ) (v : Lead d 0) → within e (range (v .low) (v .high)) ≡ true → PieceAt (d ∷ e ∷ l) 0 2 true
 piece-2 d e l v h =
     let s : List ℕ = d ∷ e ∷ l in
-    by-lead s 0 v 2 (last-2 s 0 (v .low) (v .high) 0 (stands s 1 (v .low) (v .high) (omega arith) h) refl)
+    by-lead s 0 v 1 (last-2 s 0 (v .low) (v .high) 0 (stands s 1 (v .low) (v .high) (omega arith) h) refl)
 
 piece-3 : (d e f : ℕ) (l : List ℕ) (v : Lead d 1) → within e (range (v .low) (v .high)) ≡ true → within f trail ≡ true → PieceAt (d ∷ e ∷ f ∷ l) 0 3 true
 piece-3 d e f l v h k =
     let s : List ℕ = d ∷ e ∷ f ∷ l in
-    by-lead s 1 v 3 (last-3 s 0 (v .low) (v .high) 1 (stands s 1 (v .low) (v .high) (omega arith) h) (there s 2 (omega arith) k) refl)
+    by-lead s 1 v 2 (last-3 s 0 (v .low) (v .high) 1 (stands s 1 (v .low) (v .high) (omega arith) h) (there s 2 (omega arith) k) refl)
 
 piece-4 : (d e f g : ℕ) (l : List ℕ) (v : Lead d 2) → within e (range (v .low) (v .high)) ≡ true → within f trail ≡ true → within g trail ≡ true
     → PieceAt (d ∷ e ∷ f ∷ g ∷ l) 0 4 true
 piece-4 d e f g l v h k j =
     let s : List ℕ = d ∷ e ∷ f ∷ g ∷ l in
-    by-lead s 2 v 4 (last-4 s 0 (v .low) (v .high) 2 (stands s 1 (v .low) (v .high) (omega arith) h) (there s 2 (omega arith) k) (there s 3 (omega arith) j) refl)
+    by-lead s 2 v 3 (last-4 s 0 (v .low) (v .high) 2 (stands s 1 (v .low) (v .high) (omega arith) h) (there s 2 (omega arith) k) (there s 3 (omega arith) j) refl)
 
 -- ---- the law: n bytes that each follow the three before them are whole sequences, where a trail byte is wanted neither before them nor after them
 

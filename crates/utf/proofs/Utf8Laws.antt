@@ -7,12 +7,14 @@ use mathlib.Core.Path.{_≡_, refl, sym, ap, _∙_}
 use native.Mathlib.Omega.{arith}
 use native.Mathlib.Numerals.{add-one, add-two, add-three}
 use native.Mathlib.Nat.{not-suc-le-zero, le-of-suc-le-suc}
-use borrow.Author.Tests.{ltb-true, ltb-false, lt-ltb, le-ltb, le-leb, lt-leb, eq-eqb, ne-eqb}
+use borrow.Author.Tests.{ltb-true, ltb-false, lt-ltb, le-ltb, le-leb, lt-leb, eq-eqb, ne-eqb, eqb-true, eqb-false}
 use lib.Dec.{leb, ltb, eqb}
 use lib.ListN.{replicate, length, take, drop, getD, drop-of-length-le, length-replicate}
 use lib.Seq.{drop-cons, drop-nil}
 use Rattle.unicode.specs.Unicode.{Piece, scalar, malformed, utf8, pieceText, piecesText, Range, Sequence, range, sequence, trail, within, table-3-7, sequenceIn, fit, scalarFrom, First, firstBy, firstOf, utf8Pieces}
-use Rattle.utf.specs.Utf8Code.{trailAt, firstAt, isScalar, ranges, PieceAt, TrailsAt, Coded, Common}
+use Rattle.utf.specs.Utf8Code.{trailAt, firstAt, isScalar, ranges, PieceAt, fitAfter, lowestAfter, highestAfter, withFirst, Coded, Common}
+use Rattle.utf.specs.declared.utf8.Look.the-variants.{Known}
+use Rattle.utf.specs.declared.utf8.Standing.the-variants.{WellFormed, Malformed}
 use Rattle.unicode.specs.Unicode.{utf8Text}
 
 -- ---- which row of the table a byte begins
@@ -81,12 +83,12 @@ by-row : (s : List ℕ) (i : ℕ) (r : Sequence) → sequenceIn table-3-7 (getD 
 unfolding firstAt firstOf firstBy
 by-row s i r e n q = rw (e, q) (refl, sym (isScalar-cond (eqb (fit (r .trails) (drop (suc i) s)) (length (r .trails))) _))
 
-pub step-row : (s : List ℕ) (i k low high n len : ℕ) (ok : Bool) → Passed table-3-7 k (getD s i 0) → getD table-3-7 k dummy .trails ≡ ranges low high n
-    → len ≡ suc (fit (ranges low high n) (drop (suc i) s)) → ok ≡ eqb (fit (ranges low high n) (drop (suc i) s)) (suc n) → PieceAt s i len ok
+pub step-row : (s : List ℕ) (i k low high n m : ℕ) → Passed table-3-7 k (getD s i 0) → getD table-3-7 k dummy .trails ≡ ranges low high n
+    → m ≡ fitAfter s i low high n → PieceAt s i (suc m) (eqb m (suc n))
 unfolding ranges
-step-row s i k low high n len ok h e l o =
-    let q : suc n ≡ length (getD table-3-7 k dummy .trails) = ap suc (sym (length-replicate n trail)) ∙ ap length (sym e) in
-    rw (l, o, q, ← e) (by-row s i (getD table-3-7 k dummy) (row-at table-3-7 k (getD s i 0) h) (fit (getD table-3-7 k dummy .trails) (drop (suc i) s)) refl)
+step-row s i k low high n m h e q =
+    let p : suc n ≡ length (getD table-3-7 k dummy .trails) = ap suc (sym (length-replicate n trail)) ∙ ap length (sym e) in
+    rw p (by-row s i (getD table-3-7 k dummy) (row-at table-3-7 k (getD s i 0) h) m (q ∙ ap (λ (rs : List Range). fit rs (drop (suc i) s)) (sym e)))
 
 pub step-ascii : (s : List ℕ) (i : ℕ) → getD s i 0 < 128 → PieceAt s i 1 true
 unfolding fit
@@ -107,70 +109,125 @@ trail-fits : (s : List ℕ) (j n : ℕ) → trailAt s j 0x80 0xBF ≡ true → f
 trail-fits s j n e = rw (fit-at trail (replicate n trail) s j, e)
 
 module _ (s : List ℕ) (i low high n : ℕ) where
-  abbrev TrailsHere : ℕ → Bool → Type 0
-  TrailsHere = TrailsAt s i low high n
+  abbrev Fit : ℕ → Type 0
+  Fit m = m ≡ fitAfter s i low high n
 
-  broken : (m : ℕ) → fit (ranges low high n) (drop (suc i) s) ≡ m → m < suc n → TrailsHere (suc m) false
-  broken m e h = rw e (refl, sym (ne-eqb m (suc n) (omega arith)))
-
-  whole : (m : ℕ) → fit (ranges low high n) (drop (suc i) s) ≡ m → m ≡ suc n → TrailsHere (suc m) true
-  whole m e h = rw e (refl, sym (eq-eqb m (suc n) h))
-
-  pub stop-2 : trailAt s (i + 1) low high ≡ false → TrailsHere 1 false
+  pub stop-2 : trailAt s (i + 1) low high ≡ false → Fit 0
   unfolding ranges
-  stop-2 e = broken 0 (rw (fit-at (range low high) (replicate n trail) s (suc i), ← add-one i, e)) (omega arith)
+  stop-2 e = sym (rw (fit-at (range low high) (replicate n trail) s (suc i), ← add-one i, e))
 
   module _ (e1 : trailAt s (i + 1) low high ≡ true) where
-    first-fits : fit (ranges low high n) (drop (suc i) s) ≡ suc (fit (replicate n trail) (drop (i + 2) s))
+    first-fits : fitAfter s i low high n ≡ suc (fit (replicate n trail) (drop (i + 2) s))
     unfolding ranges
     first-fits = rw (add-two i, fit-at (range low high) (replicate n trail) s (suc i), ← add-one i, e1)
 
-    pub last-2 : n ≡ 0 → TrailsHere 2 true
+    pub last-2 : n ≡ 0 → Fit 1
     unfolding fit
-    last-2 z = whole 1 (first-fits ∙ rw z) (omega arith)
+    last-2 z = sym (first-fits ∙ rw z)
 
-    pub stop-3 : trailAt s (i + 2) 0x80 0xBF ≡ false → 0 < n → TrailsHere 2 false
-    stop-3 e2 h = broken 1 (first-fits ∙ ap suc (trail-stops s (i + 2) n e2)) (omega arith)
+    pub stop-3 : trailAt s (i + 2) 0x80 0xBF ≡ false → Fit 1
+    stop-3 e2 = sym (first-fits ∙ ap suc (trail-stops s (i + 2) n e2))
 
     module _ (e2 : trailAt s (i + 2) 0x80 0xBF ≡ true) where
-      second-fits : (m : ℕ) → n ≡ suc m → fit (ranges low high n) (drop (suc i) s) ≡ suc (suc (fit (replicate m trail) (drop (i + 3) s)))
+      second-fits : (m : ℕ) → n ≡ suc m → fitAfter s i low high n ≡ suc (suc (fit (replicate m trail) (drop (i + 3) s)))
       second-fits m z = first-fits ∙ ap suc (rw (z, trail-fits s (i + 2) m e2, add-two i, add-three i))
 
-      pub last-3 : n ≡ 1 → TrailsHere 3 true
+      pub last-3 : n ≡ 1 → Fit 2
       unfolding fit
-      last-3 z = whole 2 (second-fits 0 z) (omega arith)
+      last-3 z = sym (second-fits 0 z)
 
-      pub stop-4 : trailAt s (i + 3) 0x80 0xBF ≡ false → n ≡ 2 → TrailsHere 3 false
-      stop-4 e3 z = broken 2 (second-fits 1 z ∙ ap (λ (k : ℕ). suc (suc k)) (trail-stops s (i + 3) 1 e3)) (omega arith)
+      pub stop-4 : trailAt s (i + 3) 0x80 0xBF ≡ false → n ≡ 2 → Fit 2
+      stop-4 e3 z = sym (second-fits 1 z ∙ ap (λ (k : ℕ). suc (suc k)) (trail-stops s (i + 3) 1 e3))
 
-      pub last-4 : trailAt s (i + 3) 0x80 0xBF ≡ true → n ≡ 2 → TrailsHere 4 true
+      pub last-4 : trailAt s (i + 3) 0x80 0xBF ≡ true → n ≡ 2 → Fit 3
       unfolding fit
-      last-4 e3 z = whole 3 (second-fits 1 z ∙ ap (λ (k : ℕ). suc (suc k)) (trail-fits s (i + 3) 0 e3)) (omega arith)
+      last-4 e3 z = sym (second-fits 1 z ∙ ap (λ (k : ℕ). suc (suc k)) (trail-fits s (i + 3) 0 e3))
 
--- ---- findings as numbers
+-- no more fit than are wanted
+fit-count : (rs : List Range) (bs : List ℕ) → fit rs bs ≤ length rs
+unfolding fit
+fit-count [] bs = omega arith
+fit-count (r ∷ rs) [] = omega arith
+fit-count (r ∷ rs) (b ∷ bs) = go (within b r) (fit-count rs bs)
+  where
+    go : (t : Bool) → fit rs bs ≤ length rs → cond t (suc (fit rs bs)) zero ≤ suc (length rs)
+    go true h = omega arith
+    go false h = omega arith
 
-module _ {P : ℕ → Bool → Type 0} where
-  pub well-formed : (n : ℕ) → n < 8 → P n true → Coded P n
-  well-formed n h p = record { whole = λ k. p; broken = λ k. let z : ⊥ = omega arith in absurd z }
+pub fit-most : (s : List ℕ) (i low high n : ℕ) {m : ℕ} → m ≡ fitAfter s i low high n → m ≤ suc n
+unfolding ranges
+fit-most s i low high n e = omega (arith, e, fit-count (ranges low high n) (drop (suc i) s), length-replicate n trail)
 
-  pub ill-formed : (n : ℕ) → P n false → Coded P (n + 8)
-  ill-formed n p = record { whole = λ k. let z : ⊥ = omega arith in absurd z; broken = λ k. let e : n + 8 - 8 ≡ n = omega arith in rw e p }
+-- ---- the row of a first byte of three or four, by the lowest and the highest byte after it
 
-  pub recoded : {Q : ℕ → Bool → Type 0} {r : ℕ} → ((n : ℕ) (ok : Bool) → P n ok → Q n ok) → Coded P r → Coded Q r
-  recoded f d = record { whole = λ k. f _ _ (d .whole k); broken = λ k. f _ _ (d .broken k) }
+pub record RowOf (b n : ℕ) : Type 0 where
+  pub k : ℕ
+  pub passed : Passed table-3-7 k b
+  pub trails : getD table-3-7 k dummy .trails ≡ ranges (lowestAfter b) (highestAfter b) n
 
--- what a row of the table says, by the bytes after the first
-pub by-trails : (s : List ℕ) (i k low high n : ℕ) {r : ℕ} → Passed table-3-7 k (getD s i 0) → getD table-3-7 k dummy .trails ≡ ranges low high n
-    → Coded (TrailsAt s i low high n) r → Coded (PieceAt s i) r
-by-trails s i k low high n h e d = recoded (λ m ok t. step-row s i k low high n m ok h e (t .0) (t .1)) d
+pub row-of-3 : (b : ℕ) → 0xE0 ≤ b → b < 0xF0 → RowOf b 1
+unfolding ranges
+row-of-3 b h l = go (eqb b 0xE0) (ltb b 0xED) (eqb b 0xED) refl refl refl
+  where
+    go : (t u v : Bool) → eqb b 0xE0 ≡ t → ltb b 0xED ≡ u → eqb b 0xED ≡ v → RowOf b 1
+    go true u v p q r =
+        let x = eqb-true b 0xE0 p in
+        record { k = 2; passed = omega arith; trails = simp (p, ne-eqb b 0xED (omega arith), ne-eqb b 0xF4 (omega arith)) }
+    go false true v p q r =
+        let x = eqb-false b 0xE0 p in
+        let y = ltb-true b 0xED q in
+        record { k = 3; passed = omega arith; trails = simp (p, ne-eqb b 0xED (omega arith), ne-eqb b 0xF0 (omega arith), ne-eqb b 0xF4 (omega arith)) }
+    go false false true p q r =
+        let x = eqb-true b 0xED r in
+        record { k = 4; passed = omega arith; trails = simp (p, r, ne-eqb b 0xF0 (omega arith)) }
+    go false false false p q r =
+        let x = eqb-false b 0xED r in
+        let y = ltb-false b 0xED q in
+        record { k = 5; passed = omega arith; trails = simp (p, r, ne-eqb b 0xF0 (omega arith), ne-eqb b 0xF4 (omega arith)) }
+
+pub row-of-4 : (b : ℕ) → 0xF0 ≤ b → b < 0xF5 → RowOf b 2
+unfolding ranges
+row-of-4 b h l = go (eqb b 0xF0) (eqb b 0xF4) refl refl
+  where
+    go : (t u : Bool) → eqb b 0xF0 ≡ t → eqb b 0xF4 ≡ u → RowOf b 2
+    go true u p q =
+        let x = eqb-true b 0xF0 p in
+        record { k = 6; passed = omega arith; trails = simp (p, ne-eqb b 0xE0 (omega arith), ne-eqb b 0xED (omega arith), ne-eqb b 0xF4 (omega arith)) }
+    go false true p q =
+        let x = eqb-true b 0xF4 q in
+        record { k = 8; passed = omega arith; trails = simp (p, q, ne-eqb b 0xE0 (omega arith), ne-eqb b 0xED (omega arith)) }
+    go false false p q =
+        let x = eqb-false b 0xF0 p in
+        let y = eqb-false b 0xF4 q in
+        record { k = 7; passed = omega arith; trails = simp (p, q, ne-eqb b 0xE0 (omega arith), ne-eqb b 0xED (omega arith)) }
+
+pub lowest-least : (b : ℕ) → 0x80 ≤ lowestAfter b
+lowest-least b = go (eqb b 0xE0) (eqb b 0xF0)
+  where
+    go : (t u : Bool) → 0x80 ≤ cond t 0xA0 (cond u 0x90 0x80)
+    go true u = omega arith
+    go false true = omega arith
+    go false false = omega arith
+
+pub highest-most : (b : ℕ) → highestAfter b ≤ 0xBF
+highest-most b = go (eqb b 0xED) (eqb b 0xF4)
+  where
+    go : (t u : Bool) → cond t 0x9F (cond u 0x8F 0xBF) ≤ 0xBF
+    go true u = omega arith
+    go false true = omega arith
+    go false false = omega arith
+
+-- ---- what is found, by the bytes that fit after the first
+
+coded : (s : List ℕ) (i k : ℕ) (ok : Bool) → PieceAt s i k ok → Coded (PieceAt s i) (cond ok (WellFormed k) (Malformed k))
+coded s i k true p = p
+coded s i k false p = p
+
+pub by-trails : (s : List ℕ) (i k low high n m : ℕ) → Passed table-3-7 k (getD s i 0) → getD table-3-7 k dummy .trails ≡ ranges low high n
+    → m ≡ fitAfter s i low high n → Coded (PieceAt s i) (withFirst m (suc n))
+by-trails s i k low high n m h e q = coded s i (m + 1) (eqb m (suc n)) (rw (add-one m) (step-row s i k low high n m h e q))
 
 -- ---- the common sequences: two bytes, and three but for E0 and ED
-
-pub said-nothing : (s : List ℕ) (i : ℕ) → Common s i 0
-said-nothing s i = record { two = λ h. omega arith; three = omega arith; piece = λ h. let z : ⊥ = omega arith in absurd z }
-
-common : (s : List ℕ) (i n : ℕ) → 2 ≤ n → n ≤ 3 → PieceAt s i n true → Common s i n
-common s i n h k a = record { two = λ z. h; three = k; piece = λ z. a }
 
 -- a trail byte that is there
 pub there : (s : List ℕ) (j : ℕ) → j < length s → within (getD s j 0) trail ≡ true → trailAt s j 0x80 0xBF ≡ true
@@ -178,23 +235,17 @@ unfolding trailAt
 there s j h e = rw (lt-ltb j (length s) h) e
 
 module _ (s : List ℕ) (i : ℕ) (e1 : trailAt s (i + 1) 0x80 0xBF ≡ true) where
-  pub common-2 : 0xC2 ≤ getD s i 0 → getD s i 0 < 0xE0 → Common s i 2
+  pub common-2 : 0xC2 ≤ getD s i 0 → getD s i 0 < 0xE0 → Common s i (Known 2)
   unfolding ranges
-  common-2 h k =
-      let a = last-2 s i 0x80 0xBF 0 e1 refl in
-      common s i 2 (omega arith) (omega arith) (step-row s i 1 0x80 0xBF 0 2 true (omega arith) refl (a .0) (a .1))
+  common-2 h k = (omega arith, (omega arith, step-row s i 1 0x80 0xBF 0 1 (omega arith) refl (last-2 s i 0x80 0xBF 0 e1 refl)))
 
-  pub common-3 : trailAt s (i + 2) 0x80 0xBF ≡ true → 0xE1 ≤ getD s i 0 → getD s i 0 < 0xF0 → (getD s i 0 ≡ 0xED → ⊥) → Common s i 3
+  pub common-3 : trailAt s (i + 2) 0x80 0xBF ≡ true → 0xE1 ≤ getD s i 0 → getD s i 0 < 0xF0 → (getD s i 0 ≡ 0xED → ⊥) → Common s i (Known 3)
   unfolding ranges
-  common-3 e2 h k l = common s i 3 (omega arith) (omega arith) (go (ltb (getD s i 0) 0xED) refl)
+  common-3 e2 h k l = (omega arith, (omega arith, go (ltb (getD s i 0) 0xED) refl))
     where
-      a : TrailsAt s i 0x80 0xBF 1 3 true
+      a : 2 ≡ fitAfter s i 0x80 0xBF 1
       a = last-3 s i 0x80 0xBF 1 e1 e2 refl
 
       go : (t : Bool) → ltb (getD s i 0) 0xED ≡ t → PieceAt s i 3 true
-      go true p =
-          let q : getD s i 0 < 0xED = ltb-true (getD s i 0) 0xED p in
-          step-row s i 3 0x80 0xBF 1 3 true (omega arith) refl (a .0) (a .1)
-      go false p =
-          let q : 0xED ≤ getD s i 0 = ltb-false (getD s i 0) 0xED p in
-          step-row s i 5 0x80 0xBF 1 3 true (omega arith) refl (a .0) (a .1)
+      go true p = let q : getD s i 0 < 0xED = ltb-true (getD s i 0) 0xED p in step-row s i 3 0x80 0xBF 1 2 (omega arith) refl a
+      go false p = let q : 0xED ≤ getD s i 0 = ltb-false (getD s i 0) 0xED p in step-row s i 5 0x80 0xBF 1 2 (omega arith) refl a

@@ -7,13 +7,14 @@ use mathlib.Core.Path.{_≡_}
 use lib.ListN.{length, drop, getD}
 use Rattle.unicode.specs.Unicode.{scalar, within, range}
 use Rattle.unicode.specs.Likely.{likelyPiece, likelyText}
+use Rattle.utf.specs.declared.likely.Character.{Character}
+use Rattle.utf.specs.declared.likely.Character.the-variants.{Likely, Unlikely}
 use Rattle.utf.specs.Utf8Blocks.{Follows}
 
--- At e is a piece of n bytes that a likely text may have; or, where n is 0, one that it may not
-pub record LikelyAt (s : List ℕ) (e n : ℕ) : Type 0 where
-  pub none : n ≡ 0 → likelyText (drop e s) ≡ false
-  pub some : 0 < n → likelyText (drop e s) ≡ likelyText (drop (e + n) s)
-  pub fits : e + n ≤ length s
+-- at e is a piece of n bytes that a likely text may have, so that what follows it decides; or one that it may not have
+abbrev pub LikelyAt : List ℕ → ℕ → Character → Type 0
+LikelyAt s e (Likely n) = (0 < n) × ((e + n ≤ length s) × (likelyText (drop e s) ≡ likelyText (drop (e + n) s)))
+LikelyAt s e Unlikely = likelyText (drop e s) ≡ false
 
 -- The first n bytes of s are pieces that a likely text may have: what follows them decides
 pub record LikelyRun (n : ℕ) (s : List ℕ) : Type 0 where

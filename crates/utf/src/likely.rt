@@ -1,5 +1,6 @@
 // Likely text.
 use super::likely_blocks::likely_start;
+use super::utf8::Standing;
 use super::utf8::step_at;
 use super::utf8::trail_at;
 ghost use mathlib.Core.Path.{_≡_};
@@ -26,30 +27,34 @@ fn shown(b: u8) -> bool
     b < 0x7F
 }
 
-// The length of the character at e, or 0 where a likely text may not have it.
-fn likely_at(s: &[u8], e: usize) -> usize
+// The character at a place: one of so many bytes that a likely text may have, or what it may not have.
+enum Character {
+    Likely(usize),
+    Unlikely,
+}
+
+fn likely_at(s: &[u8], e: usize) -> Character
     requires { ⌜ e < length (now s) ⌝ }
     ensures { λ r. ⌜ LikelyAt (now (s .entry)) e r ⌝ }
 {
     let b = s[e];
     if b < 0x80 {
         if shown(b) {
-            return 1;
+            return Character::Likely(1);
         }
-        return 0;
+        return Character::Unlikely;
     }
-    let n = step_at(s, e);
-    if n >= 8 {
-        return 0;
-    }
+    let Standing::WellFormed(n) = step_at(s, e) else {
+        return Character::Unlikely;
+    };
     if b != 0xC2 {
-        return n;
+        return Character::Likely(n);
     }
     // U+0080 to U+009F
     if trail_at(s, e + 1, 0x80, 0x9F) {
-        return 0;
+        return Character::Unlikely;
     }
-    n
+    Character::Likely(n)
 }
 
 pub fn bytes_are_likely_text(s: &[u8]) -> bool
@@ -57,10 +62,9 @@ pub fn bytes_are_likely_text(s: &[u8]) -> bool
 {
     let mut e = likely_start(s);
     while e < s.len() {
-        let n = likely_at(s, e);
-        if n == 0 {
+        let Character::Likely(n) = likely_at(s, e) else {
             return false;
-        }
+        };
         e += n;
     }
     true

@@ -3,6 +3,8 @@ use super::ascii::ascii_run;
 use super::ascii::copy_ascii;
 use super::blocks::between;
 use super::blocks::good_blocks;
+use super::utf8::Look;
+use super::utf8::Standing;
 use super::utf8::common_at;
 use super::utf8::first_at;
 use super::utf8::run_of;
@@ -85,14 +87,16 @@ fn some_pieces(s: &[u8]) -> Part
         if s.len() <= i {
             return Part { bytes: i, len: n };
         }
-        let t = step_at(s, i);
-        if t < 8 {
-            i += t;
-            n += t;
-            continue;
+        match step_at(s, i) {
+            Standing::WellFormed(t) => {
+                i += t;
+                n += t;
+            }
+            Standing::Malformed(bad) => {
+                i += bad;
+                n += 3;
+            }
         }
-        i += t - 8;
-        n += 3;
     }
 }
 
@@ -150,35 +154,37 @@ fn begins_none(b: u8) -> bool
 }
 
 // Writes what stands at i, and returns what that is. A common sequence goes first, and first_at is called: the loop over this stays small.
-fn write_sequence(s: &[u8], i: usize, out: &mut [u8]) -> usize
+fn write_sequence(s: &[u8], i: usize, out: &mut [u8]) -> Standing
     requires { ⌜ (i < length (now s)) × (length (pieceText (firstAt (now s) i .piece)) ≤ length (now out)) ⌝ }
     ensures piece { λ r. ⌜ Coded (PieceAt (now (s .entry)) i) r ⌝ }
     ensures bytes { λ _. ⌜ now (out .exit) ≡ overwritten (pieceText (firstAt (now (s .entry)) i .piece)) (now (out .entry)) ⌝ }
 {
-    let m = common_at(s, i);
-    if m != 0 {
-        copy_common(s, i, m, out);
-        return m;
+    if let Look::Known(n) = common_at(s, i) {
+        copy_common(s, i, n, out);
+        return Standing::WellFormed(n);
     }
-    let n = first_at(s, i);
-    if n < 8 {
-        let e = i + n;
-        copy(&s[i..e], out);
-        return n;
+    match first_at(s, i) {
+        Standing::WellFormed(n) => {
+            let e = i + n;
+            copy(&s[i..e], out);
+            Standing::WellFormed(n)
+        }
+        Standing::Malformed(n) => {
+            write_replacement(out);
+            Standing::Malformed(n)
+        }
     }
-    write_replacement(out);
-    n
 }
 
 // The same, with a quick answer for a byte that no sequence begins with.
-fn write_piece(s: &[u8], i: usize, out: &mut [u8]) -> usize
+fn write_piece(s: &[u8], i: usize, out: &mut [u8]) -> Standing
     requires { ⌜ (i < length (now s)) × (length (pieceText (firstAt (now s) i .piece)) ≤ length (now out)) ⌝ }
     ensures piece { λ r. ⌜ Coded (PieceAt (now (s .entry)) i) r ⌝ }
     ensures bytes { λ _. ⌜ now (out .exit) ≡ overwritten (pieceText (firstAt (now (s .entry)) i .piece)) (now (out .entry)) ⌝ }
 {
     if begins_none(s[i]) {
         write_replacement(out);
-        return 9;
+        return Standing::Malformed(1);
     }
     write_sequence(s, i, out)
 }
@@ -198,17 +204,19 @@ fn write_some(s: &[u8], out: &mut [u8]) -> Part
         if s.len() <= i {
             return Part { bytes: i, len: o };
         }
-        let n = write_piece(s, i, &mut out[o..]);
-        if 8 <= n {
-            i += n - 8;
-            o += 3;
-            last = i;
-            continue;
-        }
-        i += n;
-        o += n;
-        if 64 <= i - last {
-            return Part { bytes: i, len: o };
+        match write_piece(s, i, &mut out[o..]) {
+            Standing::Malformed(replaced) => {
+                i += replaced;
+                o += 3;
+                last = i;
+            }
+            Standing::WellFormed(n) => {
+                i += n;
+                o += n;
+                if 64 <= i - last {
+                    return Part { bytes: i, len: o };
+                }
+            }
         }
     }
 }

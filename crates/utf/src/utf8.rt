@@ -7,7 +7,7 @@ ghost use mathlib.Core.Path.{_≡_};
 ghost use Prim.Native.Nat.{_<_};
 ghost use lib.ListN.{length};
 ghost use Rattle.unicode.specs.Unicode.{within, trail};
-ghost use Rattle.utf.specs.Utf8Code.{trailAt, Coded, PieceAt, TrailsAt, Common, Good, Stop};
+ghost use Rattle.utf.specs.Utf8Code.{trailAt, fitAfter, withFirst, lowestAfter, highestAfter, Coded, PieceAt, Common, Good, Stop};
 
 // The byte at j is there, and lies from low to high.
 pub fn trail_at(s: &[u8], j: usize, low: u8, high: u8) -> bool
@@ -22,87 +22,113 @@ pub fn trail_at(s: &[u8], j: usize, low: u8, high: u8) -> bool
     false
 }
 
-// The functions that follow say what they found as one number: the length of a well-formed sequence, or 8 and the length of a malformed part.
+// What stands at a place: a well-formed sequence of so many bytes, or a malformed part of so many.
+pub enum Standing {
+    WellFormed(usize),
+    Malformed(usize),
+}
 
-// The sequence of two bytes whose first stands at i.
-fn two_at(s: &[u8], i: usize) -> usize
+// The functions that follow say how many bytes fit after the first of a sequence, which stands at i: of one, two or three that it wants there. The
+// first of two or three has to lie from low to high.
+
+fn one_after(s: &[u8], i: usize) -> usize
     requires { ⌜ i < length (now s) ⌝ }
-    ensures { λ r. ⌜ Coded (TrailsAt (now (s .entry)) i 0x80 0xBF 0) r ⌝ }
+    ensures { λ r. ⌜ r ≡ fitAfter (now (s .entry)) i 0x80 0xBF 0 ⌝ }
 {
     if !trail_at(s, i + 1, 0x80, 0xBF) {
-        return 9;
+        return 0;
+    }
+    1
+}
+
+fn two_after(s: &[u8], i: usize, low: u8, high: u8) -> usize
+    requires { ⌜ i < length (now s) ⌝ }
+    ensures { λ r. ⌜ r ≡ fitAfter (now (s .entry)) i low high 1 ⌝ }
+{
+    if !trail_at(s, i + 1, low, high) {
+        return 0;
+    }
+    if !trail_at(s, i + 2, 0x80, 0xBF) {
+        return 1;
     }
     2
 }
 
-// The sequence of three bytes whose first stands at i, and wants a byte from low to high after it.
-fn three_at(s: &[u8], i: usize, low: u8, high: u8) -> usize
+fn three_after(s: &[u8], i: usize, low: u8, high: u8) -> usize
     requires { ⌜ i < length (now s) ⌝ }
-    ensures { λ r. ⌜ Coded (TrailsAt (now (s .entry)) i low high 1) r ⌝ }
+    ensures { λ r. ⌜ r ≡ fitAfter (now (s .entry)) i low high 2 ⌝ }
 {
     if !trail_at(s, i + 1, low, high) {
-        return 9;
+        return 0;
     }
     if !trail_at(s, i + 2, 0x80, 0xBF) {
-        return 10;
+        return 1;
+    }
+    if !trail_at(s, i + 3, 0x80, 0xBF) {
+        return 2;
     }
     3
 }
 
-// The sequence of four bytes whose first stands at i, and wants a byte from low to high after it.
-fn four_at(s: &[u8], i: usize, low: u8, high: u8) -> usize
-    requires { ⌜ i < length (now s) ⌝ }
-    ensures { λ r. ⌜ Coded (TrailsAt (now (s .entry)) i low high 2) r ⌝ }
+// The first byte of a sequence, with as many after it as fit.
+fn with_first(fit: usize, wanted: usize) -> Standing
+    requires { ⌜ fit < 4 ⌝ }
+    ensures { λ r. ⌜ r ≡ withFirst fit wanted ⌝ }
 {
-    if !trail_at(s, i + 1, low, high) {
-        return 9;
+    let len = fit + 1;
+    if fit == wanted {
+        return Standing::WellFormed(len);
     }
-    if !trail_at(s, i + 2, 0x80, 0xBF) {
-        return 10;
+    Standing::Malformed(len)
+}
+
+// The lowest and the highest byte that may follow b, which begins a sequence of three or four bytes.
+fn lowest_after(b: u8) -> u8
+    ensures { λ r. ⌜ r ≡ lowestAfter b ⌝ }
+{
+    if b == 0xE0 {
+        return 0xA0;
     }
-    if !trail_at(s, i + 3, 0x80, 0xBF) {
-        return 11;
+    if b == 0xF0 {
+        return 0x90;
     }
-    4
+    0x80
+}
+
+fn highest_after(b: u8) -> u8
+    ensures { λ r. ⌜ r ≡ highestAfter b ⌝ }
+{
+    if b == 0xED {
+        return 0x9F;
+    }
+    if b == 0xF4 {
+        return 0x8F;
+    }
+    0xBF
 }
 
 // What stands at i.
-pub fn first_at(s: &[u8], i: usize) -> usize
+pub fn first_at(s: &[u8], i: usize) -> Standing
     requires { ⌜ i < length (now s) ⌝ }
     ensures { λ r. ⌜ Coded (PieceAt (now (s .entry)) i) r ⌝ }
 {
     let b = s[i];
     if b < 0x80 {
-        return 1;
+        return Standing::WellFormed(1);
     }
     if b < 0xC2 {
-        return 9;
+        return Standing::Malformed(1);
     }
     if b < 0xE0 {
-        return two_at(s, i);
-    }
-    if b == 0xE0 {
-        return three_at(s, i, 0xA0, 0xBF);
-    }
-    if b < 0xED {
-        return three_at(s, i, 0x80, 0xBF);
-    }
-    if b == 0xED {
-        return three_at(s, i, 0x80, 0x9F);
+        return with_first(one_after(s, i), 1);
     }
     if b < 0xF0 {
-        return three_at(s, i, 0x80, 0xBF);
+        return with_first(two_after(s, i, lowest_after(b), highest_after(b)), 2);
     }
-    if b == 0xF0 {
-        return four_at(s, i, 0x90, 0xBF);
+    if b < 0xF5 {
+        return with_first(three_after(s, i, lowest_after(b), highest_after(b)), 3);
     }
-    if b < 0xF4 {
-        return four_at(s, i, 0x80, 0xBF);
-    }
-    if b == 0xF4 {
-        return four_at(s, i, 0x80, 0x8F);
-    }
-    9
+    Standing::Malformed(1)
 }
 
 fn is_trail(b: u8) -> bool
@@ -114,51 +140,56 @@ fn is_trail(b: u8) -> bool
     b <= 0xBF
 }
 
-// The length of a common sequence at i that is well-formed, or 0. It is small enough to be compiled into the loops that call it.
-pub fn common_at(s: &[u8], i: usize) -> usize
+// What a quick look finds: a well-formed sequence of so many bytes; or nothing that it can tell.
+pub enum Look {
+    Known(usize),
+    Unknown,
+}
+
+// A look for the sequences that are common. It is small enough to be compiled into the loops that call it.
+pub fn common_at(s: &[u8], i: usize) -> Look
     requires { ⌜ i < length (now s) ⌝ }
     ensures { λ r. ⌜ Common (now (s .entry)) i r ⌝ }
 {
     if s.len() - i < 3 {
-        return 0;
+        return Look::Unknown;
     }
     let b = s[i];
     let second = s[i + 1];
     let third = s[i + 2];
     if !is_trail(second) {
-        return 0;
+        return Look::Unknown;
     }
     if b < 0xE0 {
         if b < 0xC2 {
-            return 0;
+            return Look::Unknown;
         }
-        return 2;
+        return Look::Known(2);
     }
     if b >= 0xF0 {
-        return 0;
+        return Look::Unknown;
     }
     if b == 0xE0 {
-        return 0;
+        return Look::Unknown;
     }
     if b == 0xED {
-        return 0;
+        return Look::Unknown;
     }
     if is_trail(third) {
-        return 3;
+        return Look::Known(3);
     }
-    0
+    Look::Unknown
 }
 
 // What stands at i, by a quick look where that will do.
-pub fn step_at(s: &[u8], i: usize) -> usize
+pub fn step_at(s: &[u8], i: usize) -> Standing
     requires { ⌜ i < length (now s) ⌝ }
     ensures { λ r. ⌜ Coded (PieceAt (now (s .entry)) i) r ⌝ }
 {
-    let n = common_at(s, i);
-    if n != 0 {
-        return n;
+    match common_at(s, i) {
+        Look::Known(n) => Standing::WellFormed(n),
+        Look::Unknown => first_at(s, i),
     }
-    first_at(s, i)
 }
 
 // The length of a well-formed part at the beginning of s, by what is quick for a text that is not short.
@@ -192,10 +223,9 @@ pub fn run_of(s: &[u8]) -> Run
         if s.len() <= e {
             return Run { end: e, bad: 0 };
         }
-        let n = step_at(s, e);
-        if n >= 8 {
-            return Run { end: e, bad: n - 8 };
+        match step_at(s, e) {
+            Standing::WellFormed(n) => e += n,
+            Standing::Malformed(bad) => return Run { end: e, bad },
         }
-        e += n;
     }
 }

@@ -25,17 +25,23 @@ loop-holds c = c .likely-start .ensures
 likely-at-requires : tie.Need-likely-at-requires Inv-loop μ-loop
 likely-at-requires c κs = omega arith
 
+enum-known-n : tie.Need-enum-known-n Inv-loop μ-loop
+enum-known-n c = search needs
+
+enum-told : tie.Need-enum-told Inv-loop μ-loop
+enum-told c = search needs
+
 returns : tie.Need-returns Inv-loop μ-loop
-returns c = sym (c .before .before .before .loop .inv .same ∙ c .before .likely-at .ensures .none (c .if1 .taken))
+returns c = sym (c .before .before .before .before .loop .inv .same ∙ (rw (c .enum-told .given .1) at (c .before .before .likely-at .ensures)))
 
 add-e : tie.Need-add-e Inv-loop μ-loop
-add-e c = omega (arith, c .before .likely-at .ensures .fits)
+add-e c = let p = (rw (c .before .n .given .1) at (c .before .before .before .likely-at .ensures)) in omega (arith, p .1 .0)
 
 loop-less : tie.Need-loop-less Inv-loop μ-loop
-loop-less c = omega (arith, c .before .likely-at .ensures .fits, c .if1 .left)
+loop-less c = let p = (rw (c .before .n .given .1) at (c .before .before .before .likely-at .ensures)) in omega (arith, p .0, p .1 .0)
 
 loop-again : tie.Need-loop-again Inv-loop μ-loop
-loop-again c = likely-next-piece _ _ _ (c .before .before .before .loop .inv) (c .before .likely-at .ensures) (omega (arith, c .if1 .left))
+loop-again c = likely-next-piece _ _ _ (c .before .before .before .before .before .loop .inv) (rw (c .before .n .given .1) at (c .before .before .before .likely-at .ensures))
 
 returns-2 : tie.Need-returns-2 Inv-loop μ-loop
 returns-2 c = likely-end _ _ (c .loop-test .left) ∙ sym (c .before .loop .inv .same)
@@ -49,6 +55,8 @@ bytes-are-likely-text-spec =
     likely-start-requires
     loop-holds
     likely-at-requires
+    enum-known-n
+    enum-told
     returns
     add-e
     loop-less

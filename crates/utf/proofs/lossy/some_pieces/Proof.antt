@@ -6,6 +6,7 @@ use denote.Ref.{now}
 use lib.ListN.{length, drop}
 use Rattle.utf.proofs.Utf8Runs.{ascii-good-at, piece-fits, whole-next, broken-next}
 use Rattle.utf.specs.Lossy.{PartLength}
+use Rattle.utf.specs.Utf8Code.{PieceAt}
 use Rattle.utf.proofs.LossyLengths.{length-none, length-more, length-at, good-part}
 use borrow.Author.Needs.{needs}
 use native.Mathlib.Omega.{arith}
@@ -68,19 +69,25 @@ returns-2 c = (run (c .before), λ h. omega arith)
 step-at-requires : tie.Need-step-at-requires Inv-loop μ-loop
 step-at-requires c κs = omega arith
 
+enum-known-t : tie.Need-enum-known-t Inv-loop μ-loop
+enum-known-t c = search needs
+
 -- a well-formed piece
-module _ (c : tie.Then3 Inv-loop μ-loop) where
+module _ (c : tie.After-known-told Inv-loop μ-loop) where
   abbrev at₁ : tie.After-ascii-run Inv-loop μ-loop
-  at₁ = c .before .before .before
+  at₁ = c .before .before .before .before .before
 
   abbrev T₁ : ℕ
-  T₁ = c .before .step-at .result
+  T₁ = c .before .t .given .0 .0
+
+  piece₁ : PieceAt (S at₁) (I at₁) T₁ true
+  piece₁ = (rw (c .before .t .given .1) at (c .before .before .before .step-at .ensures))
 
   fits₁ : I at₁ + T₁ ≤ length (S at₁)
-  fits₁ = piece-fits (S at₁) (I at₁) _ true (c .before .before .if2 .left) (c .before .step-at .ensures .whole (c .if3 .taken))
+  fits₁ = piece-fits (S at₁) (I at₁) T₁ true (c .before .before .before .before .if2 .left) piece₁
 
   whole : PartLength (S at₁) (I at₁ + T₁) (N at₁ + T₁)
-  whole = length-at (S at₁) (I at₁) (N at₁) (run at₁) T₁ T₁ fits₁ (whole-next (S at₁) (I at₁) _ (c .before .before .if2 .left) (c .before .step-at .ensures .whole (c .if3 .taken))) (omega arith)
+  whole = length-at (S at₁) (I at₁) (N at₁) (run at₁) T₁ T₁ fits₁ (whole-next (S at₁) (I at₁) T₁ (c .before .before .before .before .if2 .left) piece₁) (omega arith)
 
 add-i-2 : tie.Need-add-i-2 Inv-loop μ-loop
 add-i-2 c = omega (arith, fits₁ c)
@@ -89,24 +96,30 @@ add-n-2 : tie.Need-add-n-2 Inv-loop μ-loop
 add-n-2 c = omega (arith, whole c .fits, whole c .most, limit (at₁ c))
 
 loop-less : tie.Need-loop-less Inv-loop μ-loop
-loop-less c = omega (arith, fits₁ c, c .before .step-at .ensures .whole (c .if3 .taken) .0)
+loop-less c = omega (arith, fits₁ c, piece₁ c .0)
 
 loop-again : tie.Need-loop-again Inv-loop μ-loop
 loop-again c = whole c
 
+enum-known-bad : tie.Need-enum-known-bad Inv-loop μ-loop
+enum-known-bad c = search needs
+
 -- a malformed part
-module _ (c : tie.Else3 Inv-loop μ-loop) where
+module _ (c : tie.After-known-told2 Inv-loop μ-loop) where
   abbrev at₂ : tie.After-ascii-run Inv-loop μ-loop
-  at₂ = c .before .before .before
+  at₂ = c .before .before .before .before .before
 
   abbrev T₂ : ℕ
-  T₂ = c .before .step-at .result - 8
+  T₂ = c .before .bad .given .0 .0
+
+  piece₂ : PieceAt (S at₂) (I at₂) T₂ false
+  piece₂ = (rw (c .before .bad .given .1) at (c .before .before .before .step-at .ensures))
 
   fits₂ : I at₂ + T₂ ≤ length (S at₂)
-  fits₂ = piece-fits (S at₂) (I at₂) _ false (c .before .before .if2 .left) (c .before .step-at .ensures .broken (c .if3 .left))
+  fits₂ = piece-fits (S at₂) (I at₂) T₂ false (c .before .before .before .before .if2 .left) piece₂
 
   broken : PartLength (S at₂) (I at₂ + T₂) (N at₂ + 3)
-  broken = length-at (S at₂) (I at₂) (N at₂) (run at₂) T₂ 3 fits₂ (broken-next (S at₂) (I at₂) _ (c .before .before .if2 .left) (c .before .step-at .ensures .broken (c .if3 .left))) (omega (arith, c .before .step-at .ensures .broken (c .if3 .left) .0))
+  broken = length-at (S at₂) (I at₂) (N at₂) (run at₂) T₂ 3 fits₂ (broken-next (S at₂) (I at₂) T₂ (c .before .before .before .before .if2 .left) piece₂) (omega (arith, piece₂ .0))
 
 add-i-3 : tie.Need-add-i-3 Inv-loop μ-loop
 add-i-3 c = omega (arith, fits₂ c)
@@ -115,7 +128,7 @@ add-n-3 : tie.Need-add-n-3 Inv-loop μ-loop
 add-n-3 c = omega (arith, broken c .fits, broken c .most, limit (at₂ c))
 
 loop-less-2 : tie.Need-loop-less-2 Inv-loop μ-loop
-loop-less-2 c = omega (arith, fits₂ c, c .before .step-at .ensures .broken (c .if3 .left) .0)
+loop-less-2 c = omega (arith, fits₂ c, piece₂ c .0)
 
 loop-again-2 : tie.Need-loop-again-2 Inv-loop μ-loop
 loop-again-2 c = broken c
@@ -136,10 +149,12 @@ some-pieces-spec =
     add-n
     returns-2
     step-at-requires
+    enum-known-t
     add-i-2
     add-n-2
     loop-less
     loop-again
+    enum-known-bad
     add-i-3
     add-n-3
     loop-less-2

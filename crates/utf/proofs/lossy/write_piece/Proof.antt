@@ -1,7 +1,6 @@
 -- `utf::lossy::write_piece` meets its contract. Assumes nothing.
 use mathlib.Core.Path.{refl, _∙_}
 use denote.Ref.{now}
-use Rattle.utf.proofs.Utf8Laws.{ill-formed}
 use Rattle.utf.proofs.Utf8Runs.{broken-text, broken-length}
 use native.Mathlib.Omega.{arith}
 use borrow.Author.Needs.{needs}
@@ -27,7 +26,7 @@ returns : tie.Need-returns
 returns c =
     let args = c .before .before .before .before .before .before .before .before .before .args in
     let p = c .before .before .before .before .before .begins-none .ensures (c .before .before .before .before .if1 .taken) (now (args .s)) (args .i) refl in
-    (ill-formed 1 p, c .before .before .write-replacement .ensures ∙ rw (broken-text (now (args .s)) (args .i) 1 p))
+    (p, c .before .before .write-replacement .ensures ∙ rw (broken-text (now (args .s)) (args .i) 1 p))
 
 write-sequence-requires : tie.Need-write-sequence-requires
 write-sequence-requires c κs = search needs
@@ -39,4 +38,14 @@ returns-2 : tie.Need-returns-2
 returns-2 c = c .before .before .write-sequence .ensures
 
 pub write-piece-spec : {M : Type 1} → statement M
-write-piece-spec = tie.close (tie.spec shared-slice-read-begins-none begins-none-requires write-replacement-requires same-length returns write-sequence-requires same-length-2 returns-2)
+write-piece-spec =
+    tie.close
+    (tie.spec
+    shared-slice-read-begins-none
+    begins-none-requires
+    write-replacement-requires
+    same-length
+    returns
+    write-sequence-requires
+    same-length-2
+    returns-2)

@@ -1,15 +1,16 @@
 -- `utf::lossy::write_some` meets its contract. The loop's invariant: the text of the bytes passed is written, o bytes. Assumes nothing.
 use Prim.Native.Nat.{ℕ, _+_, _-_, _^_, _≤_, _<_}
-use mathlib.Core.Bool.{true, false}
+use mathlib.Core.Bool.{Bool, true, false}
 use mathlib.Core.List.{List, _++_}
-use mathlib.Core.Path.{refl}
+use mathlib.Core.Path.{_≡_, refl, subst}
 use native.Mathlib.Omega.{arith}
+use borrow.Author.Needs.{needs}
 use denote.Ref.{now}
 use lib.ListN.{length, take, drop}
-use Rattle.unicode.specs.Unicode.{utf8Text}
+use Rattle.unicode.specs.Unicode.{pieceText, utf8Text}
 use Rattle.utf.specs.Lossy.{Wrote}
-use Rattle.utf.specs.Utf8Code.{firstAt, PieceAt, isScalar}
-use Rattle.utf.proofs.Utf8Runs.{piece-fits, whole-length, broken-length}
+use Rattle.utf.specs.Utf8Code.{firstAt, PieceAt, isScalar, Coded}
+use Rattle.utf.proofs.Utf8Runs.{whole-length, broken-length}
 use Rattle.utf.proofs.LossyWriting.{wrote-none, wrote-fits, wrote-room, wrote-lent, piece-room, piece-wrote}
 use Rattle.utf.proofs.lossy.write_some.Statement.{statement}
 use Rattle.utf.proofs.lossy.write_some.Tie as tie
@@ -108,61 +109,84 @@ module _ (c : tie.After-write-piece Inv-loop μ-loop) where
   abbrev at₁ : tie.After-copy-ascii Inv-loop μ-loop
   at₁ = c .before .before .before .before .before
 
-  abbrev R : ℕ
-  R = c .write-piece .result
-
   there : I at₁ < length (S (at at₁))
   there = c .before .before .if1 .left
+
+  abbrev Piece₁ : ℕ → Bool → Type 0
+  Piece₁ = PieceAt (S (at at₁)) (I at₁)
 
   abbrev Out₁ : List ℕ
   Out₁ = take (O at₁) (Out at₁) ++ (c .write-piece .last .1 .1 .0 ++ drop (length (Out at₁) - O at₁) (drop (O at₁) (Out at₁)))
 
-  module _ (h : 8 ≤ R) where
-    broken-piece : PieceAt (S (at at₁)) (I at₁) (R - 8) false
-    broken-piece = c .write-piece .ensures .0 .broken h
+  wrote : (n : ℕ) (ok : Bool) → Piece₁ n ok → (m : ℕ) → length (pieceText (firstAt (S (at at₁)) (I at₁) .piece)) ≡ m → Wrote (S (at at₁)) (D (at at₁)) Out₁ (I at₁ + n) (O at₁ + m)
+  wrote n ok p m e = piece-wrote (S (at at₁)) (D (at at₁)) (Out at₁) (I at₁) (O at₁) (w at₁) n ok there p _ (c .write-piece .ensures .1) m e
 
-    broken : Wrote (S (at at₁)) (D (at at₁)) Out₁ (I at₁ + (R - 8)) (O at₁ + 3)
-    broken = piece-wrote (S (at at₁)) (D (at at₁)) (Out at₁) (I at₁) (O at₁) (w at₁) (R - 8) false there broken-piece _ (c .write-piece .ensures .1) 3 (broken-length (S (at at₁)) (I at₁) (R - 8) broken-piece)
+enum-known-replaced : tie.Need-enum-known-replaced Inv-loop μ-loop
+enum-known-replaced c = search needs
 
-  module _ (h : R < 8) where
-    whole-piece : PieceAt (S (at at₁)) (I at₁) R true
-    whole-piece = c .write-piece .ensures .0 .whole h
+-- a malformed part
+module _ (c : tie.After-known-told Inv-loop μ-loop) where
+  abbrev at₂ : tie.After-write-piece Inv-loop μ-loop
+  at₂ = c .before .before .before .before .before
 
-    whole : Wrote (S (at at₁)) (D (at at₁)) Out₁ (I at₁ + R) (O at₁ + R)
-    whole = piece-wrote (S (at at₁)) (D (at at₁)) (Out at₁) (I at₁) (O at₁) (w at₁) R true there whole-piece _ (c .write-piece .ensures .1) R (whole-length (S (at at₁)) (I at₁) R there whole-piece)
+  abbrev N₂ : ℕ
+  N₂ = c .before .replaced .given .0 .0
+
+  piece₂ : Piece₁ at₂ N₂ false
+  piece₂ = subst (Coded (Piece₁ at₂)) (c .before .replaced .given .1) (at₂ .write-piece .ensures .0)
+
+  broken : Wrote (S (at (at₁ at₂))) (D (at (at₁ at₂))) (Out₁ at₂) (I (at₁ at₂) + N₂) (O (at₁ at₂) + 3)
+  broken = wrote at₂ N₂ false piece₂ 3 (broken-length (S (at (at₁ at₂))) (I (at₁ at₂)) N₂ piece₂)
 
 add-i-2 : tie.Need-add-i-2 Inv-loop μ-loop
-add-i-2 c = omega (arith, broken (c .before .before .before) (c .if2 .taken) .fits)
+add-i-2 c = omega (arith, broken c .fits)
 
 add-o-2 : tie.Need-add-o-2 Inv-loop μ-loop
-add-o-2 c = let d = c .before .before .before in omega (arith, broken d (c .if2 .taken) .filling .before, room (at (at₁ d)), small (at (at₁ d)))
+add-o-2 c = let d = at₁ (at₂ c) in omega (arith, broken c .filling .before, room (at d), small (at d))
 
 loop-less : tie.Need-loop-less Inv-loop μ-loop
-loop-less c = let d = c .before .before .before in omega (arith, broken d (c .if2 .taken) .fits, broken-piece d (c .if2 .taken) .0, there d)
+loop-less c = omega (arith, broken c .fits, piece₂ c .0, there (at₂ c))
 
 loop-again : tie.Need-loop-again Inv-loop μ-loop
-loop-again c = (broken (c .before .before .before) (c .if2 .taken), omega arith)
+loop-again c = (broken c, omega arith)
+
+enum-known-n : tie.Need-enum-known-n Inv-loop μ-loop
+enum-known-n c = search needs
+
+-- a well-formed sequence
+module _ (c : tie.After-known-told2 Inv-loop μ-loop) where
+  abbrev at₃ : tie.After-write-piece Inv-loop μ-loop
+  at₃ = c .before .before .before .before .before
+
+  abbrev N₃ : ℕ
+  N₃ = c .before .n .given .0 .0
+
+  piece₃ : Piece₁ at₃ N₃ true
+  piece₃ = subst (Coded (Piece₁ at₃)) (c .before .n .given .1) (at₃ .write-piece .ensures .0)
+
+  whole : Wrote (S (at (at₁ at₃))) (D (at (at₁ at₃))) (Out₁ at₃) (I (at₁ at₃) + N₃) (O (at₁ at₃) + N₃)
+  whole = wrote at₃ N₃ true piece₃ N₃ (whole-length (S (at (at₁ at₃))) (I (at₁ at₃)) N₃ (there at₃) piece₃)
 
 add-i-3 : tie.Need-add-i-3 Inv-loop μ-loop
-add-i-3 c = omega (arith, whole (c .before .before .before) (c .if2 .left) .fits)
+add-i-3 c = omega (arith, whole c .fits)
 
 add-o-3 : tie.Need-add-o-3 Inv-loop μ-loop
-add-o-3 c = let d = c .before .before .before in omega (arith, whole d (c .if2 .left) .filling .before, room (at (at₁ d)), small (at (at₁ d)))
+add-o-3 c = let d = at₁ (at₃ c) in omega (arith, whole c .filling .before, room (at d), small (at d))
 
-sub-if3 : tie.Need-sub-if3 Inv-loop μ-loop
-sub-if3 c = let d = c .before .before .before in omega (arith, at (at₁ d) .loop .inv .1)
+sub-if2 : tie.Need-sub-if2 Inv-loop μ-loop
+sub-if2 c = omega (arith, at (at₁ (at₃ c)) .loop .inv .1)
 
 same-length-2 : tie.Need-same-length-2 Inv-loop μ-loop
-same-length-2 c = whole (c .before .before .before .before) (c .before .if2 .left) .filling .long
+same-length-2 c = whole (c .before) .filling .long
 
 returns-2 : tie.Need-returns-2 Inv-loop μ-loop
-returns-2 c = let d = c .before .before .before .before in (whole d (c .before .if2 .left), λ h. omega (arith, whole-piece d (c .before .if2 .left) .0))
+returns-2 c = (whole (c .before), λ h. omega (arith, piece₃ (c .before) .0))
 
 loop-less-2 : tie.Need-loop-less-2 Inv-loop μ-loop
-loop-less-2 c = let d = c .before .before .before .before in omega (arith, whole d (c .before .if2 .left) .fits, whole-piece d (c .before .if2 .left) .0, there d)
+loop-less-2 c = omega (arith, whole (c .before) .fits, piece₃ (c .before) .0, there (at₃ (c .before)))
 
 loop-again-2 : tie.Need-loop-again-2 Inv-loop μ-loop
-loop-again-2 c = let d = c .before .before .before .before in (whole d (c .before .if2 .left), omega (arith, at (at₁ d) .loop .inv .1))
+loop-again-2 c = (whole (c .before), omega (arith, at (at₁ (at₃ (c .before))) .loop .inv .1))
 
 pub write-some-spec : {M : Type 1} → statement M
 write-some-spec =
@@ -186,13 +210,15 @@ write-some-spec =
     part-write-piece-start
     part-write-piece-end
     write-piece-requires
+    enum-known-replaced
     add-i-2
     add-o-2
     loop-less
     loop-again
+    enum-known-n
     add-i-3
     add-o-3
-    sub-if3
+    sub-if2
     same-length-2
     returns-2
     loop-less-2

@@ -1,7 +1,7 @@
 -- `utf::utf8::common_at` meets its contract. Assumes nothing.
 use mathlib.Core.Path.{sym, _∙_}
 use borrow.Author.Tests.{not-false}
-use Rattle.utf.proofs.Utf8Laws.{said-nothing, there, common-2, common-3}
+use Rattle.utf.proofs.Utf8Laws.{there, common-2, common-3}
 use native.Mathlib.Omega.{arith}
 use borrow.Author.Needs.{needs}
 use Rattle.utf.proofs.utf8.common_at.Statement.{statement}
@@ -11,7 +11,7 @@ sub-if1 : tie.Need-sub-if1
 sub-if1 c = search needs
 
 returns : tie.Need-returns
-returns c = said-nothing _ _
+returns c = tt
 
 shared-slice-read-b : tie.Need-shared-slice-read-b
 shared-slice-read-b c = search needs
@@ -32,22 +32,22 @@ is-trail-requires : tie.Need-is-trail-requires
 is-trail-requires c κs = search needs
 
 returns-2 : tie.Need-returns-2
-returns-2 c = said-nothing _ _
+returns-2 c = tt
 
 returns-3 : tie.Need-returns-3
-returns-3 c = said-nothing _ _
+returns-3 c = tt
 
 returns-4 : tie.Need-returns-4
 returns-4 c = common-2 _ _ (there _ _ (omega (arith, c .before .before .before .before .before .before .before .if1 .left)) (sym (c .before .before .before .is-trail .ensures) ∙ not-false _ (c .before .before .if2 .left))) (c .if4 .left) (c .before .if3 .taken)
 
 returns-5 : tie.Need-returns-5
-returns-5 c = said-nothing _ _
+returns-5 c = tt
 
 returns-6 : tie.Need-returns-6
-returns-6 c = said-nothing _ _
+returns-6 c = tt
 
 returns-7 : tie.Need-returns-7
-returns-7 c = said-nothing _ _
+returns-7 c = tt
 
 is-trail-requires-2 : tie.Need-is-trail-requires-2
 is-trail-requires-2 c κs = search needs
@@ -58,7 +58,7 @@ returns-8 c =
     (omega (arith, c .before .before .before .before .before .if3 .left, c .before .before .before .if6 .left)) (c .before .before .before .before .if5 .left) (c .before .before .if7 .left)
 
 returns-9 : tie.Need-returns-9
-returns-9 c = said-nothing _ _
+returns-9 c = tt
 
 pub common-at-spec : {M : Type 1} → statement M
 common-at-spec =

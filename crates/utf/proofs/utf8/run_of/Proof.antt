@@ -1,9 +1,11 @@
 -- `utf::utf8::run_of` meets its contract. The loop's invariant: the first e bytes are well-formed. Assumes nothing.
 use Prim.Native.Nat.{ℕ, _+_, _-_}
+use mathlib.Core.Bool.{true}
+use mathlib.Core.List.{List}
 use mathlib.Core.Path.{sym}
 use denote.Ref.{now}
 use lib.ListN.{length}
-use Rattle.utf.specs.Utf8Code.{Good}
+use Rattle.utf.specs.Utf8Code.{PieceAt, Good}
 use Rattle.utf.proofs.Utf8Runs.{good-more, good-at, stop-at, stop-end, ascii-good-at}
 use borrow.Author.Needs.{needs}
 use native.Mathlib.Omega.{arith}
@@ -47,25 +49,45 @@ returns c = (ascii (c .before), stop-end _ _ (ascii (c .before)) (c .if1 .taken)
 step-at-requires : tie.Need-step-at-requires Inv-loop μ-loop
 step-at-requires c κs = omega arith
 
-returns-2 : tie.Need-returns-2 Inv-loop μ-loop
-returns-2 c =
-    let p = c .before .step-at .ensures .broken (c .if2 .taken) in
-    (ascii (c .before .before .before), stop-at _ _ _ (c .before .before .if1 .left) (p .0) (sym (p .1)))
+enum-known-n : tie.Need-enum-known-n Inv-loop μ-loop
+enum-known-n c = search needs
 
--- with the sequence after it
-more : (c : tie.Else2 Inv-loop μ-loop) → Good (c .before .before .before .before .before .loop .e + c .before .before .before .ascii-run .result + c .before .step-at .result) (now (c .before .before .before .before .before .before .before .before .args .s))
-more c =
-    let p = c .before .step-at .ensures .whole (c .if2 .left) in
-    good-more _ _ _ (ascii (c .before .before .before)) (good-at _ _ _ (c .before .before .if1 .left) (p .0) (sym (p .1)))
+-- the sequence at e, and what is well-formed with it
+module _ (c : tie.After-known-told Inv-loop μ-loop) where
+  abbrev at₁ : tie.After-ascii-run Inv-loop μ-loop
+  at₁ = c .before .before .before .before .before
+
+  abbrev S : List ℕ
+  S = now (at₁ .before .before .before .before .before .args .s)
+
+  abbrev E : ℕ
+  E = at₁ .before .before .loop .e + at₁ .ascii-run .result
+
+  abbrev N : ℕ
+  N = c .before .n .given .0 .0
+
+  piece : PieceAt S E N true
+  piece = (rw (c .before .n .given .1) at (c .before .before .before .step-at .ensures))
+
+  more : Good (E + N) S
+  more = good-more E N S (ascii at₁) (good-at S E N (c .before .before .before .before .if1 .left) (piece .0) (sym (piece .1)))
 
 add-e-2 : tie.Need-add-e-2 Inv-loop μ-loop
 add-e-2 c = omega (arith, more c .fits)
 
 loop-less : tie.Need-loop-less Inv-loop μ-loop
-loop-less c = omega (arith, more c .fits, c .before .step-at .ensures .whole (c .if2 .left) .0)
+loop-less c = omega (arith, more c .fits, piece c .0)
 
 loop-again : tie.Need-loop-again Inv-loop μ-loop
 loop-again c = more c
+
+enum-known-bad : tie.Need-enum-known-bad Inv-loop μ-loop
+enum-known-bad c = search needs
+
+returns-2 : tie.Need-returns-2 Inv-loop μ-loop
+returns-2 c =
+    let p = (rw (c .before .bad .given .1) at (c .before .before .before .step-at .ensures)) in
+    (ascii (c .before .before .before .before .before), stop-at _ _ _ (c .before .before .before .before .if1 .left) (p .0) (sym (p .1)))
 
 pub run-of-spec : {M : Type 1} → statement M
 run-of-spec =
@@ -82,7 +104,9 @@ run-of-spec =
     add-e
     returns
     step-at-requires
-    returns-2
+    enum-known-n
     add-e-2
     loop-less
-    loop-again)
+    loop-again
+    enum-known-bad
+    returns-2)

@@ -1,4 +1,4 @@
--- `utf::utf8::three_at` meets its contract: each answer by the trail bytes that were found there. Assumes nothing.
+-- `utf::utf8::two_after` meets its contract: each answer by the bytes that were found to fit. Assumes nothing.
 use mathlib.Core.Path.{_≡_, refl, sym, _∙_}
 use mathlib.Core.Bool.{Bool, true}
 use Prim.Native.Nat.{_+_}
@@ -7,9 +7,9 @@ use denote.Ref.{now}
 use borrow.Author.Needs.{needs}
 use borrow.Author.Tests.{not-true, not-false}
 use Rattle.utf.specs.Utf8Code.{trailAt}
-use Rattle.utf.proofs.Utf8Laws.{stop-2, stop-3, last-3, well-formed, ill-formed}
-use Rattle.utf.proofs.utf8.three_at.Statement.{statement}
-use Rattle.utf.proofs.utf8.three_at.Tie as tie
+use Rattle.utf.proofs.Utf8Laws.{stop-2, stop-3, last-3}
+use Rattle.utf.proofs.utf8.two_after.Statement.{statement}
+use Rattle.utf.proofs.utf8.two_after.Tie as tie
 
 -- the second byte fits
 one : (c : tie.Else1) → _≡_ {A = Bool} (trailAt (now (c .before .before .before .args .s)) (c .before .before .before .args .i + 1) (c .before .before .before .args .low) (c .before .before .before .args .high)) true
@@ -22,7 +22,7 @@ trail-at-requires : tie.Need-trail-at-requires
 trail-at-requires c κs = search needs
 
 returns : tie.Need-returns
-returns c = ill-formed 1 (stop-2 _ _ _ _ _ (sym (c .before .trail-at .ensures) ∙ not-true _ (c .if1 .taken)))
+returns c = stop-2 _ _ _ _ _ (sym (c .before .trail-at .ensures) ∙ not-true _ (c .if1 .taken))
 
 add-trail-at-2 : tie.Need-add-trail-at-2
 add-trail-at-2 c = search needs
@@ -31,10 +31,10 @@ trail-at-requires-2 : tie.Need-trail-at-requires-2
 trail-at-requires-2 c κs = search needs
 
 returns-2 : tie.Need-returns-2
-returns-2 c = ill-formed 2 (stop-3 _ _ _ _ _ (one (c .before .before)) (sym (c .before .trail-at2 .ensures) ∙ not-true _ (c .if2 .taken)) (omega arith))
+returns-2 c = stop-3 _ _ _ _ _ (one (c .before .before)) (sym (c .before .trail-at2 .ensures) ∙ not-true _ (c .if2 .taken))
 
 returns-3 : tie.Need-returns-3
-returns-3 c = well-formed 3 (omega arith) (last-3 _ _ _ _ _ (one (c .before .before)) (sym (c .before .trail-at2 .ensures) ∙ not-false _ (c .if2 .left)) refl)
+returns-3 c = last-3 _ _ _ _ _ (one (c .before .before)) (sym (c .before .trail-at2 .ensures) ∙ not-false _ (c .if2 .left)) refl
 
-pub three-at-spec : {M : Type 1} → statement M
-three-at-spec = tie.close (tie.spec add-trail-at trail-at-requires returns add-trail-at-2 trail-at-requires-2 returns-2 returns-3)
+pub two-after-spec : {M : Type 1} → statement M
+two-after-spec = tie.close (tie.spec add-trail-at trail-at-requires returns add-trail-at-2 trail-at-requires-2 returns-2 returns-3)

@@ -1,7 +1,8 @@
 // Inner. The text of a packed decimal: how long it is, and writing it into a lent buffer. It refuses nothing: its callers hand it 1 to 128
 // bytes and room for the text. It checks no digit and no sign (specs/Denoted.antt says which bytes are a number of z/Architecture).
 ghost use mathlib.Core.Path.{_≡_};
-ghost use Prim.Native.Nat.{_+_, _-_, _*_, _<_, _≤_};
+ghost use mathlib.Core.List.{List};
+ghost use Prim.Native.Nat.{ℕ, _+_, _-_, _*_, _<_, _≤_};
 ghost use lib.Dec.{eqb};
 ghost use lib.ListN.{length, take, getD};
 ghost use lib.Seq.{slice};
@@ -170,9 +171,9 @@ fn whole_write(data: &[u8], w: usize, out: &mut [u8]) -> usize
 }
 
 // The point and the fraction digits, where there are any.
-fn fraction_len(data: &[u8], scale: usize) -> usize
+fn fraction_len(scale: usize) -> usize
     requires { ⌜ scale < 256 ⌝ }
-    ensures { λ r. ⌜ (r ≡ length (fraction scale (digitText (now («data» .entry))))) × (r < 257) ⌝ }
+    ensures { λ r. ⌜ ((ds : List ℕ) → r ≡ length (fraction scale ds)) × (r < 257) ⌝ }
 {
     if scale == 0 {
         return 0;
@@ -203,7 +204,7 @@ pub fn decimal_len(data: &[u8], scale: u8) -> usize
 {
     let f = wide(scale);
     let w = above(2 * data.len() - 1, f);
-    sign_len(data) + whole_len(data, w) + fraction_len(data, f)
+    sign_len(data) + whole_len(data, w) + fraction_len(f)
 }
 
 // Writes it into out, from its first byte, and returns the number of bytes written.

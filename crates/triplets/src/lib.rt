@@ -4,7 +4,8 @@ use column::EnvEntry;
 use column::Said;
 use types::ColumnDescriptor;
 ghost use mathlib.Core.Path.{_≡_};
-ghost use Prim.Native.Nat.{_+_, _≤_, _<_};
+ghost use mathlib.Core.List.{List};
+ghost use Prim.Native.Nat.{ℕ, _+_, _≤_, _<_};
 ghost use lib.ListN.{length, getD};
 ghost use lib.Seq.{slice};
 ghost use Rattle.column.specs.Column.{sdaColumn};
@@ -163,9 +164,10 @@ fn outer_step(data: &[u8], at: usize, pending: Pending) -> Step
     })
 }
 
-fn lid_step(data: &[u8], at: usize, end: usize) -> Step
-    requires { ⌜ (at ≤ end) × (end ≤ length (now «data»)) ⌝ }
-    ensures { λ r. ⌜ Leads (now («data» .entry)) (Cursor.Lids at end) r ⌝ }
+// What it says holds of every description that is long enough.
+fn lid_step(at: usize, end: usize) -> Step
+    requires { ⌜ at ≤ end ⌝ }
+    ensures { λ r. ⌜ ((s : List ℕ) → end ≤ length s → Leads s (Cursor.Lids at end) r) ⌝ }
 {
     if end - at < 3 {
         return Step::Skip(Cursor::Outer {
@@ -173,8 +175,9 @@ fn lid_step(data: &[u8], at: usize, end: usize) -> Step
             pending: Pending::Nothing,
         });
     }
+    let after = at + 3;
     Step::Column {
-        next: Cursor::Lids { at: at + 3, end },
+        next: Cursor::Lids { at: after, end },
         source: Source::Lid { start: at },
     }
 }
@@ -208,7 +211,7 @@ pub fn next_step(data: &[u8], cursor: Cursor) -> Step
 {
     match cursor {
         Cursor::Outer { at, pending } => outer_step(data, at, pending),
-        Cursor::Lids { at, end } => lid_step(data, at, end),
+        Cursor::Lids { at, end } => lid_step(at, end),
         Cursor::Inner { at, end } => inner_step(data, at, end),
     }
 }

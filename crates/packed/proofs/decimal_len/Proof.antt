@@ -50,6 +50,7 @@ returns c =
       ap length (parts (args .scale) s (a .above .result) (wide .result) (wide .ensures .0) (a .above .ensures)),
       length-append (signText s) (w ++ f),
       length-append w f,
+      c .fraction-len .ensures .0 (digitText s),
     )
 
 pub decimal-len-spec : {M : Type 1} → statement M

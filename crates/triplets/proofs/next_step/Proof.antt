@@ -13,7 +13,7 @@ enum-known-cursor-2 : tie.Need-enum-known-cursor-2
 enum-known-cursor-2 c = search needs
 
 lid-step-requires : tie.Need-lid-step-requires
-lid-step-requires c κs = (rw (c .before .cursor2 .given .1) at (c .before .before .before .before .pre))
+lid-step-requires c κs = (rw (c .before .cursor2 .given .1) at (c .before .before .before .before .pre)) .0
 
 enum-known-cursor-3 : tie.Need-enum-known-cursor-3
 enum-known-cursor-3 c = search needs
@@ -25,7 +25,9 @@ returns : tie.Need-returns
 returns c = rw (c .before .before .cursor .given .1) (c .outer-step .ensures)
 
 returns-2 : tie.Need-returns-2
-returns-2 c = rw (c .before .before .cursor2 .given .1) (c .lid-step .ensures)
+returns-2 c =
+    let h = (rw (c .before .before .cursor2 .given .1) at (c .before .before .before .before .before .pre)) in
+    rw (c .before .before .cursor2 .given .1) (c .lid-step .ensures _ (h .1))
 
 returns-3 : tie.Need-returns-3
 returns-3 c = rw (c .before .before .cursor3 .given .1) (c .inner-step .ensures)

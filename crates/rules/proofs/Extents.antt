@@ -23,7 +23,8 @@ use Rattle.numbers.proofs.Laws.{take-first}
 use Rattle.rules.specs.declared.Extent.{Extent}
 use Rattle.rules.specs.declared.Extent.the-variants.{Fixed, Counted, Header, Inline, Locator, Materialized}
 use Rattle.types.specs.Names.{low15, isAbsent}
-use Rattle.rules.specs.Extent.{be16, be32, referenceMark, isReference, isShortReference, saysHeader, hexDigits, lobNeed, need, graphicUnit, lobExtent, typeExtent, extentOf}
+use Rattle.types.specs.Names.{graphicUnit}
+use Rattle.rules.specs.Extent.{be16, be32, referenceMark, isReference, isShortReference, saysHeader, hexDigits, lobNeed, need, lobExtent, typeExtent, extentOf}
 use Rattle.rules.specs.OwnEnd.{isLongMaterialized, isLobOfLength0, isTinyHeader, carriesOwnEnd}
 use Rattle.rules.proofs.Tests.{lt-or-le, is-false, not-true, and-left, and-right, and-false, or-left}
 

@@ -7,7 +7,7 @@ use mathlib.Core.List.{List, [], _∷_}
 use lib.ListN.{length, take, getD}
 use lib.Dec.{ltb, leb, eqb}
 use Rattle.types.specs.FixedLength.{packedLength}
-use Rattle.types.specs.Names.{bit8000, low15, graphicLengthIsCharacterCount}
+use Rattle.types.specs.Names.{bit8000, low15, graphicUnit}
 use Rattle.types.specs.declared.Db2Type.{Db2Type}
 use Rattle.types.specs.declared.Db2Type.the-variants as type
 use Rattle.types.specs.declared.ByteOrder.the-variants.{BigEndian}
@@ -60,10 +60,6 @@ need (Header n) s = cond (saysHeader s) (2 + low15 (be16 s)) n
 need Inline s = lobNeed (4 + be32 s) s
 need Locator s = lobNeed 4 s
 need (Materialized n) s = cond (isShortReference n s) (length s) n
-
--- term: W3. The bytes of a unit of a graphic column
-abbrev pub graphicUnit : ColumnDescriptor → ℕ
-graphicUnit c = cond (graphicLengthIsCharacterCount c) 2 1
 
 -- VarChar and VarGraphic: with bit 8000 the value is a header of a LOB that is outside the row
 abbrev pub varyingExtent : ℕ → ℕ → Extent

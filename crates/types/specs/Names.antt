@@ -1,6 +1,6 @@
 -- A type's name, the numbers that it holds, and the two parts of a length; whether a type is one of a list of types by name, whatever its numbers; tests of columns. Assumes nothing.
 use Prim.Native.Nat.{ℕ, _+_, _*_, _%_, _^_}
-use mathlib.Core.Bool.{Bool, true, false, _&&_, _||_}
+use mathlib.Core.Bool.{Bool, true, false, cond, _&&_, _||_}
 use mathlib.Core.List.{List, [], _∷_}
 use lib.Dec.{leb, eqb}
 use Rattle.types.specs.declared.Db2Type.{Db2Type}
@@ -101,3 +101,6 @@ isLittleEndian LittleEndian = true
 -- term: W3. The units of a graphic column have two bytes, not one
 abbrev pub graphicLengthIsCharacterCount : ColumnDescriptor → Bool
 graphicLengthIsCharacterCount c = isLittleEndian (c .«byte_order») && eqb (c .ccsid) 1200
+
+abbrev pub graphicUnit : ColumnDescriptor → ℕ
+graphicUnit c = cond (graphicLengthIsCharacterCount c) 2 1

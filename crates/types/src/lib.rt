@@ -4,7 +4,7 @@ use refusal::Outcome;
 ghost use mathlib.Core.Path.{_≡_};
 ghost use Rattle.types.specs.Types.{fromDrdaType};
 ghost use Rattle.types.specs.FixedLength.{toldLength, fixedLength};
-ghost use Rattle.types.specs.Names.{graphicLengthIsCharacterCount, isDecFloat};
+ghost use Rattle.types.specs.Names.{graphicLengthIsCharacterCount, graphicUnit, isDecFloat};
 ghost use Rattle.types.specs.Kinds.{kindIn, ofKind};
 
 // How many columns a list has places for. specs/Places.antt calls it maxColumns.
@@ -378,6 +378,16 @@ impl ColumnDescriptor {
             ByteOrder::BigEndian => false,
             ByteOrder::LittleEndian => self.ccsid == 1200,
         }
+    }
+
+    // The bytes of a unit that a length of a graphic column counts: of a character, or one.
+    pub fn graphic_unit(self) -> usize
+        ensures { λ r. ⌜ r ≡ graphicUnit self ⌝ }
+    {
+        if self.graphic_length_is_character_count() {
+            return 2;
+        }
+        1
     }
 
     // Whether the column is of type DecFloat, which the row call refuses.

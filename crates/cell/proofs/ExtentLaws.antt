@@ -20,7 +20,8 @@ use Rattle.rules.specs.declared.Extent.{Extent}
 use Rattle.rules.specs.declared.Extent.the-variants.{Fixed, Counted, Header, Inline, Locator, Materialized}
 use Rattle.numbers.specs.Number.{base256, unsigned}
 use Rattle.types.specs.Names.{bit8000, low15, graphicLengthIsCharacterCount}
-use Rattle.rules.specs.Extent.{be16, be32, isReference, isHexDigit, hexDigits, isShortReference, saysHeader, lobNeed, need, graphicUnit, varyingExtent, lobExtent, lengthExtent, typeExtent}
+use Rattle.types.specs.Names.{graphicUnit}
+use Rattle.rules.specs.Extent.{be16, be32, isReference, isHexDigit, hexDigits, isShortReference, saysHeader, lobNeed, need, varyingExtent, lobExtent, lengthExtent, typeExtent}
 use Rattle.cell.specs.Inner.{unitSize, sizeOf, mostSize, mostNeed}
 
 pub hex-step : (s : List ℕ) (i : ℕ) (t : Bool) → i < length s → isHexDigit (getD s i 0) ≡ t → hexDigits (drop i s) ≡ cond t 1 0 + hexDigits (drop (i + 1) s)

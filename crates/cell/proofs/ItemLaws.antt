@@ -106,12 +106,6 @@ module _ (r : ReferenceLength) (s : List ℕ) where
   pub absent-xml : need (lobExtent r Inline) s ≡ length s → r ≡ Absent → 4 ≤ length s
   absent-xml h a = inline-there s (subst (λ (x : ReferenceLength). need (lobExtent x Inline) s ≡ length s) a h)
 
--- a number, of all bytes
-pub number-holds : (f : List ℕ → RowNumber) (n : ℕ) (s : List ℕ) (v : Db2Value) → need (Fixed n) s ≡ length s → v ≡ numberValue (f (take n s))
-    → Holds (cell.Number v) s (Item.numeric (f s))
-unfolding need
-number-holds f n s v h e = (f s, (refl, e ∙ ap (λ (l : List ℕ). numberValue (f l)) (take-all n s (omega arith))))
-
 -- the bytes that a value takes are all that it takes of them
 pub cut-there : (c : ColumnDescriptor) (s : List ℕ) (n : ℕ) → n ≡ need (extentOf c) s → n ≤ length s → need (extentOf c) (take n s) ≡ length (take n s)
 cut-there c s n e h = cuts (extentOf c) s n (omega arith) h ∙ sym e ∙ sym (length-take-le n s h)

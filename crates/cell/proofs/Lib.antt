@@ -1,3 +1,4 @@
 pub mod ExtentLaws
 pub mod ItemLaws
 pub mod ReferLaws
+pub mod NumberLaws

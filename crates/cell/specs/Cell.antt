@@ -1,11 +1,17 @@
 -- For inner functions; no public promise rests on it. What a column's value, as the code holds it, says of the value's own bytes. Assumes nothing.
 use Prim.Native.Nat.{ℕ, _+_, _≤_, _<_}
 use mathlib.Core.Path.{_≡_}
-use mathlib.Core.List.{List}
+use mathlib.Core.Bool.{Bool, false}
+use mathlib.Core.List.{List, [], _∷_}
 use lib.ListN.{length, take, drop}
 use Rattle.numbers.specs.Number.{Number as RowNumber, numberValue}
 use Rattle.packed.specs.Packed.{decimalText, mostBytes}
-use Rattle.conversion.specs.Picked.{textIn}
+use Rattle.unicode.specs.Unicode.{utf8Text}
+use Rattle.conversion.specs.Conversion.{characterText, graphicText, locatorText, rowIdText}
+use Rattle.types.specs.Names.{namedIn}
+use Rattle.types.specs.declared.Db2Type.{Db2Type}
+use Rattle.types.specs.declared.Db2Type.the-variants as type
+use Rattle.types.specs.declared.Db2Value.{Db2Value}
 use Rattle.types.specs.declared.ColumnDescriptor.{ColumnDescriptor}
 use Rattle.rules.specs.Extent.{need, extentOf}
 use Rattle.rules.specs.Conversions.{ported}
@@ -14,12 +20,17 @@ use Rattle.cell.specs.declared.ByteSort.{ByteSort}
 use Rattle.cell.specs.declared.ByteSort.the-variants as bytes
 use Rattle.cell.specs.declared.TextSort.{TextSort}
 use Rattle.cell.specs.declared.TextSort.the-variants as texts
+use Rattle.cell.specs.declared.Encoding.{Encoding}
+use Rattle.cell.specs.declared.Encoding.the-variants.{Characters, Graphics, Utf8, Locator, RowId}
 use Rattle.cell.specs.declared.Reading.{Reading}
 use Rattle.cell.specs.declared.Reading.the-variants.{By, Packed}
 use Rattle.cell.specs.declared.LobKind.{LobKind}
 use Rattle.cell.specs.declared.LobKind.the-variants as kinds
 use Rattle.cell.specs.declared.CellItem.{CellItem}
-use Rattle.cell.specs.declared.CellItem.the-variants.{Nothing, Number, Boolean, Part, Text}
+use Rattle.cell.specs.declared.CellItem.the-variants.{Nothing, Boolean, Part, Text}
+use Rattle.cell.specs.declared.OtherValue.{OtherValue}
+use Rattle.cell.specs.declared.ColumnValue.{ColumnValue}
+use Rattle.cell.specs.declared.ColumnValue.the-variants.{Number, Other}
 
 abbrev pub byteSort : ByteSort → meaning.ByteSort
 byteSort bytes.Binary = meaning.ByteSort.binary
@@ -41,24 +52,57 @@ lobOf kinds.Blobs = meaning.Lob.blobs
 lobOf kinds.Clobs = meaning.Lob.clobs
 lobOf kinds.Xmls = meaning.Lob.xmls
 
--- the text of bytes, as they are to be read
+-- the types whose values are numbers
+abbrev pub isNumber : Db2Type → Bool
+isNumber t = namedIn (type.SmallInt ∷ type.Integer ∷ type.BigInt ∷ type.Real ∷ type.Double ∷ []) t
+
+-- the text of bytes, by their encoding and as they are to be read
+abbrev pub encodedText : Encoding → List ℕ → List ℕ
+encodedText (Characters ccsid) s = characterText ccsid s
+encodedText (Graphics ccsid) s = graphicText ccsid s
+encodedText Utf8 s = utf8Text s
+encodedText Locator s = locatorText s
+encodedText RowId s = rowIdText s
+
 abbrev pub textBy : Reading → List ℕ → List ℕ
-textBy (By conversion) s = textIn conversion s
+textBy (By encoding) s = encodedText encoding s
 textBy (Packed scale) s = decimalText scale s
 
 -- the bytes are as many as the reading takes: a packed decimal has one at least, and no more than one called alone may have
 abbrev pub Readable : Reading → ℕ → Type 0
-Readable (By conversion) n = Unit {0}
+Readable (By encoding) n = Unit {0}
 Readable (Packed scale) n = (0 < n) × (n ≤ mostBytes)
 
 -- the code's item says of the value's bytes s what i is: a part lies within s, and a text is that of a part of s
 abbrev pub Holds : CellItem → List ℕ → meaning.Item → Type 0
 Holds Nothing s i = i ≡ meaning.Item.nothing
-Holds (Number v) s i = (x : RowNumber) × ((i ≡ meaning.Item.numeric x) × (v ≡ numberValue x))
 Holds (Boolean b) s i = i ≡ meaning.Item.boolean b
 Holds (Part k from len) s i = (i ≡ meaning.Item.part (byteSort k) from len) × (from + len ≤ length s)
 Holds (Text k reading from len) s i = (i ≡ meaning.Item.text (textSort k) (textBy reading (take len (drop from s)))) × ((from + len ≤ length s) × Readable reading len)
 
--- the item of the column c, where s is the rest of the row and the value's bytes are there
-abbrev pub Decodes : CellItem → ColumnDescriptor → List ℕ → Type 0
-Decodes item c s = Holds item (take (need (extentOf c) s) s) (meaning.itemIn ported c (take (need (extentOf c) s) s))
+-- the item of any `count` bytes that are a value of the type t; in a column of this CCSID
+abbrev pub Means : CellItem → Db2Type → ℕ → Type 0
+Means r t count = (c : ColumnDescriptor) (s : List ℕ) → length s ≡ count → Holds r s (meaning.typeItem ported t c s)
+
+abbrev pub MeansBy : ℕ → CellItem → Db2Type → ℕ → Type 0
+MeansBy ccsid r t count = (c : ColumnDescriptor) (s : List ℕ) → c .ccsid ≡ ccsid → length s ≡ count → Holds r s (meaning.typeItem ported t c s)
+
+-- ---- the value of the column c, where s is the rest of the row and the value's bytes are there
+
+-- those bytes
+abbrev pub taken : ColumnDescriptor → List ℕ → List ℕ
+taken c s = take (need (extentOf c) s) s
+
+abbrev pub NumberIs : Db2Value → ColumnDescriptor → List ℕ → Type 0
+NumberIs v c s =
+    ((x : RowNumber) × ((meaning.itemIn ported c (taken c s) ≡ meaning.Item.numeric x) × (v ≡ numberValue x)))
+    × (meaning.refersIn ported c (taken c s) ≡ false)
+
+abbrev pub OtherIs : OtherValue → ColumnDescriptor → List ℕ → Type 0
+OtherIs d c s =
+    Holds (d .item) (taken c s) (meaning.itemIn ported c (taken c s))
+    × ((d .used ≡ need (extentOf c) s) × (d .external ≡ meaning.refersIn ported c (taken c s)))
+
+abbrev pub ValueIs : ColumnValue → ColumnDescriptor → List ℕ → Type 0
+ValueIs (Number v used) c s = NumberIs v c s × (used ≡ need (extentOf c) s)
+ValueIs (Other d) c s = OtherIs d c s

@@ -1,14 +1,22 @@
 -- For inner functions; no public promise rests on it. Assumes nothing.
-use Prim.Native.Nat.{ℕ}
-use mathlib.Core.Bool.{Bool, cond, not, _||_}
-use mathlib.Core.List.{List}
+use Prim.Native.Nat.{ℕ, _≤_}
+use mathlib.Core.Path.{_≡_}
+use mathlib.Core.Bool.{Bool, true, false, cond, not, _||_}
+use mathlib.Core.List.{List, []}
 use lib.ListN.{drop}
 use Rattle.types.specs.declared.ReferenceLength.{ReferenceLength}
 use Rattle.types.specs.declared.ReferenceLength.the-variants.{Absent, Width}
 use Rattle.rules.specs.declared.Extent.{Extent}
 use Rattle.rules.specs.declared.Extent.the-variants.{Fixed, Counted, Header, Inline, Locator, Materialized}
-use Rattle.rules.specs.Extent.{isReference}
-use Rattle.rules.specs.Meaning.{allZero, isEmptyReference}
+use Rattle.types.specs.declared.Db2Type.{Db2Type}
+use Rattle.types.specs.declared.ColumnDescriptor.{ColumnDescriptor}
+use Rattle.rules.specs.Extent.{isReference, typeExtent}
+use Rattle.rules.specs.Meaning.{allZero, isEmptyReference, typeItem}
+use Rattle.rules.specs.Row.{itemText}
+use Rattle.rules.specs.Conversions.{ported}
+use Rattle.cell.specs.declared.NumberWidth.{NumberWidth}
+use Rattle.cell.specs.declared.NumberWidth.the-variants as width
+use Rattle.cell.specs.Cell.{isNumber}
 
 -- how many bytes the units of an extent have, where it counts units
 abbrev pub unitSize : Extent → ℕ
@@ -39,3 +47,9 @@ mostNeed = 4294967299
 abbrev pub lobRefers : ReferenceLength → Bool → List ℕ → Bool
 lobRefers (Width w) located s = not (allZero s || isEmptyReference s)
 lobRefers Absent located s = cond (isReference s) (not (allZero (drop 1 s))) located
+
+-- values of the type t take so many bytes and have no text; or are no numbers
+abbrev pub WidthOf : NumberWidth → Db2Type → Type 0
+WidthOf (width.Bytes n) t =
+    ((c : ColumnDescriptor) → typeExtent t c ≡ Fixed n) × (((c : ColumnDescriptor) (s : List ℕ) → itemText (typeItem ported t c s) ≡ []) × (n ≤ 8))
+WidthOf width.NoNumber t = isNumber t ≡ false

@@ -1,4 +1,5 @@
 // How many bytes a column's value takes: its kind of extent, and the number that the bytes at hand make of it (the Rust: decode_column_value).
+use crate::NumberWidth;
 use numbers::u16_of;
 use numbers::u32_of;
 use rules::Extent;
@@ -7,14 +8,32 @@ use types::ColumnDescriptor;
 use types::Db2Type;
 use types::ReferenceLength;
 ghost use mathlib.Core.Path.{_≡_};
-ghost use mathlib.Core.Bool.{cond};
-ghost use Prim.Native.Nat.{_+_, _≤_};
+ghost use mathlib.Core.Bool.{false, cond};
+ghost use Prim.Native.Nat.{_+_, _<_, _≤_};
 ghost use lib.ListN.{length};
 ghost use lib.Dec.{eqb};
 ghost use Rattle.rules.specs.declared.Extent.{Extent};
 ghost use Rattle.rules.specs.Extent.{isReference, isHexDigit, hexDigits, isShortReference, saysHeader, lobNeed, need};
-ghost use Rattle.rules.specs.Extent.{graphicUnit, varyingExtent, lobExtent, lengthExtent, extentOf};
-ghost use Rattle.cell.specs.Inner.{unitSize, sizeOf, mostSize, mostNeed};
+ghost use Rattle.rules.specs.Extent.{varyingExtent, lobExtent, lengthExtent, extentOf};
+ghost use Rattle.types.specs.FixedLength.{packedLength};
+ghost use Rattle.packed.specs.Packed.{mostBytes};
+ghost use Rattle.cell.specs.Cell.{isNumber};
+ghost use Rattle.cell.specs.Inner.{WidthOf, unitSize, sizeOf, mostSize, mostNeed};
+
+// How many bytes values of these types take.
+pub const SMALL_INT: usize = 2;
+
+pub const INTEGER: usize = 4;
+
+pub const BIG_INT: usize = 8;
+
+pub const REAL: usize = 4;
+
+pub const DOUBLE: usize = 8;
+
+pub const DATE: usize = 10;
+
+pub const TIME: usize = 8;
 
 fn is_hex_digit(b: u8) -> bool
     ensures { λ r. ⌜ r ≡ isHexDigit b ⌝ }
@@ -94,9 +113,9 @@ fn lob_need(whole: usize, s: &[u8]) -> usize
     if is_reference(s) { 9 } else { whole }
 }
 
-fn counted_need(unit: usize, s: &[u8]) -> usize
+pub fn counted_need(unit: usize, s: &[u8]) -> usize
     requires { ⌜ unit ≤ 2 ⌝ }
-    ensures { λ r. ⌜ r ≡ need (Extent.Counted unit) (now (s .entry)) ⌝ }
+    ensures { λ r. ⌜ (r ≡ need (Extent.Counted unit) (now (s .entry))) × ((2 ≤ r) × (r ≤ mostSize + 2)) ⌝ }
 {
     if s.len() < 2 {
         return 2;
@@ -144,16 +163,6 @@ fn extent_need(extent: Extent, s: &[u8]) -> usize
     }
 }
 
-fn graphic_unit(column: ColumnDescriptor) -> usize
-    ensures { λ r. ⌜ r ≡ graphicUnit column ⌝ }
-{
-    if column.graphic_length_is_character_count() {
-        2
-    } else {
-        1
-    }
-}
-
 fn varying_extent(n: u16, unit: usize) -> Extent
     ensures { λ r. ⌜ (r ≡ varyingExtent n unit) × (sizeOf r ≤ mostSize) ⌝ }
 {
@@ -183,6 +192,12 @@ fn lob_extent(reference: ReferenceLength, other: Extent) -> Extent
     }
 }
 
+pub fn decimal_need(precision: u8) -> usize
+    ensures { λ r. ⌜ (r ≡ packedLength precision) × ((0 < r) × (r ≤ mostBytes)) ⌝ }
+{
+    (precision as usize + 2) / 2
+}
+
 // A column's length, or another where it is 0.
 fn length_or(n: u16, other: usize) -> usize
     ensures { λ r. ⌜ (r ≡ cond (eqb n 0) other n) × (r ≤ other + 65535) ⌝ }
@@ -190,21 +205,24 @@ fn length_or(n: u16, other: usize) -> usize
     if n == 0 { other } else { n as usize }
 }
 
+pub fn timestamp_need(length: u16) -> usize
+    ensures { λ r. ⌜ (r ≡ cond (eqb length 0) 26 length) × (r ≤ mostSize) ⌝ }
+{
+    length_or(length, 26)
+}
+
+// Of a type that is no number.
 fn extent_of(column: ColumnDescriptor) -> Extent
+    requires { ⌜ isNumber (column .«db2_type») ≡ false ⌝ }
     ensures { λ r. ⌜ (r ≡ extentOf column) × (sizeOf r ≤ mostSize) ⌝ }
 {
     let t = column.db2_type;
     let length = column.length;
     match t {
-        Db2Type::SmallInt => Extent::Fixed(2),
-        Db2Type::Integer => Extent::Fixed(4),
-        Db2Type::BigInt => Extent::Fixed(8),
-        Db2Type::Real => Extent::Fixed(4),
-        Db2Type::Double => Extent::Fixed(8),
         Db2Type::Decimal {
             precision,
             scale: _,
-        } => Extent::Fixed((precision as usize + 2) / 2),
+        } => Extent::Fixed(decimal_need(precision)),
         Db2Type::DecFloat(digits) => {
             if 34 <= digits {
                 Extent::Fixed(16)
@@ -226,11 +244,11 @@ fn extent_of(column: ColumnDescriptor) -> Extent
             lob_extent(reference, length_extent(length))
         }
         Db2Type::BlobLocator => Extent::Fixed(4),
-        Db2Type::Date => Extent::Fixed(10),
-        Db2Type::Time => Extent::Fixed(8),
-        Db2Type::Timestamp => Extent::Fixed(length_or(length, 26)),
-        Db2Type::Graphic(n) => Extent::Fixed(graphic_unit(column) * n as usize),
-        Db2Type::VarGraphic(n) => varying_extent(n, graphic_unit(column)),
+        Db2Type::Date => Extent::Fixed(DATE),
+        Db2Type::Time => Extent::Fixed(TIME),
+        Db2Type::Timestamp => Extent::Fixed(timestamp_need(length)),
+        Db2Type::Graphic(n) => Extent::Fixed(column.graphic_unit() * n as usize),
+        Db2Type::VarGraphic(n) => varying_extent(n, column.graphic_unit()),
         Db2Type::DbClob => {
             let reference = column.extdta_reference_length;
             lob_extent(reference, length_extent(length))
@@ -245,13 +263,42 @@ fn extent_of(column: ColumnDescriptor) -> Extent
             let reference = column.extdta_reference_length;
             lob_extent(reference, Extent::Inline)
         }
-        Db2Type::Null => Extent::Fixed(0),
+        _ => Extent::Fixed(0),
     }
 }
 
-// How many bytes the column's value takes of the rest of the row.
-pub fn column_need(rest: &[u8], column: ColumnDescriptor) -> usize
+// How many bytes a value takes of the rest of the row that is no number.
+pub fn other_need(rest: &[u8], column: ColumnDescriptor) -> usize
+    requires { ⌜ isNumber (column .«db2_type») ≡ false ⌝ }
     ensures { λ r. ⌜ (r ≡ need (extentOf column) (now (rest .entry))) × (r ≤ mostNeed) ⌝ }
 {
     extent_need(extent_of(column), rest)
+}
+
+// How many bytes a number takes, by its type.
+pub fn number_width(t: Db2Type) -> NumberWidth
+    ensures { λ r. ⌜ WidthOf r t ⌝ }
+{
+    match t {
+        Db2Type::SmallInt => NumberWidth::Bytes(SMALL_INT),
+        Db2Type::Integer => NumberWidth::Bytes(INTEGER),
+        Db2Type::BigInt => NumberWidth::Bytes(BIG_INT),
+        Db2Type::Real => NumberWidth::Bytes(REAL),
+        Db2Type::Double => NumberWidth::Bytes(DOUBLE),
+        _ => NumberWidth::NoNumber,
+    }
+}
+
+// How many bytes the column's value takes of the rest of the row. As in decode_column_value, the column is copied in the one arm that hands it on.
+pub fn column_need(rest: &[u8], column: ColumnDescriptor) -> usize
+    ensures { λ r. ⌜ (r ≡ need (extentOf column) (now (rest .entry))) × (r ≤ mostNeed) ⌝ }
+{
+    let t = column.db2_type;
+    match number_width(t) {
+        NumberWidth::Bytes(n) => n,
+        NumberWidth::NoNumber => {
+            let other = column;
+            other_need(rest, other)
+        }
+    }
 }

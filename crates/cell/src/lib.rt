@@ -3,12 +3,14 @@
 pub mod extents;
 pub mod refers;
 
-use conversion::Conversion;
-use conversion::character_conversion;
-use conversion::graphic_conversion;
-use extents::column_need;
+use extents::BIG_INT;
+use extents::DOUBLE;
+use extents::INTEGER;
+use extents::REAL;
+use extents::SMALL_INT;
 use extents::is_reference;
 use extents::is_short_reference;
+use extents::other_need;
 use extents::says_header;
 use numbers::big_int;
 use numbers::double;
@@ -24,17 +26,19 @@ use types::Db2Value;
 use types::ReferenceLength;
 use utf::likely::bytes_are_likely_text;
 ghost use mathlib.Core.Path.{_≡_};
-ghost use mathlib.Core.List.{[]};
-ghost use Prim.Native.Nat.{_<_, _≤_, _-_};
+ghost use mathlib.Core.Bool.{false};
+ghost use mathlib.Core.List.{List, []};
+ghost use Prim.Native.Nat.{ℕ, _<_, _≤_, _-_};
 ghost use lib.ListN.{length, drop};
-ghost use Rattle.rules.specs.Meaning.{Item, Lob, decimal, lobEmpty, lobReference, lobInline, declaredLob, undeclaredLob, lobItem, headerIn, headerItem, lobBytesItem, lobCharItem, itemIn};
+ghost use Rattle.types.specs.Names.{bit8000};
+ghost use Rattle.rules.specs.Meaning.{Item, Lob, lobEmpty, lobReference, lobInline, declaredLob, undeclaredLob, lobItem, headerIn, headerItem, lobBytesItem, lobCharItem, itemIn};
 ghost use Rattle.rules.specs.Extent.{need, extentOf};
 ghost use Rattle.types.specs.declared.ReferenceLength.{ReferenceLength};
 ghost use Rattle.rules.specs.Conversions.{ported};
-ghost use Rattle.conversion.specs.Conversion.{characterText, graphicText};
-ghost use Rattle.conversion.specs.Picked.{textIn};
-ghost use Rattle.packed.specs.Packed.{decimalText, mostBytes};
-ghost use Rattle.cell.specs.Cell.{byteSort, textSort, lobOf, Holds, Decodes};
+ghost use Rattle.conversion.specs.Conversion.{characterText};
+ghost use Rattle.packed.specs.Packed.{mostBytes};
+ghost use Rattle.types.specs.declared.Db2Type.{Db2Type};
+ghost use Rattle.cell.specs.Cell.{byteSort, textSort, lobOf, encodedText, Holds, Means, MeansBy, isNumber, OtherIs, ValueIs};
 
 // The sorts of value that are a part of the row, and those that are a text.
 pub enum ByteSort {
@@ -54,9 +58,19 @@ pub enum TextSort {
     Xml,
 }
 
-// How the bytes of a text are read: by a conversion, or as a packed decimal of this scale.
+// What the bytes of a text are: characters or graphics of a CCSID, UTF-8, or bytes that are shown in hexadecimal. Which conversion that asks for is
+// picked where the text is measured or written.
+pub enum Encoding {
+    Characters(u16),
+    Graphics(u16),
+    Utf8,
+    Locator,
+    RowId,
+}
+
+// How the bytes of a text are read: by their encoding, or as a packed decimal of this scale.
 pub enum Reading {
-    By(Conversion),
+    By(Encoding),
     Packed(u8),
 }
 
@@ -67,10 +81,9 @@ pub enum LobKind {
     Xmls,
 }
 
-// What a value is. Parts and texts are given by where they begin among the value's own bytes, and by their length.
+// What a value is that is no number. Parts and texts are given by where they begin among the value's own bytes, and by their length.
 pub enum CellItem {
     Nothing,
-    Number(Db2Value),
     Boolean(bool),
     Part {
         sort: ByteSort,
@@ -85,14 +98,33 @@ pub enum CellItem {
     },
 }
 
+// How many bytes a type's values take where they are numbers.
+pub enum NumberWidth {
+    Bytes(usize),
+    NoNumber,
+}
+
+// A value that is no number, how many bytes it takes, and whether it refers to data outside the row.
+pub struct OtherValue {
+    pub item: CellItem,
+    pub used: usize,
+    pub external: bool,
+}
+
+// A column's value: a number and how many bytes it takes, or another.
+pub enum ColumnValue {
+    Number { value: Db2Value, used: usize },
+    Other(OtherValue),
+}
+
 // The text, or the part, that all bytes from a place on are.
-fn text_from(sort: TextSort, conversion: Conversion, bytes: &[u8], from: usize) -> CellItem
+fn text_from(sort: TextSort, encoding: Encoding, bytes: &[u8], from: usize) -> CellItem
     requires { ⌜ from ≤ length (now bytes) ⌝ }
-    ensures { λ r. ⌜ Holds r (now (bytes .entry)) (Item.text (textSort sort) (textIn conversion (drop from (now (bytes .entry))))) ⌝ }
+    ensures { λ r. ⌜ Holds r (now (bytes .entry)) (Item.text (textSort sort) (encodedText encoding (drop from (now (bytes .entry))))) ⌝ }
 {
     CellItem::Text {
         sort,
-        reading: Reading::By(conversion),
+        reading: Reading::By(encoding),
         from,
         len: bytes.len() - from,
     }
@@ -109,50 +141,79 @@ fn part_from(sort: ByteSort, bytes: &[u8], from: usize) -> CellItem
     }
 }
 
-fn characters_from(sort: TextSort, ccsid: u16, bytes: &[u8], from: usize) -> CellItem
-    requires { ⌜ from ≤ length (now bytes) ⌝ }
-    ensures { λ r. ⌜ Holds r (now (bytes .entry)) (Item.text (textSort sort) (characterText ccsid (drop from (now (bytes .entry))))) ⌝ }
+// A text of a value's bytes, all from a place on, by the CCSID.
+fn characters(sort: TextSort, ccsid: u16, from: usize, count: usize) -> CellItem
+    requires { ⌜ from ≤ count ⌝ }
+    ensures { λ r. ⌜ ((s : List ℕ) → length s ≡ count → Holds r s (Item.text (textSort sort) (characterText ccsid (drop from s)))) ⌝ }
 {
-    let conversion = character_conversion(ccsid, &bytes[from..]);
-    text_from(sort, conversion, bytes, from)
+    CellItem::Text {
+        sort,
+        reading: Reading::By(Encoding::Characters(ccsid)),
+        from,
+        len: count - from,
+    }
 }
 
-fn graphics_from(sort: TextSort, ccsid: u16, bytes: &[u8], from: usize) -> CellItem
-    requires { ⌜ from ≤ length (now bytes) ⌝ }
-    ensures { λ r. ⌜ Holds r (now (bytes .entry)) (Item.text (textSort sort) (graphicText ccsid (drop from (now (bytes .entry))))) ⌝ }
-{
-    let conversion = graphic_conversion(ccsid, &bytes[from..]);
-    text_from(sort, conversion, bytes, from)
-}
-
-// A packed decimal, of all bytes.
-fn packed_text(scale: u8, bytes: &[u8]) -> CellItem
-    requires { ⌜ (0 < length (now bytes)) × (length (now bytes) ≤ mostBytes) ⌝ }
-    ensures { λ r. ⌜ Holds r (now (bytes .entry)) (Item.text decimal (decimalText scale (now (bytes .entry)))) ⌝ }
+// What `count` bytes mean that are a value of a common type. The row call on words knows the type by its words, and makes no column for these.
+pub fn decimal_item(scale: u8, count: usize) -> CellItem
+    requires { ⌜ (0 < count) × (count ≤ mostBytes) ⌝ }
+    ensures { λ r. ⌜ ((precision : ℕ) → Means r (Db2Type.Decimal precision scale) count) ⌝ }
 {
     CellItem::Text {
         sort: TextSort::Decimal,
         reading: Reading::Packed(scale),
         from: 0,
-        len: bytes.len(),
+        len: count,
     }
 }
 
+pub fn char_item(ccsid: u16, count: usize) -> CellItem
+    ensures { λ r. ⌜ ((n : ℕ) → MeansBy ccsid r (Db2Type.Char n) count) ⌝ }
+{
+    characters(TextSort::Char, ccsid, 0, count)
+}
+
+// Within the row: behind the two bytes that count.
+pub fn var_char_item(ccsid: u16, count: usize) -> CellItem
+    requires { ⌜ 2 ≤ count ⌝ }
+    ensures { λ r. ⌜ ((n : ℕ) → bit8000 n ≡ false → MeansBy ccsid r (Db2Type.VarChar n) count) ⌝ }
+{
+    characters(TextSort::VarChar, ccsid, 2, count)
+}
+
+pub fn date_item(ccsid: u16, count: usize) -> CellItem
+    ensures { λ r. ⌜ MeansBy ccsid r Db2Type.Date count ⌝ }
+{
+    characters(TextSort::Date, ccsid, 0, count)
+}
+
+pub fn time_item(ccsid: u16, count: usize) -> CellItem
+    ensures { λ r. ⌜ MeansBy ccsid r Db2Type.Time count ⌝ }
+{
+    characters(TextSort::Time, ccsid, 0, count)
+}
+
+pub fn timestamp_item(ccsid: u16, count: usize) -> CellItem
+    ensures { λ r. ⌜ MeansBy ccsid r Db2Type.Timestamp count ⌝ }
+{
+    characters(TextSort::Timestamp, ccsid, 0, count)
+}
+
 // An empty text, whatever the bytes.
-fn empty_text(sort: TextSort, bytes: &[u8]) -> CellItem
-    ensures { λ r. ⌜ Holds r (now (bytes .entry)) (Item.text (textSort sort) []) ⌝ }
+fn empty_text(sort: TextSort) -> CellItem
+    ensures { λ r. ⌜ ((s : List ℕ) → Holds r s (Item.text (textSort sort) [])) ⌝ }
 {
     CellItem::Text {
         sort,
-        reading: Reading::By(Conversion::Plain),
+        reading: Reading::By(Encoding::Utf8),
         from: 0,
         len: 0,
     }
 }
 
 // The Rust: empty_lob_value.
-fn lob_empty(kind: LobKind, bytes: &[u8]) -> CellItem
-    ensures { λ r. ⌜ Holds r (now (bytes .entry)) (lobEmpty (lobOf kind)) ⌝ }
+fn lob_empty(kind: LobKind) -> CellItem
+    ensures { λ r. ⌜ ((s : List ℕ) → Holds r s (lobEmpty (lobOf kind))) ⌝ }
 {
     match kind {
         LobKind::Blobs => CellItem::Part {
@@ -160,8 +221,8 @@ fn lob_empty(kind: LobKind, bytes: &[u8]) -> CellItem
             from: 0,
             len: 0,
         },
-        LobKind::Clobs => empty_text(TextSort::Clob, bytes),
-        LobKind::Xmls => empty_text(TextSort::Xml, bytes),
+        LobKind::Clobs => empty_text(TextSort::Clob),
+        LobKind::Xmls => empty_text(TextSort::Xml),
     }
 }
 
@@ -189,8 +250,8 @@ fn lob_reference(kind: LobKind, bytes: &[u8]) -> CellItem
 {
     match kind {
         LobKind::Blobs => first_four(bytes),
-        LobKind::Clobs => text_from(TextSort::Clob, Conversion::Locator, bytes, 0),
-        LobKind::Xmls => text_from(TextSort::Xml, Conversion::Locator, bytes, 0),
+        LobKind::Clobs => text_from(TextSort::Clob, Encoding::Locator, bytes, 0),
+        LobKind::Xmls => text_from(TextSort::Xml, Encoding::Locator, bytes, 0),
     }
 }
 
@@ -201,8 +262,8 @@ fn lob_inline(kind: LobKind, bytes: &[u8]) -> CellItem
 {
     match kind {
         LobKind::Blobs => part_from(ByteSort::Blob, bytes, 4),
-        LobKind::Clobs => text_from(TextSort::Clob, Conversion::Utf8, bytes, 4),
-        LobKind::Xmls => text_from(TextSort::Xml, Conversion::Utf8, bytes, 4),
+        LobKind::Clobs => text_from(TextSort::Clob, Encoding::Utf8, bytes, 4),
+        LobKind::Xmls => text_from(TextSort::Xml, Encoding::Utf8, bytes, 4),
     }
 }
 
@@ -211,10 +272,10 @@ fn declared_lob(kind: LobKind, bytes: &[u8]) -> CellItem
     ensures { λ r. ⌜ Holds r (now (bytes .entry)) (declaredLob ported (lobOf kind) (now (bytes .entry))) ⌝ }
 {
     if all_zero(bytes) {
-        return lob_empty(kind, bytes);
+        return lob_empty(kind);
     }
     if is_empty_reference(bytes) {
-        return lob_empty(kind, bytes);
+        return lob_empty(kind);
     }
     lob_reference(kind, bytes)
 }
@@ -226,7 +287,7 @@ fn undeclared_lob(kind: LobKind, located: bool, bytes: &[u8]) -> CellItem
 {
     if is_reference(bytes) {
         if all_zero(&bytes[1..]) {
-            return lob_empty(kind, bytes);
+            return lob_empty(kind);
         }
         return lob_reference(kind, bytes);
     }
@@ -241,9 +302,9 @@ fn header_from(bytes: &[u8], from: usize) -> CellItem
     ensures { λ r. ⌜ Holds r (now (bytes .entry)) (headerIn ported (drop from (now (bytes .entry)))) ⌝ }
 {
     if is_empty_header(&bytes[from..]) {
-        return empty_text(TextSort::Clob, bytes);
+        return empty_text(TextSort::Clob);
     }
-    text_from(TextSort::Clob, Conversion::Locator, bytes, from)
+    text_from(TextSort::Clob, Encoding::Locator, bytes, from)
 }
 
 // The Rust: decode_externalized_lob_header.
@@ -264,7 +325,7 @@ fn lob_bytes_item(declared: usize, ccsid: u16, bytes: &[u8]) -> CellItem
         return part_from(ByteSort::Blob, bytes, 0);
     }
     if bytes_are_likely_text(bytes) {
-        return characters_from(TextSort::VarChar, ccsid, bytes, 0);
+        return text_from(TextSort::VarChar, Encoding::Characters(ccsid), bytes, 0);
     }
     part_from(ByteSort::Blob, bytes, 0)
 }
@@ -273,9 +334,9 @@ fn lob_char_item(declared: usize, ccsid: u16, bytes: &[u8]) -> CellItem
     ensures { λ r. ⌜ Holds r (now (bytes .entry)) (lobCharItem ported declared ccsid (now (bytes .entry))) ⌝ }
 {
     if is_short_reference(declared, bytes) {
-        return text_from(TextSort::Clob, Conversion::Locator, bytes, 0);
+        return text_from(TextSort::Clob, Encoding::Locator, bytes, 0);
     }
-    characters_from(TextSort::Clob, ccsid, bytes, 0)
+    text_from(TextSort::Clob, Encoding::Characters(ccsid), bytes, 0)
 }
 
 // `located`: a Blob, Clob or DbClob of length 0.
@@ -289,50 +350,44 @@ fn lob_item(kind: LobKind, reference: ReferenceLength, located: bool, bytes: &[u
     }
 }
 
-// What the bytes of a column's value mean, where they are all that it takes. A DecFloat is never read: refusal 5.
+// What the bytes of a value mean that is no number, where they are all that it takes. A DecFloat is never read: refusal 5.
 fn item_of(bytes: &[u8], column: ColumnDescriptor) -> CellItem
-    requires { ⌜ need (extentOf column) (now bytes) ≡ length (now bytes) ⌝ }
+    requires there { ⌜ need (extentOf column) (now bytes) ≡ length (now bytes) ⌝ }
+    requires other { ⌜ isNumber (column .«db2_type») ≡ false ⌝ }
     ensures { λ r. ⌜ Holds r (now (bytes .entry)) (itemIn ported column (now (bytes .entry))) ⌝ }
 {
     let t = column.db2_type;
     let length = column.length;
     let ccsid = column.ccsid;
     let reference = column.extdta_reference_length;
-    let order = column.byte_order;
     match t {
-        Db2Type::SmallInt => CellItem::Number(small_int(bytes, order)),
-        Db2Type::Integer => CellItem::Number(integer(bytes, order)),
-        Db2Type::BigInt => CellItem::Number(big_int(bytes, order)),
-        Db2Type::Real => CellItem::Number(real(bytes, order)),
-        Db2Type::Double => CellItem::Number(double(bytes, order)),
         Db2Type::Decimal {
             precision: _,
             scale,
-        } => packed_text(scale, bytes),
-        Db2Type::DecFloat(_) => CellItem::Nothing,
-        Db2Type::Char(_) => characters_from(TextSort::Char, ccsid, bytes, 0),
+        } => decimal_item(scale, bytes.len()),
+        Db2Type::Char(_) => char_item(ccsid, bytes.len()),
         Db2Type::VarChar(n) => {
             if 0x8000 <= n {
                 header_item(bytes)
             } else {
-                characters_from(TextSort::VarChar, ccsid, bytes, 2)
+                var_char_item(ccsid, bytes.len())
             }
         }
-        Db2Type::LongVarChar => characters_from(TextSort::VarChar, ccsid, bytes, 2),
+        Db2Type::LongVarChar => text_from(TextSort::VarChar, Encoding::Characters(ccsid), bytes, 2),
         Db2Type::Clob => lob_item(LobKind::Clobs, reference, length == 0, bytes),
         Db2Type::Binary(_) => part_from(ByteSort::Binary, bytes, 0),
         Db2Type::VarBinary(_) => part_from(ByteSort::Binary, bytes, 2),
         Db2Type::Blob => lob_item(LobKind::Blobs, reference, length == 0, bytes),
         Db2Type::BlobLocator => lob_reference(LobKind::Blobs, bytes),
-        Db2Type::Date => characters_from(TextSort::Date, ccsid, bytes, 0),
-        Db2Type::Time => characters_from(TextSort::Time, ccsid, bytes, 0),
-        Db2Type::Timestamp => characters_from(TextSort::Timestamp, ccsid, bytes, 0),
-        Db2Type::Graphic(_) => graphics_from(TextSort::Char, ccsid, bytes, 0),
+        Db2Type::Date => date_item(ccsid, bytes.len()),
+        Db2Type::Time => time_item(ccsid, bytes.len()),
+        Db2Type::Timestamp => timestamp_item(ccsid, bytes.len()),
+        Db2Type::Graphic(_) => text_from(TextSort::Char, Encoding::Graphics(ccsid), bytes, 0),
         Db2Type::VarGraphic(n) => {
             if 0x8000 <= n {
                 header_item(bytes)
             } else {
-                graphics_from(TextSort::VarChar, ccsid, bytes, 2)
+                text_from(TextSort::VarChar, Encoding::Graphics(ccsid), bytes, 2)
             }
         }
         Db2Type::DbClob => lob_item(LobKind::Clobs, reference, length == 0, bytes),
@@ -340,18 +395,61 @@ fn item_of(bytes: &[u8], column: ColumnDescriptor) -> CellItem
         Db2Type::DbClobLocator => lob_reference(LobKind::Clobs, bytes),
         Db2Type::LobBytes(n) => lob_bytes_item((n % 0x8000) as usize, ccsid, bytes),
         Db2Type::LobChar(n) => lob_char_item((n % 0x8000) as usize, ccsid, bytes),
-        Db2Type::RowId(_) => text_from(TextSort::RowId, Conversion::RowId, bytes, 0),
+        Db2Type::RowId(_) => text_from(TextSort::RowId, Encoding::RowId, bytes, 0),
         Db2Type::Boolean => CellItem::Boolean(!all_zero(bytes)),
         Db2Type::Xml => lob_item(LobKind::Xmls, reference, false, bytes),
-        Db2Type::Null => CellItem::Nothing,
+        _ => CellItem::Nothing,
     }
 }
 
-// The column's value at the beginning of the rest of the row, where its bytes are there (the Rust: decode_column_value).
-pub fn decode_column_value(rest: &[u8], column: ColumnDescriptor) -> CellItem
-    requires { ⌜ need (extentOf column) (now rest) ≤ length (now rest) ⌝ }
-    ensures { λ r. ⌜ Decodes r column (now (rest .entry)) ⌝ }
+// The value of a column that is no number's.
+pub fn decode_other_value(rest: &[u8], column: ColumnDescriptor) -> OtherValue
+    requires there { ⌜ need (extentOf column) (now rest) ≤ length (now rest) ⌝ }
+    requires other { ⌜ isNumber (column .«db2_type») ≡ false ⌝ }
+    ensures { λ r. ⌜ OtherIs r column (now (rest .entry)) ⌝ }
 {
-    let n = column_need(rest, column);
-    item_of(&rest[..n], column)
+    let used = other_need(rest, column);
+    let item = item_of(&rest[..used], column);
+    let external = refers::refers(&rest[..used], column);
+    OtherValue {
+        item,
+        used,
+        external,
+    }
+}
+
+// The column's value at the beginning of the rest of the row, where its bytes are there (the Rust: decode_column_value). It is compiled into the loops
+// over columns. So a column is handed on in a copy made in the one arm that needs it: the numbers wait for no store.
+pub fn decode_column_value(rest: &[u8], column: ColumnDescriptor) -> ColumnValue
+    requires { ⌜ need (extentOf column) (now rest) ≤ length (now rest) ⌝ }
+    ensures { λ r. ⌜ ValueIs r column (now (rest .entry)) ⌝ }
+{
+    let t = column.db2_type;
+    let order = column.byte_order;
+    match t {
+        Db2Type::SmallInt => ColumnValue::Number {
+            value: small_int(rest, order),
+            used: SMALL_INT,
+        },
+        Db2Type::Integer => ColumnValue::Number {
+            value: integer(rest, order),
+            used: INTEGER,
+        },
+        Db2Type::BigInt => ColumnValue::Number {
+            value: big_int(rest, order),
+            used: BIG_INT,
+        },
+        Db2Type::Real => ColumnValue::Number {
+            value: real(rest, order),
+            used: REAL,
+        },
+        Db2Type::Double => ColumnValue::Number {
+            value: double(rest, order),
+            used: DOUBLE,
+        },
+        _ => {
+            let other = column;
+            ColumnValue::Other(decode_other_value(rest, other))
+        }
+    }
 }

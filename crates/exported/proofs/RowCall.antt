@@ -1,7 +1,7 @@
 -- What vejupa_decode_row promises, at each of its ways out. Assumes nothing.
 use Prim.Native.Nat.{ℕ, zero, suc, _+_, _-_, _*_, _/_, _≤_, _<_}
 use mathlib.Core.Path.{_≡_, refl, sym, ap, _∙_}
-use mathlib.Core.Bool.{Bool, true, false, cond, _||_}
+use mathlib.Core.Bool.{Bool, true, false, cond}
 use mathlib.Core.List.{List, [], _∷_, _++_}
 use mathlib.Core.Option.{Option, some, none}
 use native.Mathlib.Omega.{arith}
@@ -9,9 +9,7 @@ use borrow.Author.Tests.{lt-ltb, le-ltb}
 use lib.ListN.{length, replicate}
 use lib.Seq.{take-at}
 use Rattle.refusal.specs.Refusal.{inputLimit}
-use Rattle.types.specs.declared.Db2Type.the-variants as type
 use Rattle.types.specs.declared.ColumnDescriptor.{ColumnDescriptor}
-use Rattle.types.specs.Names.{namedIn}
 use Rattle.types.specs.Places.{maxColumns, filled, blankColumn, columnList}
 use Rattle.rules.specs.Walk.{Cell, skipOf}
 use Rattle.rules.specs.Row.{refuse, accept, rowTexts, anyDecFloat, covered, bodyDecision, rowDecision, textAfter}
@@ -21,7 +19,7 @@ use Rattle.row_words.specs.declared.Checked.{Checked}
 use Rattle.row_words.specs.declared.Checked.the-variants.{Columns, NoColumn}
 use Rattle.row_words.specs.declared.RowOutcome.the-variants.{Accepted, TooShort, TextTooShort}
 use Rattle.row_words.specs.Rows.{valuesAfter}
-use Rattle.row_words.specs.Passes.{decFloats, checkedOf, columnsNamed, Says}
+use Rattle.row_words.specs.Passes.{checkedOf, columnsNamed, Says}
 use Rattle.row_words.proofs.Named.{named-length, read-named}
 use Rattle.exported.specs.Exported.{tooFewNumber, noColumnNumber}
 use Rattle.exported.specs.Rows.{OnWords, decided, decisionFor, wordsDecision, rowNumber, rowFirst, rowSecond, wordsLeft, textLeft}
@@ -32,36 +30,18 @@ pub covered-list : (cs : List ColumnDescriptor) → covered (columnList cs) ≡ 
 unfolding columnList filled
 covered-list cs = take-at cs (replicate (maxColumns - length cs) blankColumn) (length cs) refl
 
-none-of : (cs : List ColumnDescriptor) → decFloats cs ≤ 0 → anyDecFloat cs ≡ false
-unfolding anyDecFloat
-none-of [] h = refl
-none-of (c ∷ cs) h = by (namedIn (type.DecFloat 0 ∷ []) (c .«db2_type»)) (λ k. none-of cs k) h
-  where
-    by : (b : Bool) → (decFloats cs ≤ 0 → anyDecFloat cs ≡ false) → cond b 1 0 + decFloats cs ≤ 0 → b || anyDecFloat cs ≡ false
-    by true f k = absurd (omega arith)
-    by false f k = f (omega arith)
-
-some-of : (cs : List ColumnDescriptor) → 0 < decFloats cs → anyDecFloat cs ≡ true
-unfolding anyDecFloat
-some-of [] h = absurd (omega arith)
-some-of (c ∷ cs) h = by (namedIn (type.DecFloat 0 ∷ []) (c .«db2_type»)) (λ k. some-of cs k) h
-  where
-    by : (b : Bool) → (0 < decFloats cs → anyDecFloat cs ≡ true) → 0 < cond b 1 0 + decFloats cs → b || anyDecFloat cs ≡ true
-    by true f k = refl
-    by false f k = f (omega arith)
-
 -- ---- what was found of the words
 
 no-columns : (x : Option (List ColumnDescriptor)) → NoColumn ≡ checkedOf x → x ≡ none
 no-columns (some cs) h = let z : _≡_ {A = ℕ} 0 1 = cc in absurd (omega arith)
 no-columns none h = refl
 
-pub record Found (x : Option (List ColumnDescriptor)) (k : ℕ) : Type 0 where
+pub record Found (x : Option (List ColumnDescriptor)) (k : Bool) : Type 0 where
   pub columns : List ColumnDescriptor
   pub read : x ≡ some columns
-  pub floats : k ≡ decFloats columns
+  pub floats : k ≡ anyDecFloat columns
 
-found : (x : Option (List ColumnDescriptor)) (k : ℕ) → Columns k ≡ checkedOf x → Found x k
+found : (x : Option (List ColumnDescriptor)) (k : Bool) → Columns k ≡ checkedOf x → Found x k
 found (some cs) k h = record { columns = cs; read = refl; floats = cc }
 found none k h = let z : _≡_ {A = ℕ} 0 1 = cc in absurd (omega arith)
 
@@ -88,7 +68,7 @@ module _ (w s v d : List ℕ) where
       unfolding textAfter
       no-column h = rw (by-columns, no-columns (readColumns w) h) (refl, (refl, (refl, (refl, refl))))
 
-      module _ (k : ℕ) (h : Columns k ≡ checkedOf (readColumns w)) where
+      module _ (k : Bool) (h : Columns k ≡ checkedOf (readColumns w)) where
         here : Found (readColumns w) k
         here = found (readColumns w) k h
 
@@ -109,18 +89,18 @@ module _ (w s v d : List ℕ) where
             (refl, (refl, (refl, (refl, refl))))
 
         module _ (short : length s ≤ inputLimit) where
-          pub dec-float : 0 < k → Handed (wordsDecision w s v d) v d 5 0 0 v d
+          pub dec-float : k ≡ true → Handed (wordsDecision w s v d) v d 5 0 0 v d
           unfolding rowDecision textAfter
           dec-float l =
-              let e : anyDecFloat (covered (columnList (here .columns))) ≡ true = rw (covered-list (here .columns)) (some-of (here .columns) (rw (here .floats) at l)) in
+              let e : anyDecFloat (covered (columnList (here .columns))) ≡ true = rw (covered-list (here .columns)) (sym (here .floats) ∙ l) in
               rw (as-row, le-ltb maxColumns (columnList (here .columns) .count) count-fits, le-ltb inputLimit (length s) short, e)
               (refl, (refl, (refl, (refl, refl))))
 
-          module _ (l : k ≤ 0) where
+          module _ (l : k ≡ false) where
             as-body : wordsDecision w s v d ≡ decided (bodyDecision ported (columnsNamed w) (skipOf s) s d)
             unfolding rowDecision
             as-body =
-                let e : anyDecFloat (covered (columnList (here .columns))) ≡ false = rw (covered-list (here .columns)) (none-of (here .columns) (rw (here .floats) at l)) in
+                let e : anyDecFloat (covered (columnList (here .columns))) ≡ false = rw (covered-list (here .columns)) (sym (here .floats) ∙ l) in
                 as-row
                 ∙ rw (le-ltb maxColumns (columnList (here .columns) .count) count-fits, le-ltb inputLimit (length s) short, e)
                 (rw (covered-list (here .columns), named))

@@ -216,13 +216,13 @@ pub extern "C" fn vejupa_decode_row(
         *first = words as u64;
         return TOO_FEW_WORDS;
     }
-    let Checked::Columns { dec_floats } = row_words::check_columns(columns) else {
+    let Checked::Columns { dec_float } = row_words::check_columns(columns) else {
         return NO_COLUMN;
     };
     if INPUT_LIMIT < data.len() {
         return INPUT_TOO_LONG;
     }
-    if 0 < dec_floats {
+    if dec_float {
         return DEC_FLOAT_COLUMN;
     }
     match row_words::decode_row(columns, data, values, text) {

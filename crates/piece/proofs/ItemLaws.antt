@@ -1,31 +1,29 @@
 -- Laws of items that the code rests on: an item as the code holds it has the text and the value of the rules' item. Assumes nothing.
 use Prim.Native.Nat.{ℕ, _+_, _-_, _≤_}
 use mathlib.Core.Path.{_≡_, sym, ap, _∙_, subst}
-use mathlib.Core.Bool.{Bool, true}
-use mathlib.Core.List.{List}
+use mathlib.Core.Bool.{Bool}
+use mathlib.Core.List.{List, []}
 use native.Mathlib.Omega.{arith}
 use lib.ListN.{length, take, drop, length-drop}
 use lib.Seq.{length-take-le, take-all}
 use Rattle.types.specs.declared.ColumnDescriptor.{ColumnDescriptor}
 use Rattle.types.specs.declared.Db2Value.{Db2Value}
 use Rattle.types.specs.declared.ValuePlace.{ValuePlace}
-use Rattle.conversion.specs.declared.Conversion.the-variants as by
-use Rattle.conversion.specs.Picked.{textIn}
-use Rattle.rules.specs.Extent.{need, extentOf}
-use Rattle.rules.specs.Meaning.{Item, text, itemIn, refersIn}
+use Rattle.rules.specs.Meaning.{Item, itemIn}
 use Rattle.rules.specs.Row.{place, textValue, valueOf, itemText, cellItem, cellValue}
 use Rattle.rules.specs.Conversions.{ported}
 use Rattle.cell.specs.declared.CellItem.{CellItem}
-use Rattle.cell.specs.declared.CellItem.the-variants.{Nothing, Number, Boolean, Part, Text}
+use Rattle.cell.specs.declared.CellItem.the-variants.{Nothing, Boolean, Part, Text}
 use Rattle.cell.specs.declared.TextSort.{TextSort}
 use Rattle.cell.specs.declared.Reading.{Reading}
-use Rattle.cell.specs.declared.Reading.the-variants.{By}
-use Rattle.cell.specs.Cell.{textSort, textBy, Readable, Holds, Decodes}
-use Rattle.piece.specs.Piece.{LiesWithin, textHeld, itemValue, valueIn, valueText, textStart, PlainCell}
+use Rattle.cell.specs.declared.OtherValue.{OtherValue}
+use Rattle.cell.specs.declared.NumberWidth.the-variants as width
+use Rattle.cell.specs.Cell.{textSort, textBy, Readable, Holds, taken, NumberIs, OtherIs}
+use Rattle.cell.specs.Inner.{WidthOf}
+use Rattle.piece.specs.Piece.{LiesWithin, textHeld, itemValue, numberPlace, placeOf, valueIn, valueText, textStart, PlainCell}
 
 pub holds-within : (x : CellItem) (s : List ℕ) (i : Item) → Holds x s i → LiesWithin x s
 holds-within Nothing s i h = tt
-holds-within (Number v) s i h = tt
 holds-within (Boolean b) s i h = tt
 holds-within (Part k from len) s i h = h .1
 holds-within (Text k reading from len) s i h = h .1
@@ -33,7 +31,6 @@ holds-within (Text k reading from len) s i h = h .1
 pub holds-text : (x : CellItem) (s : List ℕ) (i : Item) → Holds x s i → textHeld x s ≡ itemText i
 unfolding itemText
 holds-text Nothing s i h = ap itemText (sym h)
-holds-text (Number v) s i h = ap itemText (sym (h .1 .0))
 holds-text (Boolean b) s i h = ap itemText (sym h)
 holds-text (Part k from len) s i h = ap itemText (sym (h .0))
 holds-text (Text k reading from len) s i h = ap itemText (sym (h .0))
@@ -41,7 +38,6 @@ holds-text (Text k reading from len) s i h = ap itemText (sym (h .0))
 pub holds-value : (x : CellItem) (s : List ℕ) (i : Item) (at next : ℕ) → Holds x s i → itemValue x s at next ≡ valueOf i at next
 unfolding valueOf
 holds-value Nothing s i at next h = ap (λ (y : Item). valueOf y at next) (sym h)
-holds-value (Number v) s i at next h = h .1 .1 ∙ ap (λ (y : Item). valueOf y at next) (sym (h .1 .0))
 holds-value (Boolean b) s i at next h = ap (λ (y : Item). valueOf y at next) (sym h)
 holds-value (Part k from len) s i at next h = ap (λ (y : Item). valueOf y at next) (sym (h .0))
 holds-value (Text k reading from len) s i at next h = ap (λ (y : Item). valueOf y at next) (sym (h .0))
@@ -83,52 +79,62 @@ module _ (x : CellItem) (s : List ℕ) (k : TextSort) (reading : Reading) (start
   plain-cut h =
       ap (λ (y : CellItem). textHeld y s) e ∙ (rw (cut-as start len s) at h) ∙ all-from start len s (a .1) ∙ ap (λ (n : ℕ). drop n s) (a .0)
 
-  -- the same item, read as it stands
-  pub plain-holds : textHeld x s ≡ drop from s → (i : Item) → Holds x s i → Holds (Text k (By by.Plain) start len) s i
-  unfolding textIn
-  plain-holds p i h =
-      let g : Holds (Text k reading start len) s i = subst (λ (y : CellItem). Holds y s i) e h in
-      let q : textBy reading (take len (drop start s)) ≡ take len (drop start s) =
-      ap (λ (y : CellItem). textHeld y s) (sym e) ∙ p ∙ ap (λ (n : ℕ). drop n s) (sym (a .0)) ∙ sym (all-from start len s (a .1)) in
-      (g .0 ∙ ap (text (textSort k)) q, (g .1 .0, tt))
+  -- where the text is the bytes themselves, so is what is read of them
+  pub copied-cut : textHeld x s ≡ drop from s → textBy reading (take ((start + len) - start) (drop start s)) ≡ take ((start + len) - start) (drop start s)
+  copied-cut p =
+      ap (textBy reading) (cut-as start len s)
+      ∙ ap (λ (y : CellItem). textHeld y s) (sym e)
+      ∙ p
+      ∙ ap (λ (n : ℕ). drop n s) (sym (a .0))
+      ∙ sym (all-from start len s (a .1))
+      ∙ sym (cut-as start len s)
 
 -- ---- what the column decoder finds
 
 abbrev valuePlace : Db2Value → Bool → ValuePlace
 valuePlace v b = record { value = v; external = b }
 
-module _ (x : CellItem) (c : ColumnDescriptor) (s : List ℕ) (d : Decodes x c s) (used : ℕ) (e : used ≡ need (extentOf c) s) where
-  got : Holds x (take used s) (itemIn ported c (take used s))
-  got = subst (λ (n : ℕ). Holds x (take n s) (itemIn ported c (take n s))) (sym e) d
+module _ (d : OtherValue) (c : ColumnDescriptor) (s : List ℕ) (o : OtherIs d c s) where
+  got : Holds (d .item) (take (d .used) s) (itemIn ported c (take (d .used) s))
+  got = subst (λ (n : ℕ). Holds (d .item) (take n s) (itemIn ported c (take n s))) (sym (o .1 .0)) (o .0)
 
-  pub got-within : LiesWithin x (take used s)
-  got-within = holds-within x (take used s) (itemIn ported c (take used s)) got
+  pub found-within : LiesWithin (d .item) (take (d .used) s)
+  found-within = holds-within (d .item) (take (d .used) s) (itemIn ported c (take (d .used) s)) got
 
-  pub got-text : textHeld x (take used s) ≡ valueText c s
+  pub found-text : textHeld (d .item) (take (d .used) s) ≡ valueText c s
   unfolding cellItem
-  got-text = holds-text x (take used s) (itemIn ported c (take used s)) got ∙ ap (λ (n : ℕ). itemText (itemIn ported c (take n s))) e
+  found-text = holds-text (d .item) (take (d .used) s) (itemIn ported c (take (d .used) s)) got ∙ ap (λ (n : ℕ). itemText (itemIn ported c (take n s))) (o .1 .0)
 
-  pub got-place : (at next : ℕ) (v : Db2Value) (external : Bool) → v ≡ itemValue x (take used s) at next → external ≡ refersIn ported c (take used s)
-      → valuePlace v external ≡ cellValue ported (valueIn c at s) next
+  pub found-place : (at next : ℕ) → placeOf d at next s ≡ cellValue ported (valueIn c at s) next
   unfolding cellValue
-  got-place at next v external h f =
-      ap (λ (y : Db2Value). valuePlace y external) (h ∙ holds-value x (take used s) (itemIn ported c (take used s)) at next got)
-      ∙ ap (λ (b : Bool). valuePlace (valueOf (itemIn ported c (take used s)) at next) b) f
-      ∙ ap (λ (n : ℕ). valuePlace (valueOf (itemIn ported c (take n s)) at next) (refersIn ported c (take n s))) e
+  found-place at next =
+      ap (λ (y : Db2Value). valuePlace y (d .external)) (holds-value (d .item) (take (d .used) s) (itemIn ported c (take (d .used) s)) at next got)
+      ∙ ap (λ (n : ℕ). valuePlace (valueOf (itemIn ported c (take n s)) at next) (d .external)) (o .1 .0)
+      ∙ ap (λ (b : Bool). valuePlace (valueOf (itemIn ported c (taken c s)) at next) b) (o .1 .1)
 
-  pub got-plain : textHeld x (take used s) ≡ drop (textStart (c .«db2_type»)) (take used s) → PlainCell (valueIn c 0 s)
+  pub found-plain : textHeld (d .item) (take (d .used) s) ≡ drop (textStart (c .«db2_type»)) (take (d .used) s) → PlainCell (valueIn c 0 s)
   unfolding cellItem
-  got-plain h = sym got-text ∙ h ∙ ap (λ (n : ℕ). drop (textStart (c .«db2_type»)) (take n s)) e
+  found-plain h = sym found-text ∙ h ∙ ap (λ (n : ℕ). drop (textStart (c .«db2_type»)) (take n s)) (o .1 .0)
 
-  plain-got : itemText (itemIn ported c (take (need (extentOf c) s) s)) ≡ drop (textStart (c .«db2_type»)) (take (need (extentOf c) s) s)
-      → textHeld x (take used s) ≡ drop (textStart (c .«db2_type»)) (take used s)
+  pub plain-found : (at : ℕ) → PlainCell (valueIn c at s) → textHeld (d .item) (take (d .used) s) ≡ drop (textStart (c .«db2_type»)) (take (d .used) s)
   unfolding cellItem
-  plain-got h = got-text ∙ h ∙ ap (λ (n : ℕ). drop (textStart (c .«db2_type»)) (take n s)) (sym e)
+  plain-found at h = found-text ∙ h ∙ ap (λ (n : ℕ). drop (textStart (c .«db2_type»)) (take n s)) (sym (o .1 .0))
 
-  -- y says of any bytes what x says, where the text is the bytes themselves if b holds
-  pub read-decodes : (y : CellItem) (b : Bool)
-      → ((t : List ℕ) → length t ≡ used → (b ≡ true → textHeld x t ≡ drop (textStart (c .«db2_type»)) t) → (i : Item) → Holds x t i → Holds y t i)
-      → used ≤ length s → (at : ℕ) → (b ≡ true → PlainCell (valueIn c at s)) → Decodes y c s
-  read-decodes y b f h at p =
-      subst (λ (n : ℕ). Holds y (take n s) (itemIn ported c (take n s))) e
-      (f (take used s) (length-take-le used s h) (λ t. plain-got (p t)) (itemIn ported c (take used s)) got)
+-- ---- numbers
+
+module _ (v : Db2Value) (c : ColumnDescriptor) (s : List ℕ) (h : NumberIs v c s) where
+  pub number-text : valueText c s ≡ []
+  unfolding cellItem itemText
+  number-text = ap itemText (h .0 .1 .0)
+
+  pub number-place : (at next : ℕ) → numberPlace v ≡ cellValue ported (valueIn c at s) next
+  unfolding cellValue valueOf
+  number-place at next =
+      ap numberPlace (h .0 .1 .1)
+      ∙ sym (ap (λ (y : Item). numberPlace (valueOf y at next)) (h .0 .1 .0))
+      ∙ sym (ap (λ (z : Bool). valuePlace (valueOf (itemIn ported c (taken c s)) at next) z) (h .1))
+
+-- a type of numbers has no text
+pub width-text : (c : ColumnDescriptor) (n : ℕ) (s : List ℕ) → WidthOf (width.Bytes n) (c .«db2_type») → 0 ≡ length (valueText c s)
+unfolding cellItem itemIn
+width-text c n s w = sym (ap length (w .1 .0 c (taken c s)))

@@ -1,5 +1,4 @@
 pub mod PieceLaws
-pub mod NumberLaws
 pub mod ItemLaws
 pub mod Bound
 pub mod Texts

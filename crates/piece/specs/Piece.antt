@@ -18,7 +18,8 @@ use Rattle.rules.specs.Walk.{Cell, absent, present, columnNeed, cellOf}
 use Rattle.rules.specs.Row.{place, partValue, textValue, startOf, itemText, cellItem}
 use Rattle.rules.specs.Conversions.{ported}
 use Rattle.cell.specs.declared.CellItem.{CellItem}
-use Rattle.cell.specs.declared.CellItem.the-variants.{Nothing, Number, Boolean, Part, Text}
+use Rattle.cell.specs.declared.CellItem.the-variants.{Nothing, Boolean, Part, Text}
+use Rattle.cell.specs.declared.OtherValue.{OtherValue}
 use Rattle.cell.specs.Cell.{byteSort, textSort, textBy, Readable}
 
 -- whether the rest s of a row has no value of a column: its indicator says Null, or is not there
@@ -26,11 +27,6 @@ abbrev pub isNull : Bool → List ℕ → Bool
 isNull false s = false
 isNull true [] = true
 isNull true (b ∷ s) = eqb b 0xFF
-
--- values of this type take n bytes and have no text, unless n is 0
-abbrev pub HoldsNumber : ℕ → Db2Type → Type 0
-HoldsNumber n t =
-    0 < n → ((c : ColumnDescriptor) → typeExtent t c ≡ Fixed n) × ((c : ColumnDescriptor) (s : List ℕ) → itemText (typeItem ported t c s) ≡ [])
 
 abbrev pub numberPlace : Db2Value → ValuePlace
 numberPlace v = record { value = v; external = false }
@@ -63,21 +59,22 @@ PlainCell (present c at s) = itemText (itemIn ported c s) ≡ drop (textStart (c
 -- an item as the column decoder holds it, of the value's bytes s: it lies within them, its text, and its value where s begins at place `at`
 abbrev pub LiesWithin : CellItem → List ℕ → Type 0
 LiesWithin Nothing s = Unit {0}
-LiesWithin (Number v) s = Unit {0}
 LiesWithin (Boolean b) s = Unit {0}
 LiesWithin (Part k from len) s = from + len ≤ length s
 LiesWithin (Text k reading from len) s = (from + len ≤ length s) × Readable reading len
 
 abbrev pub textHeld : CellItem → List ℕ → List ℕ
 textHeld Nothing s = []
-textHeld (Number v) s = []
 textHeld (Boolean b) s = []
 textHeld (Part k from len) s = []
 textHeld (Text k reading from len) s = textBy reading (take len (drop from s))
 
 abbrev pub itemValue : CellItem → List ℕ → ℕ → ℕ → Db2Value
 itemValue Nothing s at next = Db2Value.Null
-itemValue (Number v) s at next = v
 itemValue (Boolean b) s at next = Db2Value.Boolean b
 itemValue (Part k from len) s at next = partValue (byteSort k) (place (startOf len (at + from)) len)
 itemValue (Text k reading from len) s at next = textValue (textSort k) (place next (length (textHeld (Text k reading from len) s)))
+
+-- the value and whether it is external, of what the column decoder found in the rest s of the row
+abbrev pub placeOf : OtherValue → ℕ → ℕ → List ℕ → ValuePlace
+placeOf d at next s = record { value = itemValue (d .item) (take (d .used) s) at next; external = d .external }

@@ -1,9 +1,14 @@
 // An item of the column decoder: the length of its text, its value with its place, and its text written.
+use crate::marks::WORDS;
+use crate::marks::is_marked;
 use cell::ByteSort;
 use cell::CellItem;
+use cell::Encoding;
 use cell::Reading;
 use cell::TextSort;
 use conversion::Conversion;
+use conversion::character_conversion;
+use conversion::graphic_conversion;
 use conversion::text_measure;
 use conversion::text_write;
 use packed::decimal_len;
@@ -13,15 +18,15 @@ use types::Db2Value;
 use types::Place;
 ghost use mathlib.Core.Path.{_≡_};
 ghost use mathlib.Core.Bool.{true};
-ghost use mathlib.Core.List.{List};
-ghost use Prim.Native.Nat.{ℕ, _+_, _≤_};
+ghost use Prim.Native.Nat.{_+_, _<_, _≤_};
 ghost use lib.ListN.{length, drop};
 ghost use Rattle.refusal.specs.Refusal.{inputLimit};
 ghost use Rattle.buffer.specs.Buffer.{overwritten};
 ghost use Rattle.rules.specs.Row.{place, startOf, partValue, textValue};
 ghost use Rattle.conversion.specs.declared.Conversion.{Conversion};
-ghost use Rattle.rules.specs.Meaning.{Item};
-ghost use Rattle.cell.specs.Cell.{byteSort, textSort, textBy, Readable, Holds};
+ghost use Rattle.conversion.specs.Picked.{textIn};
+ghost use Rattle.cell.specs.Cell.{byteSort, textSort, encodedText, textBy, Readable};
+ghost use Rattle.piece.specs.Marks.{markAt};
 ghost use Rattle.piece.specs.Piece.{LiesWithin, textHeld, itemValue, textStart};
 
 // A value, and how many bytes of text were written.
@@ -45,6 +50,23 @@ fn is_plain(conversion: Conversion) -> bool
     }
 }
 
+// The conversion that an encoding asks for. `plain` says that the text is the bytes themselves: then nothing is asked of them.
+fn conversion_of(encoding: Encoding, plain: bool, s: &[u8]) -> Conversion
+    requires { ⌜ (plain ≡ true → encodedText encoding (now s) ≡ now s) ⌝ }
+    ensures { λ r. ⌜ textIn r (now (s .entry)) ≡ encodedText encoding (now (s .entry)) ⌝ }
+{
+    if plain {
+        return Conversion::Plain;
+    }
+    match encoding {
+        Encoding::Characters(ccsid) => character_conversion(ccsid, s),
+        Encoding::Graphics(ccsid) => graphic_conversion(ccsid, s),
+        Encoding::Utf8 => Conversion::Utf8,
+        Encoding::Locator => Conversion::Locator,
+        Encoding::RowId => Conversion::RowId,
+    }
+}
+
 // The length of a text, and its writing into out from its first byte.
 fn reading_len(reading: Reading, s: &[u8]) -> TextLength
     requires { ⌜ (length (now s) ≤ inputLimit) × Readable reading (length (now s)) ⌝ }
@@ -52,7 +74,8 @@ fn reading_len(reading: Reading, s: &[u8]) -> TextLength
     ensures plain { λ r. ⌜ (r .plain ≡ true → textBy reading (now (s .entry)) ≡ now (s .entry)) ⌝ }
 {
     match reading {
-        Reading::By(conversion) => {
+        Reading::By(encoding) => {
+            let conversion = conversion_of(encoding, false, s);
             let m = text_measure(conversion, s);
             let same = m.conversion;
             let plain = is_plain(same);
@@ -65,13 +88,16 @@ fn reading_len(reading: Reading, s: &[u8]) -> TextLength
     }
 }
 
-fn reading_write(reading: Reading, s: &[u8], out: &mut [u8]) -> usize
-    requires { ⌜ Readable reading (length (now s)) × (length (textBy reading (now s)) ≤ length (now out)) ⌝ }
+fn reading_write(reading: Reading, plain: bool, s: &[u8], out: &mut [u8]) -> usize
+    requires { ⌜ Readable reading (length (now s)) × ((plain ≡ true → textBy reading (now s) ≡ now s) × (length (textBy reading (now s)) ≤ length (now out))) ⌝ }
     ensures count { λ r. ⌜ r ≡ length (textBy reading (now (s .entry))) ⌝ }
     ensures bytes { λ _. ⌜ now (out .exit) ≡ overwritten (textBy reading (now (s .entry))) (now (out .entry)) ⌝ }
 {
     match reading {
-        Reading::By(conversion) => text_write(conversion, s, out),
+        Reading::By(encoding) => {
+            let conversion = conversion_of(encoding, plain, s);
+            text_write(conversion, s, out)
+        }
         Reading::Packed(scale) => decimal_write(s, scale, out),
     }
 }
@@ -89,8 +115,8 @@ fn is_all_from(start: usize, len: usize, from: usize, count: usize) -> bool
     count - start == len
 }
 
-// Where the text of a value within the row begins among the value's bytes.
-fn text_start(t: Db2Type) -> usize
+// Where the text of a value of type t within the row begins among the value's bytes.
+pub fn text_start(t: Db2Type) -> usize
     ensures { λ r. ⌜ r ≡ textStart t ⌝ }
 {
     match t {
@@ -100,11 +126,11 @@ fn text_start(t: Db2Type) -> usize
     }
 }
 
-// The length of the text of an item of type t, and whether the text is the bytes themselves, from text_start on.
-pub fn item_len(item: CellItem, bytes: &[u8], t: Db2Type) -> TextLength
+// The length of an item's text, and whether the text is the bytes themselves, all from byte `from` on.
+pub fn item_len(item: CellItem, bytes: &[u8], from: usize) -> TextLength
     requires { ⌜ (length (now bytes) ≤ inputLimit) × LiesWithin item (now bytes) ⌝ }
     ensures len { λ r. ⌜ r .len ≡ length (textHeld item (now (bytes .entry))) ⌝ }
-    ensures plain { λ r. ⌜ (r .plain ≡ true → textHeld item (now (bytes .entry)) ≡ drop (textStart t) (now (bytes .entry))) ⌝ }
+    ensures plain { λ r. ⌜ (r .plain ≡ true → textHeld item (now (bytes .entry)) ≡ drop from (now (bytes .entry))) ⌝ }
 {
     match item {
         CellItem::Text {
@@ -114,7 +140,7 @@ pub fn item_len(item: CellItem, bytes: &[u8], t: Db2Type) -> TextLength
             len,
         } => {
             let l = reading_len(reading, &bytes[start..start + len]);
-            if is_all_from(start, len, text_start(t), bytes.len()) {
+            if is_all_from(start, len, from, bytes.len()) {
                 return l;
             }
             TextLength {
@@ -129,32 +155,22 @@ pub fn item_len(item: CellItem, bytes: &[u8], t: Db2Type) -> TextLength
     }
 }
 
-// The same item of `count` bytes, where `plain` says that its text is the bytes themselves: read as they stand.
-pub fn item_read(item: CellItem, plain: bool, t: Db2Type, count: usize) -> CellItem
-    ensures { λ r. ⌜ ((s : List ℕ) → length s ≡ count → (plain ≡ true → textHeld item s ≡ drop (textStart t) s) → (i : Item) → Holds item s i → Holds r s i) ⌝ }
+// Whether a text is copied: column k is marked, and the text is all of the value's `count` bytes from byte `from` on.
+fn is_copied(
+    marks: &[u64; WORDS],
+    k: usize,
+    start: usize,
+    len: usize,
+    from: usize,
+    count: usize,
+) -> bool
+    requires { ⌜ k < 768 ⌝ }
+    ensures { λ r. ⌜ (r ≡ true → (markAt (now (marks .entry)) k ≡ true) × ((start ≡ from) × (start + len ≡ count))) ⌝ }
 {
-    if !plain {
-        return item;
+    if !is_marked(marks, k) {
+        return false;
     }
-    match item {
-        CellItem::Text {
-            sort,
-            reading: _,
-            from: start,
-            len,
-        } => {
-            if is_all_from(start, len, text_start(t), count) {
-                return CellItem::Text {
-                    sort,
-                    reading: Reading::By(Conversion::Plain),
-                    from: start,
-                    len,
-                };
-            }
-            item
-        }
-        _ => item,
-    }
+    is_all_from(start, len, from, count)
 }
 
 fn text_value(sort: TextSort, p: Place) -> Db2Value
@@ -191,15 +207,20 @@ fn part_value(sort: ByteSort, at: usize, len: usize) -> Db2Value
     }
 }
 
-// The value of an item, where its bytes begin at place `at` of the input; its text is written into out.
+// The value of an item, where its bytes begin at place `at` of the input; its text is written into out. Only for a text it is looked at whether
+// column k is marked: then the text is the bytes themselves, all from byte `from` on.
 pub fn item_write(
     item: CellItem,
+    from: usize,
+    marks: &[u64; WORDS],
+    k: usize,
     bytes: &[u8],
     at: usize,
     next: usize,
     out: &mut [u8],
 ) -> ItemWritten
     requires { ⌜ (at + length (now bytes) ≤ inputLimit) × (LiesWithin item (now bytes) × (length (textHeld item (now bytes)) ≤ length (now out))) ⌝ }
+    requires plain { ⌜ (k < 768) × (markAt (now marks) k ≡ true → textHeld item (now bytes) ≡ drop from (now bytes)) ⌝ }
     ensures value { λ r. ⌜ r .value ≡ itemValue item (now (bytes .entry)) at next ⌝ }
     ensures count { λ r. ⌜ r .written ≡ length (textHeld item (now (bytes .entry))) ⌝ }
     ensures bytes { λ _. ⌜ now (out .exit) ≡ overwritten (textHeld item (now (bytes .entry))) (now (out .entry)) ⌝ }
@@ -209,16 +230,16 @@ pub fn item_write(
             value: Db2Value::Null,
             written: 0,
         },
-        CellItem::Number(v) => ItemWritten {
-            value: v,
-            written: 0,
-        },
         CellItem::Boolean(b) => ItemWritten {
             value: Db2Value::Boolean(b),
             written: 0,
         },
-        CellItem::Part { sort, from, len } => {
-            let v = part_value(sort, at + from, len);
+        CellItem::Part {
+            sort,
+            from: start,
+            len,
+        } => {
+            let v = part_value(sort, at + start, len);
             ItemWritten {
                 value: v,
                 written: 0,
@@ -227,10 +248,11 @@ pub fn item_write(
         CellItem::Text {
             sort,
             reading,
-            from,
+            from: start,
             len,
         } => {
-            let n = reading_write(reading, &bytes[from..from + len], out);
+            let plain = is_copied(marks, k, start, len, from, bytes.len());
+            let n = reading_write(reading, plain, &bytes[start..start + len], out);
             let v = text_value(
                 sort,
                 Place {

@@ -1,29 +1,27 @@
 // Inner. A column's part of a row: its indicator, how many bytes it takes, its value with its place, and its text written into the unwritten rest
 // of the text buffer. It goes through no columns: the row calls do, for columns by value and for columns in words.
-mod items;
+pub mod items;
 pub mod marks;
 
+use cell::ColumnValue;
+use cell::NumberWidth;
+use cell::OtherValue;
 use cell::decode_column_value;
+use cell::decode_other_value;
 use cell::extents::column_need;
-use cell::refers::refers;
+use cell::extents::number_width;
 use items::item_len;
-use items::item_read;
 use items::item_write;
+use items::text_start;
 use marks::WORDS;
-use marks::is_marked;
-use numbers::big_int;
-use numbers::double;
-use numbers::integer;
-use numbers::real;
-use numbers::small_int;
 use types::ColumnDescriptor;
 use types::Db2Type;
 use types::Db2Value;
 use types::ValuePlace;
 ghost use mathlib.Core.Path.{_≡_};
-ghost use mathlib.Core.Bool.{true, cond};
+ghost use mathlib.Core.Bool.{true, false, cond};
 ghost use Prim.Native.Nat.{ℕ, _+_, _<_, _≤_};
-ghost use lib.ListN.{length};
+ghost use lib.ListN.{length, take, drop};
 ghost use Rattle.refusal.specs.Refusal.{inputLimit};
 ghost use Rattle.types.specs.Places.{blankValue};
 ghost use Rattle.buffer.specs.Buffer.{overwritten};
@@ -31,8 +29,8 @@ ghost use Rattle.rules.specs.Extent.{need, extentOf};
 ghost use Rattle.rules.specs.Walk.{short, skipOf, columnNeed, cellShort};
 ghost use Rattle.rules.specs.Row.{cellValue};
 ghost use Rattle.rules.specs.Conversions.{ported};
-ghost use Rattle.cell.specs.Inner.{mostNeed};
-ghost use Rattle.piece.specs.Piece.{isNull, HoldsNumber, numberPlace, valueIn, valueText, cellIn, cellText, PlainCell};
+ghost use Rattle.cell.specs.Cell.{isNumber};
+ghost use Rattle.piece.specs.Piece.{isNull, numberPlace, placeOf, valueIn, valueText, cellIn, cellText, textStart, textHeld, LiesWithin, PlainCell};
 ghost use Rattle.piece.specs.Marks.{markAt};
 
 // The Rust's two numbers of a row that is too short.
@@ -88,32 +86,6 @@ pub fn lead(nullable: bool) -> usize
     if nullable { 1 } else { 0 }
 }
 
-// The byte count of a type's values where they are numbers; else 0. Numbers are decoded where they stand: a call with a slice and a column, both
-// through memory, takes longer than the decoding.
-fn number_bytes(t: Db2Type) -> usize
-    ensures { λ r. ⌜ HoldsNumber r t × (r ≤ 8) ⌝ }
-{
-    match t {
-        Db2Type::SmallInt => 2,
-        Db2Type::Integer => 4,
-        Db2Type::BigInt => 8,
-        Db2Type::Real => 4,
-        Db2Type::Double => 8,
-        _ => 0,
-    }
-}
-
-fn value_need(rest: &[u8], column: ColumnDescriptor) -> usize
-    ensures { λ r. ⌜ (r ≡ need (extentOf column) (now (rest .entry))) × (r ≤ mostNeed) ⌝ }
-{
-    let t = column.db2_type;
-    let n = number_bytes(t);
-    if 0 < n {
-        return n;
-    }
-    column_need(rest, column)
-}
-
 // How many bytes the column takes of the rest of the row. It is there where that is at most their number.
 pub fn piece_need(rest: &[u8], column: ColumnDescriptor) -> usize
     ensures { λ r. ⌜ r ≡ columnNeed column (now (rest .entry)) ⌝ }
@@ -122,7 +94,7 @@ pub fn piece_need(rest: &[u8], column: ColumnDescriptor) -> usize
         return 1;
     }
     let from = lead(column.nullable);
-    let n = value_need(&rest[from..], column);
+    let n = column_need(&rest[from..], column);
     from + n
 }
 
@@ -171,14 +143,16 @@ fn null_piece() -> PieceWritten
 fn other_length(rest: &[u8], column: ColumnDescriptor) -> PieceLength
     requires there { ⌜ need (extentOf column) (now rest) ≤ length (now rest) ⌝ }
     requires limit { ⌜ length (now rest) ≤ inputLimit ⌝ }
+    requires other { ⌜ isNumber (column .«db2_type») ≡ false ⌝ }
     ensures used { λ r. ⌜ r .used ≡ need (extentOf column) (now (rest .entry)) ⌝ }
     ensures len { λ r. ⌜ r .len ≡ length (valueText column (now (rest .entry))) ⌝ }
     ensures plain { λ r. ⌜ (r .plain ≡ true → PlainCell (valueIn column 0 (now (rest .entry)))) ⌝ }
 {
-    let used = column_need(rest, column);
-    let item = decode_column_value(rest, column);
+    let d = decode_other_value(rest, column);
+    let item = d.item;
+    let used = d.used;
     let t = column.db2_type;
-    let l = item_len(item, &rest[..used], t);
+    let l = item_len(item, &rest[..used], text_start(t));
     PieceLength {
         used,
         len: l.len,
@@ -186,7 +160,7 @@ fn other_length(rest: &[u8], column: ColumnDescriptor) -> PieceLength
     }
 }
 
-// A column's text where a value is there, which begins with the first byte.
+// A column's text where a value is there, which begins with the first byte. A number has none, and is not decoded for that.
 fn value_length(rest: &[u8], column: ColumnDescriptor) -> PieceLength
     requires there { ⌜ need (extentOf column) (now rest) ≤ length (now rest) ⌝ }
     requires limit { ⌜ length (now rest) ≤ inputLimit ⌝ }
@@ -195,15 +169,14 @@ fn value_length(rest: &[u8], column: ColumnDescriptor) -> PieceLength
     ensures plain { λ r. ⌜ (r .plain ≡ true → PlainCell (valueIn column 0 (now (rest .entry)))) ⌝ }
 {
     let t = column.db2_type;
-    let n = number_bytes(t);
-    if 0 < n {
-        return PieceLength {
+    match number_width(t) {
+        NumberWidth::Bytes(n) => PieceLength {
             used: n,
             len: 0,
             plain: false,
-        };
+        },
+        NumberWidth::NoNumber => other_length(rest, column),
     }
-    other_length(rest, column)
 }
 
 // The length of the column's text.
@@ -245,43 +218,44 @@ fn number_piece(value: Db2Value, used: usize) -> PieceWritten
     }
 }
 
-// The value, where it is no number.
-fn other_write(
+// A value that is no number, as the column decoder found it at place `at` of the input. The mark of column k says that its text is the value's own
+// bytes, all from byte `from` on, as measuring found.
+pub fn other_write(
+    d: OtherValue,
+    from: usize,
     rest: &[u8],
     at: usize,
-    column: ColumnDescriptor,
     marks: &[u64; WORDS],
     k: usize,
     next: usize,
     out: &mut [u8],
 ) -> PieceWritten
-    requires there { ⌜ need (extentOf column) (now rest) ≤ length (now rest) ⌝ }
+    requires there { ⌜ d .used ≤ length (now rest) ⌝ }
     requires limit { ⌜ at + length (now rest) ≤ inputLimit ⌝ }
-    requires room { ⌜ length (valueText column (now rest)) ≤ length (now out) ⌝ }
-    requires plain { ⌜ (k < 768) × (markAt (now marks) k ≡ true → PlainCell (valueIn column at (now rest))) ⌝ }
-    ensures place { λ r. ⌜ r .place ≡ cellValue ported (valueIn column at (now (rest .entry))) next ⌝ }
-    ensures used { λ r. ⌜ r .used ≡ need (extentOf column) (now (rest .entry)) ⌝ }
-    ensures count { λ r. ⌜ r .written ≡ length (valueText column (now (rest .entry))) ⌝ }
-    ensures bytes { λ _. ⌜ now (out .exit) ≡ overwritten (valueText column (now (rest .entry))) (now (out .entry)) ⌝ }
+    requires within { ⌜ LiesWithin (d .item) (take (d .used) (now rest)) ⌝ }
+    requires room { ⌜ length (textHeld (d .item) (take (d .used) (now rest))) ≤ length (now out) ⌝ }
+    requires plain { ⌜ (k < 768) × (markAt (now marks) k ≡ true → textHeld (d .item) (take (d .used) (now rest)) ≡ drop from (take (d .used) (now rest))) ⌝ }
+    ensures place { λ r. ⌜ r .place ≡ placeOf d at next (now (rest .entry)) ⌝ }
+    ensures used { λ r. ⌜ r .used ≡ d .used ⌝ }
+    ensures count { λ r. ⌜ r .written ≡ length (textHeld (d .item) (take (d .used) (now (rest .entry)))) ⌝ }
+    ensures bytes { λ _. ⌜ now (out .exit) ≡ overwritten (textHeld (d .item) (take (d .used) (now (rest .entry)))) (now (out .entry)) ⌝ }
 {
-    let used = column_need(rest, column);
-    let found = decode_column_value(rest, column);
-    let external = refers(&rest[..used], column);
-    let t = column.db2_type;
-    let plain = is_marked(marks, k);
-    let item = item_read(found, plain, t, used);
-    let w = item_write(item, &rest[..used], at, next, out);
-    let value = w.value;
+    let item = d.item;
+    let used = d.used;
+    let w = item_write(item, from, marks, k, &rest[..used], at, next, out);
+    let found = w.value;
     PieceWritten {
-        place: ValuePlace { value, external },
+        place: ValuePlace {
+            value: found,
+            external: d.external,
+        },
         used,
         written: w.written,
     }
 }
 
-// A column's value where it is there, which begins with the first byte, at place `at` of the input. The mark of column k says that its text is
-// the value's own bytes, as measuring found.
-pub fn value_write(
+// A column's value where it is there, which begins with the first byte, at place `at` of the input.
+fn value_write(
     rest: &[u8],
     at: usize,
     column: ColumnDescriptor,
@@ -300,14 +274,9 @@ pub fn value_write(
     ensures bytes { λ _. ⌜ now (out .exit) ≡ overwritten (valueText column (now (rest .entry))) (now (out .entry)) ⌝ }
 {
     let t = column.db2_type;
-    let order = column.byte_order;
-    match t {
-        Db2Type::SmallInt => number_piece(small_int(rest, order), 2),
-        Db2Type::Integer => number_piece(integer(rest, order), 4),
-        Db2Type::BigInt => number_piece(big_int(rest, order), 8),
-        Db2Type::Real => number_piece(real(rest, order), 4),
-        Db2Type::Double => number_piece(double(rest, order), 8),
-        _ => other_write(rest, at, column, marks, k, next, out),
+    match decode_column_value(rest, column) {
+        ColumnValue::Number { value, used } => number_piece(value, used),
+        ColumnValue::Other(d) => { other_write(d, text_start(t), rest, at, marks, k, next, out) }
     }
 }
 

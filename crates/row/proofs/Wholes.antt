@@ -14,6 +14,14 @@ use Rattle.row.specs.Whole.{Whole}
 pub whole-is : {w : Walk} {end : ℕ} → Whole w end → w ≡ done (piecesOf w) end
 whole-is {w} {end} h = h .is ∙ ap (λ (ps : List Cell). done ps end) (sym (ap piecesOf (h .is)))
 
+-- the bytes of the input that a walk uses
+abbrev pub endOf : Walk → ℕ
+endOf (done ps n) = n
+endOf (short e a) = 0
+
+pub whole-ends : (w : Walk) → ((end : ℕ) × Whole w end) → Whole w (endOf w)
+whole-ends w h = record { cells = piecesOf w; is = whole-is (h .1) ∙ ap (done (piecesOf w)) (sym (ap endOf (whole-is (h .1)))) }
+
 -- ---- what is decided for the text buffer d
 
 module _ (cs : List ColumnDescriptor) (start : ℕ) (s d : List ℕ) where

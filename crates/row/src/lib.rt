@@ -18,7 +18,7 @@ use types::Place;
 use types::RowAnswer;
 use types::ValuePlace;
 ghost use mathlib.Core.Path.{_≡_};
-ghost use Prim.Native.Nat.{_≤_};
+ghost use Prim.Native.Nat.{ℕ, _≤_};
 ghost use lib.ListN.{length};
 ghost use Rattle.refusal.specs.Refusal.{inputLimit, refusalNumber, refusalValues};
 ghost use Rattle.types.specs.Places.{maxColumns, blankValue};
@@ -51,12 +51,11 @@ fn refused(r: Refusal) -> RowAnswer
     }
 }
 
-// How long the texts of a row are together, where a text buffer of `room` bytes is too short for them; else 0. Every column has its bytes, the last of
-// them before place `end` of the input. A column whose text is copied is marked.
+// How long the texts of a row are together, where a text buffer of `room` bytes is too short for them; else 0. Every column has its bytes. A column
+// whose text is copied is marked.
 fn text_needed(
     data: &[u8],
     start: usize,
-    end: usize,
     columns: Columns,
     room: usize,
     marks: &mut [u64; WORDS],
@@ -64,7 +63,7 @@ fn text_needed(
     requires count { ⌜ columns .count ≤ maxColumns ⌝ }
     requires start { ⌜ start ≤ length (now «data») ⌝ }
     requires limit { ⌜ length (now «data») ≤ inputLimit ⌝ }
-    requires whole { ⌜ Whole (walkBody (covered columns) start (now «data»)) end ⌝ }
+    requires whole { ⌜ ((end : ℕ) × Whole (walkBody (covered columns) start (now «data»)) end) ⌝ }
     requires marks { ⌜ PlainMarks (now marks) (walkBody (covered columns) start (now «data»)) ⌝ }
     ensures needed { λ r. ⌜ r ≡ neededBeyond room (textsOf (walkBody (covered columns) start (now («data» .entry)))) ⌝ }
     ensures marks { λ _. ⌜ PlainMarks (now (marks .exit)) (walkBody (covered columns) start (now («data» .entry))) ⌝ }
@@ -118,7 +117,7 @@ fn decode_row_body(data: &[u8], start: usize, columns: Columns, text: &mut [u8])
     let room = text.len();
     let mut marks: [u64; WORDS] = [NONE; WORDS];
     if room < 3 * (end - start) + 258 * count {
-        let needed = text_needed(data, start, end, columns, room, &mut marks);
+        let needed = text_needed(data, start, columns, room, &mut marks);
         if 0 < needed {
             return refused(Refusal::TextBufferTooShort { needed });
         }

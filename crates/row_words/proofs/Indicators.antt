@@ -1,5 +1,5 @@
 -- A column's indicator, by the column's first word: whether it has one, and what stands before its value. Assumes nothing.
-use Prim.Native.Nat.{ℕ}
+use Prim.Native.Nat.{ℕ, _≤_}
 use mathlib.Core.Path.{_≡_, refl, sym, ap, _∙_}
 use mathlib.Core.Bool.{Bool, false, cond}
 use mathlib.Core.List.{List}
@@ -12,6 +12,9 @@ use Rattle.piece.specs.Piece.{isNull, cellIn, valueIn, cellText, valueText}
 use Rattle.piece.proofs.PieceLaws.{leadOf}
 use Rattle.words.specs.Reading.{columnNamed}
 use Rattle.row_words.specs.Passes.{isNullable, wordsSet, threeSet}
+
+pub at-most : {n m k : ℕ} → n ≡ m → m ≤ k → n ≤ k
+at-most e h = rw e h
 
 -- Null is three zeros
 pub absent-words : (v : List ℕ) (q next : ℕ) → wordsSet v q 0 0 0 ≡ threeSet v q (cellValue ported absent next)

@@ -5,5 +5,4 @@ mod Putting
 mod Bounds
 mod Telling
 mod Indicators
-mod Numbers
-mod Characters
+mod Typed

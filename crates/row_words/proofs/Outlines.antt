@@ -1,6 +1,6 @@
 -- A walk by how it ends, and what is decided of the row then. Assumes nothing.
 use Prim.Native.Nat.{ℕ, _≤_, _<_}
-use mathlib.Core.Path.{_≡_, ap, _∙_}
+use mathlib.Core.Path.{_≡_, refl, ap, _∙_}
 use mathlib.Core.List.{List, [], _∷_}
 use native.Mathlib.Omega.{arith}
 use borrow.Author.Tests.{lt-ltb, le-ltb}
@@ -19,6 +19,15 @@ use Rattle.piece.proofs.Texts.{texts-are}
 pub is-done : (n : ℕ) (w : Walk) → Done n ≡ outline w → w ≡ done (piecesOf w) n
 is-done n (done ps m) h = let e : n ≡ m = cc in rw e
 is-done n (short x y) h = let z : _≡_ {A = ℕ} 0 1 = cc in absurd (omega arith)
+
+-- the bytes of the input that a walk uses
+abbrev pub endOf : Walk → ℕ
+endOf (done ps n) = n
+endOf (short e a) = 0
+
+pub done-ends : (w : Walk) → ((n : ℕ) × (Done n ≡ outline w)) → Done (endOf w) ≡ outline w
+done-ends (done ps m) h = refl
+done-ends (short x y) h = let k = h .1 in let z : _≡_ {A = ℕ} 0 1 = cc in absurd (omega arith)
 
 pub is-short : (x y : ℕ) (w : Walk) → Short x y ≡ outline w → w ≡ short x y
 is-short x y (done ps m) h = let z : _≡_ {A = ℕ} 0 1 = cc in absurd (omega arith)

@@ -1,7 +1,7 @@
 -- For inner functions; no public promise rests on it. What each pass over the columns tells. Assumes nothing.
 use Prim.Native.Nat.{ℕ, _+_, _/_, _%_, _^_}
 use mathlib.Core.Path.{_≡_}
-use mathlib.Core.Bool.{Bool, cond}
+use mathlib.Core.Bool.{Bool, false, cond}
 use mathlib.Core.List.{List, [], _∷_}
 use mathlib.Core.Option.{Option, some, none}
 use lib.Dec.{ltb, eqb}
@@ -11,9 +11,11 @@ use Rattle.types.specs.declared.ColumnDescriptor.{ColumnDescriptor}
 use Rattle.types.specs.declared.ValuePlace.{ValuePlace}
 use Rattle.types.specs.Names.{namedIn}
 use Rattle.rules.specs.Walk.{Cell, Walk, done, short}
-use Rattle.rules.specs.Row.{Decision, refuse, accept, rowTexts}
+use Rattle.rules.specs.Row.{anyDecFloat, Decision, refuse, accept, rowTexts}
 use Rattle.rules.specs.Conversions.{ported}
 use Rattle.conversion.specs.Conversion.{characterText}
+use Rattle.cell.specs.Cell.{isNumber}
+use Rattle.words.specs.Words.{typeNamed}
 use Rattle.words.specs.Reading.{columnNamed}
 use Rattle.words.specs.Values.{kindWord, numberWord, lengthWord}
 use Rattle.row_words.specs.declared.Checked.{Checked}
@@ -23,13 +25,9 @@ use Rattle.row_words.specs.declared.Walked.the-variants.{Done, Short}
 use Rattle.row_words.specs.declared.RowOutcome.{RowOutcome}
 use Rattle.row_words.specs.declared.RowOutcome.the-variants.{Accepted, TooShort, TextTooShort}
 
--- how many columns are of type DecFloat
-abbrev pub decFloats : List ColumnDescriptor → ℕ
-decFloats [] = 0
-decFloats (c ∷ cs) = cond (namedIn (type.DecFloat 0 ∷ []) (c .«db2_type»)) 1 0 + decFloats cs
-
+-- whether a column is of type DecFloat, or that some words are no column's
 abbrev pub checkedOf : Option (List ColumnDescriptor) → Checked
-checkedOf (some cs) = Columns (decFloats cs)
+checkedOf (some cs) = Columns (anyDecFloat cs)
 checkedOf none = NoColumn
 
 -- the columns that words name, two words for each. Where readColumns reads columns, it reads these
@@ -47,20 +45,9 @@ isNullable first = eqb (first / 2 ^ 48 % 2) 1
 abbrev pub typeNumbers : ℕ → ℕ
 typeNumbers first = first / 2 ^ 8 % 2 ^ 16
 
--- how many bytes a number takes: the first five types; else 0
-abbrev pub numberBytes : ℕ → ℕ
-numberBytes first = getD (2 ∷ 4 ∷ 8 ∷ 4 ∷ 8 ∷ []) (first % 2 ^ 8) 0
-
--- the same where it has no indicator; else 0
-abbrev pub numberWidth : ℕ → ℕ
-numberWidth first = cond (isNullable first) 0 (numberBytes first)
-
-abbrev pub timestampBytes : ℕ → ℕ
-timestampBytes second = cond (eqb (second % 2 ^ 16) 0) 26 (second % 2 ^ 16)
-
--- the text of a value of n bytes of s, from its byte `from` on, by the CCSID
-abbrev pub charactersIn : ℕ → ℕ → ℕ → List ℕ → List ℕ
-charactersIn second from n s = characterText (second / 2 ^ 32 % 2 ^ 16) (drop from (take n s))
+-- the type is none of numbers
+abbrev pub NoNumber : ℕ → Type 0
+NoNumber first = isNumber (typeNamed (first % 2 ^ 8) (typeNumbers first)) ≡ false
 
 -- ---- words written
 

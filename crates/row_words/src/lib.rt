@@ -2,6 +2,8 @@
 // buffer. What it costs grows with the columns used: no list of 128 places is made. crates/exported has the refusals before the body.
 mod needs;
 mod puts;
+mod tags;
+mod values;
 
 use needs::need_named;
 use piece::marks::NONE;
@@ -11,18 +13,15 @@ use piece::piece_length;
 use piece::shortage;
 use piece::skip_of;
 use puts::put_column;
-use types::Db2Type;
+use types::Db2Value;
 use words::column_named;
 use words::is_column;
-use words::type_word;
 ghost use mathlib.Core.Path.{_≡_};
-ghost use Prim.Native.Nat.{_*_, _/_, _%_, _≤_, _^_};
-ghost use mathlib.Core.Bool.{cond};
+ghost use Prim.Native.Nat.{ℕ, _*_, _/_, _%_, _≤_, _^_};
+ghost use mathlib.Core.Bool.{_||_};
 ghost use lib.Dec.{eqb};
 ghost use lib.ListN.{length};
 ghost use Rattle.refusal.specs.Refusal.{inputLimit};
-ghost use Rattle.types.specs.declared.Db2Type.the-variants.{DecFloat};
-ghost use Rattle.types.specs.Names.{nameOf};
 ghost use Rattle.types.specs.Places.{maxColumns};
 ghost use Rattle.rules.specs.Walk.{skipOf, walkBody};
 ghost use Rattle.rules.specs.Row.{bodyDecision, textAfter};
@@ -33,9 +32,9 @@ ghost use Rattle.row_words.specs.Passes.{checkedOf, columnsNamed, outlin
 ghost use Rattle.piece.specs.Marks.{PlainMarks};
 ghost use Rattle.piece.specs.Texts.{textsOf, neededBeyond};
 
-// What the columns' words say before the row is looked at: how many columns are of type DecFloat, or that some words are no column's.
+// What the columns' words say before the row is looked at: whether a column is of type DecFloat, or that some words are no column's.
 pub enum Checked {
-    Columns { dec_floats: usize },
+    Columns { dec_float: bool },
     NoColumn,
 }
 
@@ -43,6 +42,12 @@ pub enum Checked {
 pub enum Walked {
     Done { end: usize },
     Short { expected: usize, actual: usize },
+}
+
+// A number, and how many bytes it takes.
+pub struct NumberValue {
+    pub value: Db2Value,
+    pub used: usize,
 }
 
 // How many bytes of the row a column took, and how many bytes of text were written.
@@ -58,33 +63,32 @@ pub enum RowOutcome {
     TextTooShort { needed: usize },
 }
 
-// The place of a type's name stands in the low 8 bits of a column's first word.
-fn count_dec_float(first: u64) -> usize
-    ensures { λ r. ⌜ (r ≡ cond (eqb (nameOf (DecFloat 0)) (first % 2 ^ 8)) 1 0) × (r ≤ 1) ⌝ }
+// Whether a column was of type DecFloat, or the one of this first word is.
+fn is_dec_float(before: bool, first: u64) -> bool
+    ensures { λ r. ⌜ r ≡ (before || eqb 6 (first % 2 ^ 8)) ⌝ }
 {
-    let name = type_word(Db2Type::DecFloat(0));
-    if name == first % 0x100 {
-        return 1;
+    if before {
+        return true;
     }
-    0
+    tags::DEC_FLOAT == first % 0x100
 }
 
-// Whether every two words are a column's, and how many of the columns are of type DecFloat.
+// Whether every two words are a column's, and whether one of the columns is of type DecFloat.
 pub fn check_columns(columns: &[u64]) -> Checked
     ensures { λ r. ⌜ r ≡ checkedOf (readColumns (now (columns .entry))) ⌝ }
 {
-    let mut dec_floats: usize = 0;
+    let mut dec_float = false;
     let mut at: usize = 0;
     while at + 1 < columns.len() {
         let first = columns[at];
         if !is_column(first, columns[at + 1]) {
             return Checked::NoColumn;
         }
-        dec_floats += count_dec_float(first);
+        dec_float = is_dec_float(dec_float, first);
         at += 2;
     }
     if at == columns.len() {
-        return Checked::Columns { dec_floats };
+        return Checked::Columns { dec_float };
     }
     Checked::NoColumn
 }
@@ -164,14 +168,13 @@ fn write_columns(
     columns: &[u64],
     data: &[u8],
     start: usize,
-    end: usize,
     marks: &[u64; WORDS],
     values: &mut [u64],
     text: &mut [u8],
 ) -> usize
     requires start { ⌜ start ≤ length (now «data») ⌝ }
     requires limit { ⌜ length (now «data») ≤ inputLimit ⌝ }
-    requires whole { ⌜ Walked.Done end ≡ outline (walkBody (columnsNamed (now columns)) start (now «data»)) ⌝ }
+    requires whole { ⌜ ((end : ℕ) × (Walked.Done end ≡ outline (walkBody (columnsNamed (now columns)) start (now «data»)))) ⌝ }
     requires words { ⌜ 3 * (length (now columns) / 2) ≤ length (now values) ⌝ }
     requires room { ⌜ length (textsOf (walkBody (columnsNamed (now columns)) start (now «data»))) ≤ length (now text) ⌝ }
     requires count { ⌜ length (now columns) / 2 ≤ maxColumns ⌝ }
@@ -223,7 +226,7 @@ pub fn decode_row(columns: &[u64], data: &[u8], values: &mut [u64], text: &mut [
             if 0 < needed {
                 return RowOutcome::TextTooShort { needed };
             }
-            let written = write_columns(columns, data, start, end, &marks, values, text);
+            let written = write_columns(columns, data, start, &marks, values, text);
             RowOutcome::Accepted { used: end, written }
         }
     }

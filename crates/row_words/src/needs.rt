@@ -1,22 +1,22 @@
-// How many bytes a column takes of the rest of the row, by its two words. Of the common types the words say all that is needed: no column is
-// made of them, which would go through memory.
-use cell::extents::column_need;
-use numbers::u16_of;
+// How many bytes a column takes of the rest of the row, by its two words. Of the common types the words say all that the column decoder's functions
+// ask for: no column is made of them, which would go through memory.
+use crate::tags;
+use cell::extents;
+use cell::extents::counted_need;
+use cell::extents::decimal_need;
+use cell::extents::other_need;
+use cell::extents::timestamp_need;
 use piece::is_null;
 use piece::lead;
-use types::ByteOrder;
 use words::column_named;
 ghost use mathlib.Core.Path.{_≡_};
-ghost use mathlib.Core.Bool.{false};
-ghost use Prim.Native.Nat.{ℕ, _%_, _≤_, _<_, _^_};
+ghost use Prim.Native.Nat.{_/_, _%_, _<_, _≤_, _^_};
 ghost use Rattle.types.specs.Names.{bit8000};
-ghost use Rattle.types.specs.FixedLength.{packedLength};
-ghost use Rattle.packed.specs.Packed.{mostBytes};
 ghost use Rattle.rules.specs.Extent.{need, extentOf};
 ghost use Rattle.rules.specs.Walk.{columnNeed};
 ghost use Rattle.cell.specs.Inner.{mostNeed};
 ghost use Rattle.words.specs.Reading.{columnNamed};
-ghost use Rattle.row_words.specs.Passes.{isNullable, typeNumbers, numberBytes, numberWidth, timestampBytes};
+ghost use Rattle.row_words.specs.Passes.{isNullable, typeNumbers, NoNumber};
 
 pub fn is_nullable(first: u64) -> bool
     ensures { λ r. ⌜ r ≡ isNullable first ⌝ }
@@ -24,103 +24,68 @@ pub fn is_nullable(first: u64) -> bool
     first / 0x1_0000_0000_0000 % 2 == 1
 }
 
-// How many bytes a number takes; 0 where the column is none.
-pub fn number_bytes(first: u64) -> usize
-    ensures { λ r. ⌜ r ≡ numberBytes first ⌝ }
-{
-    match first % 0x100 {
-        0 => 2,
-        1 => 4,
-        2 => 8,
-        3 => 4,
-        4 => 8,
-        _ => 0,
-    }
-}
-
-// How many bytes a column takes that is a number and has no indicator; else 0. Such columns are common, and asked for first.
-pub fn number_width(first: u64) -> usize
-    ensures { λ r. ⌜ r ≡ numberWidth first ⌝ }
-{
-    if is_nullable(first) {
-        return 0;
-    }
-    number_bytes(first)
-}
-
-// The bytes of a Decimal, a Char and a Timestamp.
-pub fn decimal_bytes(first: u64) -> usize
-    ensures { λ r. ⌜ (r ≡ packedLength (typeNumbers first % 2 ^ 8)) × ((0 < r) × (r ≤ mostBytes)) ⌝ }
-{
-    ((first / 0x100 % 0x1_0000 % 0x100) as usize + 2) / 2
-}
-
-pub fn char_bytes(first: u64) -> usize
+// The numbers that the type holds, as one; of a Decimal the precision and the scale.
+pub fn type_numbers(first: u64) -> u16
     ensures { λ r. ⌜ r ≡ typeNumbers first ⌝ }
 {
-    (first / 0x100 % 0x1_0000) as usize
+    (first / 0x100 % 0x1_0000) as u16
 }
 
-pub fn timestamp_bytes(second: u64) -> usize
-    ensures { λ r. ⌜ (r ≡ timestampBytes second) × (r ≤ mostNeed) ⌝ }
+pub fn precision(first: u64) -> u8
+    ensures { λ r. ⌜ r ≡ typeNumbers first % 2 ^ 8 ⌝ }
 {
-    let n = (second % 0x1_0000) as usize;
-    if n == 0 {
-        return 26;
-    }
-    n
+    (first / 0x100 % 0x100) as u8
+}
+
+// The column's own length.
+pub fn length_of(second: u64) -> u16
+    ensures { λ r. ⌜ r ≡ second % 2 ^ 16 ⌝ }
+{
+    (second % 0x1_0000) as u16
 }
 
 // Whether a VarChar is the header of a LOB outside the row.
 pub fn is_header(first: u64) -> bool
     ensures { λ r. ⌜ r ≡ bit8000 (typeNumbers first) ⌝ }
 {
-    0x8000 <= first / 0x100 % 0x1_0000
+    0x8000 <= type_numbers(first)
 }
 
-fn other_need(rest: &[u8], first: u64, second: u64) -> usize
+fn other_named(rest: &[u8], first: u64, second: u64) -> usize
+    requires { ⌜ NoNumber first ⌝ }
     ensures { λ r. ⌜ (r ≡ need (extentOf (columnNamed first second)) (now (rest .entry))) × (r ≤ mostNeed) ⌝ }
 {
     let column = column_named(first, second);
-    column_need(rest, column)
+    other_need(rest, column)
 }
 
-// A VarChar within the row: two bytes that count, and those.
-pub fn counted_bytes(rest: &[u8], first: u64) -> usize
-    requires tag { ⌜ first % 2 ^ 8 ≡ 8 ⌝ }
-    requires within { ⌜ bit8000 (typeNumbers first) ≡ false ⌝ }
-    ensures { λ r. ⌜ ((second : ℕ) → r ≡ need (extentOf (columnNamed first second)) (now (rest .entry))) × ((2 ≤ r) × (r ≤ mostNeed)) ⌝ }
-{
-    if rest.len() < 2 {
-        return 2;
-    }
-    2 + u16_of(rest, ByteOrder::BigEndian) as usize
-}
-
-fn varchar_need(rest: &[u8], first: u64, second: u64) -> usize
+fn var_char_need(rest: &[u8], first: u64, second: u64) -> usize
     requires { ⌜ first % 2 ^ 8 ≡ 8 ⌝ }
     ensures { λ r. ⌜ (r ≡ need (extentOf (columnNamed first second)) (now (rest .entry))) × (r ≤ mostNeed) ⌝ }
 {
     if is_header(first) {
-        return other_need(rest, first, second);
+        return other_named(rest, first, second);
     }
-    counted_bytes(rest, first)
+    counted_need(1, rest)
 }
 
-// How many bytes a value takes that is there. The low 8 bits of the first word are the place of the type's name (crates/types/specs/Names.antt): 0 to 4
-// are the numbers, 5 Decimal, 7 Char, 8 VarChar, 15 Date, 16 Time, 17 Timestamp.
+// How many bytes a value takes that is there.
 fn value_need(rest: &[u8], first: u64, second: u64) -> usize
     ensures { λ r. ⌜ (r ≡ need (extentOf (columnNamed first second)) (now (rest .entry))) × (r ≤ mostNeed) ⌝ }
 {
     match first % 0x100 {
-        0..=4 => number_bytes(first),
-        5 => decimal_bytes(first),
-        7 => char_bytes(first),
-        8 => varchar_need(rest, first, second),
-        15 => 10,
-        16 => 8,
-        17 => timestamp_bytes(second),
-        _ => other_need(rest, first, second),
+        tags::SMALL_INT => extents::SMALL_INT,
+        tags::INTEGER => extents::INTEGER,
+        tags::BIG_INT => extents::BIG_INT,
+        tags::REAL => extents::REAL,
+        tags::DOUBLE => extents::DOUBLE,
+        tags::DECIMAL => decimal_need(precision(first)),
+        tags::CHAR => type_numbers(first) as usize,
+        tags::VAR_CHAR => var_char_need(rest, first, second),
+        tags::DATE => extents::DATE,
+        tags::TIME => extents::TIME,
+        tags::TIMESTAMP => timestamp_need(length_of(second)),
+        _ => other_named(rest, first, second),
     }
 }
 
@@ -128,10 +93,6 @@ fn value_need(rest: &[u8], first: u64, second: u64) -> usize
 pub fn need_named(rest: &[u8], first: u64, second: u64) -> usize
     ensures { λ r. ⌜ r ≡ columnNeed (columnNamed first second) (now (rest .entry)) ⌝ }
 {
-    let width = number_width(first);
-    if 0 < width {
-        return width;
-    }
     let nullable = is_nullable(first);
     if is_null(rest, nullable) {
         return 1;

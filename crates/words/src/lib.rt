@@ -14,7 +14,7 @@ use types::ReferenceLength;
 use types::ValuePlace;
 ghost use mathlib.Core.Path.{_≡_};
 ghost use mathlib.Core.Bool.{cond};
-ghost use Prim.Native.Nat.{_+_, _*_, _<_, _≤_, _^_};
+ghost use Prim.Native.Nat.{_+_, _*_, _/_, _%_, _<_, _≤_, _^_};
 ghost use lib.Dec.{eqb};
 ghost use lib.Ieee.{binary32, binary64};
 ghost use mir.Syntax.{w64};
@@ -253,6 +253,20 @@ fn reference_named(bit: u64, n: u16) -> ReferenceLength
         return ReferenceLength::Width(n);
     }
     ReferenceLength::Absent
+}
+
+// The type that the bits of a column's first word name.
+pub fn type_of(first: u64) -> Db2Type
+    ensures { λ r. ⌜ r ≡ typeNamed (first % 2 ^ 8) (first / 2 ^ 8 % 2 ^ 16) ⌝ }
+{
+    type_named((first % 0x100) as u8, (first / 0x100 % 0x1_0000) as u16)
+}
+
+// The byte order that they name.
+pub fn order_of(first: u64) -> ByteOrder
+    ensures { λ r. ⌜ r ≡ orderNamed (first / 2 ^ 49 % 2) ⌝ }
+{
+    order_named(first / 0x2_0000_0000_0000 % 2)
 }
 
 // The column that the bits of two words name. They are its words where is_column says so.

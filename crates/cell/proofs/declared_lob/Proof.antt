@@ -1,5 +1,6 @@
 -- `cell::declared_lob` meets its contract: the tests on the way to each `return` decide the definition's. Assumes nothing.
 use mathlib.Core.Path.{sym, _∙_}
+use denote.Ref.{now}
 use borrow.Author.Needs.{needs}
 use Rattle.cell.proofs.declared_lob.Statement.{statement}
 use Rattle.cell.proofs.declared_lob.Tie as tie
@@ -11,7 +12,7 @@ lob-empty-requires : tie.Need-lob-empty-requires
 lob-empty-requires c κs = search needs
 
 returns : tie.Need-returns
-returns c = rw (sym (c .before .before .all-zero .ensures) ∙ c .before .if1 .taken) (c .lob-empty .ensures)
+returns c = rw (sym (c .before .before .all-zero .ensures) ∙ c .before .if1 .taken) (c .lob-empty .ensures (now (c .before .before .before .before .args .bytes)))
 
 is-empty-reference-requires : tie.Need-is-empty-reference-requires
 is-empty-reference-requires c κs = search needs
@@ -20,7 +21,7 @@ lob-empty-requires-2 : tie.Need-lob-empty-requires-2
 lob-empty-requires-2 c κs = search needs
 
 returns-2 : tie.Need-returns-2
-returns-2 c = rw (sym (c .before .before .before .before .all-zero .ensures) ∙ c .before .before .before .if1 .left, sym (c .before .before .is-empty-reference .ensures) ∙ c .before .if2 .taken) (c .lob-empty2 .ensures)
+returns-2 c = rw (sym (c .before .before .before .before .all-zero .ensures) ∙ c .before .before .before .if1 .left, sym (c .before .before .is-empty-reference .ensures) ∙ c .before .if2 .taken) (c .lob-empty2 .ensures (now (c .before .before .before .before .before .before .args .bytes)))
 
 lob-reference-requires : tie.Need-lob-reference-requires
 lob-reference-requires c κs = search needs

@@ -2,7 +2,6 @@
 use mathlib.Core.Path.{sym, ap, _∙_}
 use denote.Ref.{now}
 use Rattle.rules.specs.Meaning.{isEmptyHeader}
-use Rattle.conversion.specs.Picked.{textIn}
 use Rattle.cell.proofs.ItemLaws.{all-from}
 use borrow.Author.Needs.{needs}
 use Rattle.cell.proofs.header_from.Statement.{statement}
@@ -26,13 +25,12 @@ empty-text-requires c κs = search needs
 returns : tie.Need-returns
 returns c = let a = c .before .before .before .before .before .args in
     let e = sym (ap isEmptyHeader (all-from (a .from) (now (a .bytes)))) ∙ sym (c .before .before .is-empty-header .ensures) ∙ c .before .if1 .taken in
-    rw e (c .empty-text .ensures)
+    rw e (c .empty-text .ensures (now (a .bytes)))
 
 text-from-requires : tie.Need-text-from-requires
 text-from-requires c κs = search needs
 
 returns-2 : tie.Need-returns-2
-unfolding textIn
 returns-2 c = let a = c .before .before .before .before .before .args in
     let e = sym (ap isEmptyHeader (all-from (a .from) (now (a .bytes)))) ∙ sym (c .before .before .is-empty-header .ensures) ∙ c .before .if1 .left in
     rw e (c .text-from .ensures)

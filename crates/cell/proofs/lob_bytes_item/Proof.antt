@@ -20,12 +20,12 @@ returns c = rw (sym (c .before .before .is-short-reference .ensures) ∙ c .befo
 bytes-are-likely-text-requires : tie.Need-bytes-are-likely-text-requires
 bytes-are-likely-text-requires c κs = search needs
 
-characters-from-requires : tie.Need-characters-from-requires
-characters-from-requires c κs = search needs
+text-from-requires : tie.Need-text-from-requires
+text-from-requires c κs = search needs
 
 returns-2 : tie.Need-returns-2
 unfolding lobBytesItem
-returns-2 c = rw (sym (c .before .before .before .before .is-short-reference .ensures) ∙ c .before .before .before .if1 .left, sym (c .before .before .bytes-are-likely-text .ensures) ∙ c .before .if2 .taken) (c .characters-from .ensures)
+returns-2 c = rw (sym (c .before .before .before .before .is-short-reference .ensures) ∙ c .before .before .before .if1 .left, sym (c .before .before .bytes-are-likely-text .ensures) ∙ c .before .if2 .taken) (c .text-from .ensures)
 
 part-from-requires-2 : tie.Need-part-from-requires-2
 part-from-requires-2 c κs = search needs
@@ -42,7 +42,7 @@ lob-bytes-item-spec =
     part-from-requires
     returns
     bytes-are-likely-text-requires
-    characters-from-requires
+    text-from-requires
     returns-2
     part-from-requires-2
     returns-3)

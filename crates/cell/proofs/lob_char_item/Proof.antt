@@ -1,7 +1,6 @@
 -- `cell::lob_char_item` meets its contract: the test decides the definition's. Assumes nothing.
 use mathlib.Core.Path.{sym, _∙_}
 use Rattle.rules.specs.Meaning.{lobCharItem}
-use Rattle.conversion.specs.Picked.{textIn}
 use borrow.Author.Needs.{needs}
 use Rattle.cell.proofs.lob_char_item.Statement.{statement}
 use Rattle.cell.proofs.lob_char_item.Tie as tie
@@ -13,15 +12,15 @@ text-from-requires : tie.Need-text-from-requires
 text-from-requires c κs = search needs
 
 returns : tie.Need-returns
-unfolding lobCharItem textIn
+unfolding lobCharItem
 returns c = rw (sym (c .before .before .is-short-reference .ensures) ∙ c .before .if1 .taken) (c .text-from .ensures)
 
-characters-from-requires : tie.Need-characters-from-requires
-characters-from-requires c κs = search needs
+text-from-requires-2 : tie.Need-text-from-requires-2
+text-from-requires-2 c κs = search needs
 
 returns-2 : tie.Need-returns-2
 unfolding lobCharItem
-returns-2 c = rw (sym (c .before .before .is-short-reference .ensures) ∙ c .before .if1 .left) (c .characters-from .ensures)
+returns-2 c = rw (sym (c .before .before .is-short-reference .ensures) ∙ c .before .if1 .left) (c .text-from2 .ensures)
 
 pub lob-char-item-spec : {M : Type 1} → statement M
 lob-char-item-spec =
@@ -30,5 +29,5 @@ lob-char-item-spec =
     is-short-reference-requires
     text-from-requires
     returns
-    characters-from-requires
+    text-from-requires-2
     returns-2)

@@ -1,6 +1,5 @@
 -- `cell::lob_inline` meets its contract: in each arm the kind is known. Assumes nothing.
 use Rattle.rules.specs.Meaning.{lobInline}
-use Rattle.conversion.specs.Picked.{textIn}
 use borrow.Author.Needs.{needs}
 use Rattle.cell.proofs.lob_inline.Statement.{statement}
 use Rattle.cell.proofs.lob_inline.Tie as tie
@@ -28,11 +27,11 @@ unfolding lobInline
 returns c = rw (c .before .enum-told .given .1) (c .part-from .ensures)
 
 returns-2 : tie.Need-returns-2
-unfolding lobInline textIn
+unfolding lobInline
 returns-2 c = rw (c .before .enum-told2 .given .1) (c .text-from .ensures)
 
 returns-3 : tie.Need-returns-3
-unfolding lobInline textIn
+unfolding lobInline
 returns-3 c = rw (c .before .enum-told3 .given .1) (c .text-from2 .ensures)
 
 pub lob-inline-spec : {M : Type 1} → statement M

@@ -1,6 +1,5 @@
 -- `cell::lob_reference` meets its contract: in each arm the kind is known. Assumes nothing.
 use Rattle.rules.specs.Meaning.{lobReference}
-use Rattle.conversion.specs.Picked.{textIn}
 use borrow.Author.Needs.{needs}
 use Rattle.cell.proofs.lob_reference.Statement.{statement}
 use Rattle.cell.proofs.lob_reference.Tie as tie
@@ -27,11 +26,11 @@ returns : tie.Need-returns
 returns c = rw (c .before .enum-told .given .1) (c .first-four .ensures)
 
 returns-2 : tie.Need-returns-2
-unfolding lobReference textIn
+unfolding lobReference
 returns-2 c = rw (c .before .enum-told2 .given .1) (c .text-from .ensures)
 
 returns-3 : tie.Need-returns-3
-unfolding lobReference textIn
+unfolding lobReference
 returns-3 c = rw (c .before .enum-told3 .given .1) (c .text-from2 .ensures)
 
 pub lob-reference-spec : {M : Type 1} → statement M

@@ -27,7 +27,7 @@ lob-empty-requires c κs = search needs
 
 returns : tie.Need-returns
 returns c = let z = sym (ap allZero (all-from 1 (now (c .before .before .before .before .before .before .before .args .bytes)))) ∙ sym (c .before .before .all-zero .ensures) ∙ c .before .if2 .taken in
-    rw (sym (c .before .before .before .before .before .is-reference .ensures) ∙ c .before .before .before .before .if1 .taken, z) (c .lob-empty .ensures)
+    rw (sym (c .before .before .before .before .before .is-reference .ensures) ∙ c .before .before .before .before .if1 .taken, z) (c .lob-empty .ensures (now (c .before .before .before .before .before .before .before .args .bytes)))
 
 lob-reference-requires : tie.Need-lob-reference-requires
 lob-reference-requires c κs = search needs

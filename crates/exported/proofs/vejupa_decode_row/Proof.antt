@@ -18,8 +18,8 @@ returns-2 c = too-few (now (c .before .before .before .before .before .before .a
 check-columns-requires : tie.Need-check-columns-requires
 check-columns-requires c κs = search needs
 
-enum-known-dec-floats : tie.Need-enum-known-dec-floats
-enum-known-dec-floats c = search needs
+enum-known-dec-float : tie.Need-enum-known-dec-float
+enum-known-dec-float c = search needs
 
 enum-told : tie.Need-enum-told
 enum-told c = search needs
@@ -28,10 +28,10 @@ returns-3 : tie.Need-returns-3
 returns-3 c = no-column (now (c .before .before .before .before .before .before .before .before .before .args .columns)) (now (c .before .before .before .before .before .before .before .before .before .args .«data»)) (now (c .before .before .before .before .before .before .before .before .before .args .values)) (now (c .before .before .before .before .before .before .before .before .before .args .text)) (c .before .before .before .before .if1 .left) (c .before .before .before .if2 .left) (sym (c .enum-told .given .1) ∙ c .before .before .check-columns .ensures)
 
 returns-4 : tie.Need-returns-4
-returns-4 c = too-long (now (c .before .before .before .before .before .before .before .before .before .before .before .args .columns)) (now (c .before .before .before .before .before .before .before .before .before .before .before .args .«data»)) (now (c .before .before .before .before .before .before .before .before .before .before .before .args .values)) (now (c .before .before .before .before .before .before .before .before .before .before .before .args .text)) (c .before .before .before .before .before .before .if1 .left) (c .before .before .before .before .before .if2 .left) _ (sym (c .before .before .dec-floats .given .1) ∙ c .before .before .before .before .check-columns .ensures) (c .if3 .taken)
+returns-4 c = too-long (now (c .before .before .before .before .before .before .before .before .before .before .before .args .columns)) (now (c .before .before .before .before .before .before .before .before .before .before .before .args .«data»)) (now (c .before .before .before .before .before .before .before .before .before .before .before .args .values)) (now (c .before .before .before .before .before .before .before .before .before .before .before .args .text)) (c .before .before .before .before .before .before .if1 .left) (c .before .before .before .before .before .if2 .left) _ (sym (c .before .before .dec-float .given .1) ∙ c .before .before .before .before .check-columns .ensures) (c .if3 .taken)
 
 returns-5 : tie.Need-returns-5
-returns-5 c = dec-float (now (c .before .before .before .before .before .before .before .before .before .before .before .before .args .columns)) (now (c .before .before .before .before .before .before .before .before .before .before .before .before .args .«data»)) (now (c .before .before .before .before .before .before .before .before .before .before .before .before .args .values)) (now (c .before .before .before .before .before .before .before .before .before .before .before .before .args .text)) (c .before .before .before .before .before .before .before .if1 .left) (c .before .before .before .before .before .before .if2 .left) _ (sym (c .before .before .before .dec-floats .given .1) ∙ c .before .before .before .before .before .check-columns .ensures) (c .before .if3 .left) (c .if4 .taken)
+returns-5 c = dec-float (now (c .before .before .before .before .before .before .before .before .before .before .before .before .args .columns)) (now (c .before .before .before .before .before .before .before .before .before .before .before .before .args .«data»)) (now (c .before .before .before .before .before .before .before .before .before .before .before .before .args .values)) (now (c .before .before .before .before .before .before .before .before .before .before .before .before .args .text)) (c .before .before .before .before .before .before .before .if1 .left) (c .before .before .before .before .before .before .if2 .left) _ (sym (c .before .before .before .dec-float .given .1) ∙ c .before .before .before .before .before .check-columns .ensures) (c .before .if3 .left) (c .if4 .taken)
 
 decode-row-requires : tie.Need-decode-row-requires
 decode-row-requires c κs = (c .before .before .before .before .before .before .before .before .before .if1 .left, (c .before .before .before .if3 .left, c .before .before .before .before .before .before .before .before .if2 .left))
@@ -52,7 +52,7 @@ same-length-2 : tie.Need-same-length-2
 same-length-2 c = search needs
 
 returns-6 : tie.Need-returns-6
-returns-6 c = accepted-row (now (c .before .before .before .before .before .before .before .before .before .before .before .before .before .before .before .before .before .before .before .before .before .before .args .columns)) (now (c .before .before .before .before .before .before .before .before .before .before .before .before .before .before .before .before .before .before .before .before .before .before .args .«data»)) (now (c .before .before .before .before .before .before .before .before .before .before .before .before .before .before .before .before .before .before .before .before .before .before .args .values)) (now (c .before .before .before .before .before .before .before .before .before .before .before .before .before .before .before .before .before .before .before .before .before .before .args .text)) (c .before .before .before .before .before .before .before .before .before .before .before .before .before .before .before .before .before .if1 .left) (c .before .before .before .before .before .before .before .before .before .before .before .before .before .before .before .before .if2 .left) _ (sym (c .before .before .before .before .before .before .before .before .before .before .before .before .before .dec-floats .given .1) ∙ c .before .before .before .before .before .before .before .before .before .before .before .before .before .before .before .check-columns .ensures) (c .before .before .before .before .before .before .before .before .before .before .before .if3 .left) (c .before .before .before .before .before .before .before .before .before .before .if4 .left) _ _ (c .before .before .before .before .before .before .before .decode-row .ensures .1 .0) (c .before .before .before .before .before .before .before .decode-row .ensures .1 .1) _ _ (rw (c .before .used .given .1) at (c .before .before .before .before .before .before .before .decode-row .ensures .0))
+returns-6 c = accepted-row (now (c .before .before .before .before .before .before .before .before .before .before .before .before .before .before .before .before .before .before .before .before .before .before .args .columns)) (now (c .before .before .before .before .before .before .before .before .before .before .before .before .before .before .before .before .before .before .before .before .before .before .args .«data»)) (now (c .before .before .before .before .before .before .before .before .before .before .before .before .before .before .before .before .before .before .before .before .before .before .args .values)) (now (c .before .before .before .before .before .before .before .before .before .before .before .before .before .before .before .before .before .before .before .before .before .before .args .text)) (c .before .before .before .before .before .before .before .before .before .before .before .before .before .before .before .before .before .if1 .left) (c .before .before .before .before .before .before .before .before .before .before .before .before .before .before .before .before .if2 .left) _ (sym (c .before .before .before .before .before .before .before .before .before .before .before .before .before .dec-float .given .1) ∙ c .before .before .before .before .before .before .before .before .before .before .before .before .before .before .before .check-columns .ensures) (c .before .before .before .before .before .before .before .before .before .before .before .if3 .left) (c .before .before .before .before .before .before .before .before .before .before .if4 .left) _ _ (c .before .before .before .before .before .before .before .decode-row .ensures .1 .0) (c .before .before .before .before .before .before .before .decode-row .ensures .1 .1) _ _ (rw (c .before .used .given .1) at (c .before .before .before .before .before .before .before .decode-row .ensures .0))
 
 same-length-3 : tie.Need-same-length-3
 same-length-3 c = search needs
@@ -61,7 +61,7 @@ same-length-4 : tie.Need-same-length-4
 same-length-4 c = search needs
 
 returns-7 : tie.Need-returns-7
-returns-7 c = too-short (now (c .before .before .before .before .before .before .before .before .before .before .before .before .before .before .before .before .before .before .before .before .before .before .args .columns)) (now (c .before .before .before .before .before .before .before .before .before .before .before .before .before .before .before .before .before .before .before .before .before .before .args .«data»)) (now (c .before .before .before .before .before .before .before .before .before .before .before .before .before .before .before .before .before .before .before .before .before .before .args .values)) (now (c .before .before .before .before .before .before .before .before .before .before .before .before .before .before .before .before .before .before .before .before .before .before .args .text)) (c .before .before .before .before .before .before .before .before .before .before .before .before .before .before .before .before .before .if1 .left) (c .before .before .before .before .before .before .before .before .before .before .before .before .before .before .before .before .if2 .left) _ (sym (c .before .before .before .before .before .before .before .before .before .before .before .before .before .dec-floats .given .1) ∙ c .before .before .before .before .before .before .before .before .before .before .before .before .before .before .before .check-columns .ensures) (c .before .before .before .before .before .before .before .before .before .before .before .if3 .left) (c .before .before .before .before .before .before .before .before .before .before .if4 .left) _ _ (c .before .before .before .before .before .before .before .decode-row .ensures .1 .0) (c .before .before .before .before .before .before .before .decode-row .ensures .1 .1) _ _ (rw (c .before .expected .given .1) at (c .before .before .before .before .before .before .before .decode-row .ensures .0))
+returns-7 c = too-short (now (c .before .before .before .before .before .before .before .before .before .before .before .before .before .before .before .before .before .before .before .before .before .before .args .columns)) (now (c .before .before .before .before .before .before .before .before .before .before .before .before .before .before .before .before .before .before .before .before .before .before .args .«data»)) (now (c .before .before .before .before .before .before .before .before .before .before .before .before .before .before .before .before .before .before .before .before .before .before .args .values)) (now (c .before .before .before .before .before .before .before .before .before .before .before .before .before .before .before .before .before .before .before .before .before .before .args .text)) (c .before .before .before .before .before .before .before .before .before .before .before .before .before .before .before .before .before .if1 .left) (c .before .before .before .before .before .before .before .before .before .before .before .before .before .before .before .before .if2 .left) _ (sym (c .before .before .before .before .before .before .before .before .before .before .before .before .before .dec-float .given .1) ∙ c .before .before .before .before .before .before .before .before .before .before .before .before .before .before .before .check-columns .ensures) (c .before .before .before .before .before .before .before .before .before .before .before .if3 .left) (c .before .before .before .before .before .before .before .before .before .before .if4 .left) _ _ (c .before .before .before .before .before .before .before .decode-row .ensures .1 .0) (c .before .before .before .before .before .before .before .decode-row .ensures .1 .1) _ _ (rw (c .before .expected .given .1) at (c .before .before .before .before .before .before .before .decode-row .ensures .0))
 
 same-length-5 : tie.Need-same-length-5
 same-length-5 c = search needs
@@ -70,7 +70,7 @@ same-length-6 : tie.Need-same-length-6
 same-length-6 c = search needs
 
 returns-8 : tie.Need-returns-8
-returns-8 c = text-short (now (c .before .before .before .before .before .before .before .before .before .before .before .before .before .before .before .before .before .before .before .before .before .before .args .columns)) (now (c .before .before .before .before .before .before .before .before .before .before .before .before .before .before .before .before .before .before .before .before .before .before .args .«data»)) (now (c .before .before .before .before .before .before .before .before .before .before .before .before .before .before .before .before .before .before .before .before .before .before .args .values)) (now (c .before .before .before .before .before .before .before .before .before .before .before .before .before .before .before .before .before .before .before .before .before .before .args .text)) (c .before .before .before .before .before .before .before .before .before .before .before .before .before .before .before .before .before .if1 .left) (c .before .before .before .before .before .before .before .before .before .before .before .before .before .before .before .before .if2 .left) _ (sym (c .before .before .before .before .before .before .before .before .before .before .before .before .before .dec-floats .given .1) ∙ c .before .before .before .before .before .before .before .before .before .before .before .before .before .before .before .check-columns .ensures) (c .before .before .before .before .before .before .before .before .before .before .before .if3 .left) (c .before .before .before .before .before .before .before .before .before .before .if4 .left) _ _ (c .before .before .before .before .before .before .before .decode-row .ensures .1 .0) (c .before .before .before .before .before .before .before .decode-row .ensures .1 .1) _ (rw (c .before .needed .given .1) at (c .before .before .before .before .before .before .before .decode-row .ensures .0))
+returns-8 c = text-short (now (c .before .before .before .before .before .before .before .before .before .before .before .before .before .before .before .before .before .before .before .before .before .before .args .columns)) (now (c .before .before .before .before .before .before .before .before .before .before .before .before .before .before .before .before .before .before .before .before .before .before .args .«data»)) (now (c .before .before .before .before .before .before .before .before .before .before .before .before .before .before .before .before .before .before .before .before .before .before .args .values)) (now (c .before .before .before .before .before .before .before .before .before .before .before .before .before .before .before .before .before .before .before .before .before .before .args .text)) (c .before .before .before .before .before .before .before .before .before .before .before .before .before .before .before .before .before .if1 .left) (c .before .before .before .before .before .before .before .before .before .before .before .before .before .before .before .before .if2 .left) _ (sym (c .before .before .before .before .before .before .before .before .before .before .before .before .before .dec-float .given .1) ∙ c .before .before .before .before .before .before .before .before .before .before .before .before .before .before .before .check-columns .ensures) (c .before .before .before .before .before .before .before .before .before .before .before .if3 .left) (c .before .before .before .before .before .before .before .before .before .before .if4 .left) _ _ (c .before .before .before .before .before .before .before .decode-row .ensures .1 .0) (c .before .before .before .before .before .before .before .decode-row .ensures .1 .1) _ (rw (c .before .needed .given .1) at (c .before .before .before .before .before .before .before .decode-row .ensures .0))
 
 pub vejupa-decode-row-spec : {M : Type 1} → statement M
 vejupa-decode-row-spec =
@@ -80,7 +80,7 @@ vejupa-decode-row-spec =
     mul-words
     returns-2
     check-columns-requires
-    enum-known-dec-floats
+    enum-known-dec-float
     enum-told
     returns-3
     returns-4

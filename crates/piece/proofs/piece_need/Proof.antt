@@ -16,23 +16,23 @@ returns c = sym (null-takes (c .before .before .before .args .column) (now (c .b
 lead-requires : tie.Need-lead-requires
 lead-requires c κs = search needs
 
-sub-value-need : tie.Need-sub-value-need
-sub-value-need c = omega (arith, c .lead .ensures .0, lead-within (c .before .before .before .before .args .column) (now (c .before .before .before .before .args .rest)) (sym (c .before .before .is-null .ensures) ∙ c .before .if1 .left))
+sub-column-need : tie.Need-sub-column-need
+sub-column-need c = omega (arith, c .lead .ensures .0, lead-within (c .before .before .before .before .args .column) (now (c .before .before .before .before .args .rest)) (sym (c .before .before .is-null .ensures) ∙ c .before .if1 .left))
 
-part-value-need-start : tie.Need-part-value-need-start
-part-value-need-start c = omega (arith, c .lead .ensures .0, lead-within (c .before .before .before .before .args .column) (now (c .before .before .before .before .args .rest)) (sym (c .before .before .is-null .ensures) ∙ c .before .if1 .left))
+part-column-need-start : tie.Need-part-column-need-start
+part-column-need-start c = omega (arith, c .lead .ensures .0, lead-within (c .before .before .before .before .args .column) (now (c .before .before .before .before .args .rest)) (sym (c .before .before .is-null .ensures) ∙ c .before .if1 .left))
 
-part-value-need-end : tie.Need-part-value-need-end
-part-value-need-end c = search needs
+part-column-need-end : tie.Need-part-column-need-end
+part-column-need-end c = search needs
 
-value-need-requires : tie.Need-value-need-requires
-value-need-requires c κs = search needs
+column-need-requires : tie.Need-column-need-requires
+column-need-requires c κs = search needs
 
 add-result : tie.Need-add-result
 add-result c = search needs
 
 returns-2 : tie.Need-returns-2
-returns-2 c = rw (c .value-need .ensures .0, all-after (c .before .before .lead .result) (now (c .before .before .before .before .before .before .args .rest)), c .before .before .lead .ensures .0) (sym (value-takes (c .before .before .before .before .before .before .args .column) (now (c .before .before .before .before .before .before .args .rest)) (sym (c .before .before .before .before .is-null .ensures) ∙ c .before .before .before .if1 .left)))
+returns-2 c = rw (c .column-need .ensures .0, all-after (c .before .before .lead .result) (now (c .before .before .before .before .before .before .args .rest)), c .before .before .lead .ensures .0) (sym (value-takes (c .before .before .before .before .before .before .args .column) (now (c .before .before .before .before .before .before .args .rest)) (sym (c .before .before .before .before .is-null .ensures) ∙ c .before .before .before .if1 .left)))
 
 pub piece-need-spec : {M : Type 1} → statement M
 piece-need-spec =
@@ -41,9 +41,9 @@ piece-need-spec =
     is-null-requires
     returns
     lead-requires
-    sub-value-need
-    part-value-need-start
-    part-value-need-end
-    value-need-requires
+    sub-column-need
+    part-column-need-start
+    part-column-need-end
+    column-need-requires
     add-result
     returns-2)

@@ -164,7 +164,7 @@ add-if2 : tie.Need-add-if2 Inv-loop μ-loop Inv-loop2 μ-loop2
 add-if2 c = omega (arith, c .before .loop .inv .1 .within, c .before .before .before .before .pre .1 .1, c .before .before .before .before .pre .0)
 
 text-needed-requires : tie.Need-text-needed-requires Inv-loop μ-loop Inv-loop2 μ-loop2
-text-needed-requires c κs = (c .before .before .before .before .before .before .pre .0, (c .before .before .before .before .before .before .pre .1 .0, (c .before .before .before .before .before .before .pre .1 .1, (whole (c .before .before), plain-none (walkBody (covered (c .before .before .before .before .before .before .args .t3)) (c .before .before .before .before .before .before .args .start) (now (c .before .before .before .before .before .before .args .«data»)))))))
+text-needed-requires c κs = (c .before .before .before .before .before .before .pre .0, (c .before .before .before .before .before .before .pre .1 .0, (c .before .before .before .before .before .before .pre .1 .1, ((c .before .before .before .loop .end, whole (c .before .before)), plain-none (walkBody (covered (c .before .before .before .before .before .before .args .t3)) (c .before .before .before .before .before .before .args .start) (now (c .before .before .before .before .before .before .args .«data»)))))))
 
 refused-requires-2 : tie.Need-refused-requires-2 Inv-loop μ-loop Inv-loop2 μ-loop2
 refused-requires-2 c κs = search needs

@@ -18,42 +18,42 @@ use Rattle.piece.proofs.MarkLaws.{plain-more}
 use Rattle.piece.specs.Marks.{PlainMarks}
 use Rattle.piece.specs.Texts.{textsOf}
 use Rattle.piece.proofs.Texts.{texts-are, needed-none, needed-some}
-use Rattle.row.proofs.Wholes.{whole-is}
+use Rattle.row.proofs.Wholes.{endOf, whole-is, whole-ends}
 use Rattle.row.proofs.Scales.{owned-scaled, covered-bound}
 use Rattle.row.proofs.text_needed.Statement.{statement}
 use Rattle.row.proofs.text_needed.Tie as tie
 
 abbrev Inv-loop : tie.InvT-loop
-Inv-loop «data» start end room marks₀ columns count at₀ total₀ i₀ marks at total i =
-    (i ≤ columns .count) × (Measuring ported (covered columns) start «data» (piecesOf (walkBody (covered columns) start «data»)) end i at total × PlainMarks marks (walkBody (covered columns) start «data»))
+Inv-loop «data» start room marks₀ columns count at₀ total₀ i₀ marks at total i =
+    (i ≤ columns .count) × (Measuring ported (covered columns) start «data» (piecesOf (walkBody (covered columns) start «data»)) (endOf (walkBody (covered columns) start «data»)) i at total × PlainMarks marks (walkBody (covered columns) start «data»))
 
 abbrev μ-loop : tie.MeasureT-loop
-μ-loop «data» start end room marks₀ columns count at₀ total₀ i₀ marks at total i = count - i
+μ-loop «data» start room marks₀ columns count at₀ total₀ i₀ marks at total i = count - i
 
 -- what is known from the start
 module _ (c : tie.Start Inv-loop μ-loop) where
-  whole : walkBody (covered (c .args .t4)) (c .args .start) (now (c .args .«data»)) ≡ done (piecesOf (walkBody (covered (c .args .t4)) (c .args .start) (now (c .args .«data»)))) (c .args .end)
-  whole = whole-is (c .pre .1 .1 .1 .0)
+  whole : walkBody (covered (c .args .t3)) (c .args .start) (now (c .args .«data»)) ≡ done (piecesOf (walkBody (covered (c .args .t3)) (c .args .start) (now (c .args .«data»)))) (endOf (walkBody (covered (c .args .t3)) (c .args .start) (now (c .args .«data»))))
+  whole = whole-is (whole-ends (walkBody (covered (c .args .t3)) (c .args .start) (now (c .args .«data»))) (c .pre .1 .1 .1 .0))
 
-  ends : (c .args .start ≤ c .args .end) × (c .args .end ≤ length (now (c .args .«data»)))
-  ends = end-within (covered (c .args .t4)) (c .args .start) (now (c .args .«data»)) _ (c .args .end) (c .pre .1 .0) whole
+  ends : (c .args .start ≤ endOf (walkBody (covered (c .args .t3)) (c .args .start) (now (c .args .«data»)))) × (endOf (walkBody (covered (c .args .t3)) (c .args .start) (now (c .args .«data»))) ≤ length (now (c .args .«data»)))
+  ends = end-within (covered (c .args .t3)) (c .args .start) (now (c .args .«data»)) _ (endOf (walkBody (covered (c .args .t3)) (c .args .start) (now (c .args .«data»)))) (c .pre .1 .0) whole
 
-  enough : c .args .t4 .count ≤ length (c .args .t4 .columns)
-  enough = let size = simp length-map at (c .good .1 .1 .1 .0 .1 .1 .0 .1 .0 .1) in omega (arith, c .pre .0)
+  enough : c .args .t3 .count ≤ length (c .args .t3 .columns)
+  enough = let size = simp length-map at (c .good .1 .1 .0 .1 .1 .0 .1 .0 .1) in omega (arith, c .pre .0)
 
-  all-covered : length (covered (c .args .t4)) ≡ c .args .t4 .count
-  all-covered = length-take-le (c .args .t4 .count) (c .args .t4 .columns) enough
+  all-covered : length (covered (c .args .t3)) ≡ c .args .t3 .count
+  all-covered = length-take-le (c .args .t3 .count) (c .args .t3 .columns) enough
 
-  all-texts : length (textsOf (walkBody (covered (c .args .t4)) (c .args .start) (now (c .args .«data»)))) ≡ length (rowTexts ported (piecesOf (walkBody (covered (c .args .t4)) (c .args .start) (now (c .args .«data»)))))
-  all-texts = ap length (texts-are (walkBody (covered (c .args .t4)) (c .args .start) (now (c .args .«data»))))
+  all-texts : length (textsOf (walkBody (covered (c .args .t3)) (c .args .start) (now (c .args .«data»)))) ≡ length (rowTexts ported (piecesOf (walkBody (covered (c .args .t3)) (c .args .start) (now (c .args .«data»)))))
+  all-texts = ap length (texts-are (walkBody (covered (c .args .t3)) (c .args .start) (now (c .args .«data»))))
 
-  bound : AreBytes (now (c .args .«data»)) → length (rowTexts ported (piecesOf (walkBody (covered (c .args .t4)) (c .args .start) (now (c .args .«data»))))) ≤ 3 * (c .args .end - c .args .start) + 258 * c .args .t4 .count
-  bound bytes = covered-bound (c .args .t4) enough (owned-scaled (c .args .t4 .columns) _ (c .good .1 .1 .1 .0 .1 .1 .0 .1 .1)) (c .args .start) (c .args .end) (now (c .args .«data»)) bytes (c .pre .1 .0) (c .pre .1 .1 .1 .0)
+  bound : AreBytes (now (c .args .«data»)) → length (rowTexts ported (piecesOf (walkBody (covered (c .args .t3)) (c .args .start) (now (c .args .«data»))))) ≤ 3 * (endOf (walkBody (covered (c .args .t3)) (c .args .start) (now (c .args .«data»))) - c .args .start) + 258 * c .args .t3 .count
+  bound bytes = covered-bound (c .args .t3) enough (owned-scaled (c .args .t3 .columns) _ (c .good .1 .1 .0 .1 .1 .0 .1 .1)) (c .args .start) (endOf (walkBody (covered (c .args .t3)) (c .args .start) (now (c .args .«data»)))) (now (c .args .«data»)) bytes (c .pre .1 .0) (whole-ends (walkBody (covered (c .args .t3)) (c .args .start) (now (c .args .«data»))) (c .pre .1 .1 .1 .0))
 
 -- a turn: the column, and what is lent of the input
 module _ (c : tie.In-loop Inv-loop μ-loop) where
-  here : (d : ColumnDescriptor) → drop (c .before .loop .i) (covered (c .before .before .before .args .t4)) ≡ getD (c .before .before .before .args .t4 .columns) (c .before .loop .i) d ∷ drop (c .before .loop .i + 1) (covered (c .before .before .before .args .t4))
-  here d = covered-at (c .before .before .before .args .t4 .columns) (c .before .before .before .args .t4 .count) (c .before .loop .i) d (enough (c .before .before .before)) (c .loop-test .taken)
+  here : (d : ColumnDescriptor) → drop (c .before .loop .i) (covered (c .before .before .before .args .t3)) ≡ getD (c .before .before .before .args .t3 .columns) (c .before .loop .i) d ∷ drop (c .before .loop .i + 1) (covered (c .before .before .before .args .t3))
+  here d = covered-at (c .before .before .before .args .t3 .columns) (c .before .before .before .args .t3 .count) (c .before .loop .i) d (enough (c .before .before .before)) (c .loop-test .taken)
 
   rest : take (length (c .before .before .before .args .«data» .now) - c .before .loop .at) (drop (c .before .loop .at) (c .before .before .before .args .«data» .now)) ≡ drop (c .before .loop .at) (c .before .before .before .args .«data» .now)
   rest = rest-is (c .before .before .before .args .«data» .now) (c .before .loop .at)
@@ -115,14 +115,14 @@ loop-again c =
 
 -- all texts are measured
 module _ (c : tie.After-loop Inv-loop μ-loop) where
-  total-is : c .before .loop .total ≡ length (textsOf (walkBody (covered (c .before .before .before .args .t4)) (c .before .before .before .args .start) (now (c .before .before .before .args .«data»))))
+  total-is : c .before .loop .total ≡ length (textsOf (walkBody (covered (c .before .before .before .args .t3)) (c .before .before .before .args .start) (now (c .before .before .before .args .«data»))))
   total-is = measuring-end ported _ _ _ _ _ (c .before .loop .inv .1 .0) (omega (arith, all-covered (c .before .before .before))) ∙ sym (all-texts (c .before .before .before))
 
 returns : tie.Need-returns Inv-loop μ-loop
-returns c = (needed-none _ _ (textsOf (walkBody (covered (c .before .before .before .before .args .t4)) (c .before .before .before .before .args .start) (now (c .before .before .before .before .args .«data»)))) (total-is (c .before)) (c .if1 .taken), c .before .before .loop .inv .1 .1)
+returns c = (needed-none _ _ (textsOf (walkBody (covered (c .before .before .before .before .args .t3)) (c .before .before .before .before .args .start) (now (c .before .before .before .before .args .«data»)))) (total-is (c .before)) (c .if1 .taken), c .before .before .loop .inv .1 .1)
 
 returns-2 : tie.Need-returns-2 Inv-loop μ-loop
-returns-2 c = (needed-some _ _ (textsOf (walkBody (covered (c .before .before .before .before .args .t4)) (c .before .before .before .before .args .start) (now (c .before .before .before .before .args .«data»)))) (total-is (c .before)) (c .if1 .left), c .before .before .loop .inv .1 .1)
+returns-2 c = (needed-some _ _ (textsOf (walkBody (covered (c .before .before .before .before .args .t3)) (c .before .before .before .before .args .start) (now (c .before .before .before .before .args .«data»)))) (total-is (c .before)) (c .if1 .left), c .before .before .loop .inv .1 .1)
 
 pub text-needed-spec : {M : Type 1} → statement M
 text-needed-spec =

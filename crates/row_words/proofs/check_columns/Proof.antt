@@ -8,10 +8,10 @@ use Rattle.row_words.proofs.check_columns.Statement.{statement}
 use Rattle.row_words.proofs.check_columns.Tie as tie
 
 abbrev Inv-loop : tie.InvT-loop
-Inv-loop columns dec-floats₀ at₀ dec-floats at = Checking columns dec-floats at
+Inv-loop columns dec-float₀ at₀ dec-float at = Checking columns dec-float at
 
 abbrev μ-loop : tie.MeasureT-loop
-μ-loop columns dec-floats₀ at₀ dec-floats at = length columns - at
+μ-loop columns dec-float₀ at₀ dec-float at = length columns - at
 
 loop-holds : tie.Need-loop-holds Inv-loop μ-loop
 loop-holds c = checking-start (c .before .args .columns .now)
@@ -40,11 +40,8 @@ is-column-requires c κs = search needs
 returns : tie.Need-returns Inv-loop μ-loop
 returns c = checking-bad (c .before .before .before .before .before .before .before .args .columns .now) (c .before .before .before .before .before .loop .inv) (c .before .before .before .before .loop-test .taken) (c .before .is-column .result) (c .before .is-column .ensures) (c .if1 .taken)
 
-count-dec-float-requires : tie.Need-count-dec-float-requires Inv-loop μ-loop
-count-dec-float-requires c κs = search needs
-
-add-dec-floats : tie.Need-add-dec-floats Inv-loop μ-loop
-add-dec-floats c = omega (arith, c .before .before .before .before .before .before .loop .inv .few, c .before .before .before .before .before .before .loop .inv .inside, c .count-dec-float .ensures .1)
+is-dec-float-requires : tie.Need-is-dec-float-requires Inv-loop μ-loop
+is-dec-float-requires c κs = search needs
 
 add-at : tie.Need-add-at Inv-loop μ-loop
 add-at c = omega (arith, c .before .before .before .before .before .before .loop .inv .inside)
@@ -53,7 +50,7 @@ loop-less : tie.Need-loop-less Inv-loop μ-loop
 loop-less c = omega (arith, c .before .before .before .before .before .before .loop .inv .inside)
 
 loop-again : tie.Need-loop-again Inv-loop μ-loop
-loop-again c = checking-step (c .before .before .before .before .before .before .before .before .args .columns .now) (c .before .before .before .before .before .before .loop .inv) (c .before .before .before .before .before .loop-test .taken) (c .before .before .is-column .result) (c .before .before .is-column .ensures) (c .before .if1 .left) (c .count-dec-float .result) (c .count-dec-float .ensures .0) (c .count-dec-float .ensures .1)
+loop-again c = checking-step (c .before .before .before .before .before .before .before .before .args .columns .now) (c .before .before .before .before .before .before .loop .inv) (c .before .before .before .before .before .loop-test .taken) (c .before .before .is-column .result) (c .before .before .is-column .ensures) (c .before .if1 .left) (c .is-dec-float .result) (c .is-dec-float .ensures)
 
 returns-2 : tie.Need-returns-2 Inv-loop μ-loop
 returns-2 c = checking-end (c .before .before .before .before .args .columns .now) (c .before .before .loop .inv) (c .if2 .taken)
@@ -76,8 +73,7 @@ check-columns-spec =
     shared-slice-read-is-column
     is-column-requires
     returns
-    count-dec-float-requires
-    add-dec-floats
+    is-dec-float-requires
     add-at
     loop-less
     loop-again

@@ -33,7 +33,7 @@ returns : tie.Need-returns
 returns c = told-text (columnsNamed (now (c .before .before .before .before .before .before .before .before .before .before .before .before .args .columns))) (now (c .before .before .before .before .before .before .before .before .before .before .before .before .args .«data»)) (now (c .before .before .before .before .before .before .before .before .before .before .before .before .args .text)) (now (c .before .before .before .before .before .before .before .before .before .before .before .before .args .values)) (c .before .before .before .before .before .before .before .skip-of .result) (c .before .before .before .before .before .before .before .skip-of .ensures) _ (sym (c .before .before .before .before .end .given .1) ∙ c .before .before .before .before .before .before .walk-columns .ensures) (c .before .text-needed .result) (c .before .text-needed .ensures .0) (c .if1 .taken)
 
 write-columns-requires : tie.Need-write-columns-requires
-write-columns-requires c κs = (omega (arith, c .before .before .before .before .before .before .before .before .before .before .skip-of .ensures, skip-fits (now (c .before .before .before .before .before .before .before .before .before .before .before .before .before .before .before .args .«data»))), (c .before .before .before .before .before .before .before .before .before .before .before .before .before .before .before .pre .1 .0, (sym (c .before .before .before .before .before .before .before .end .given .1) ∙ c .before .before .before .before .before .before .before .before .before .walk-columns .ensures, (c .before .before .before .before .before .before .before .before .before .before .before .before .before .before .before .pre .1 .1, (needed-fits (length (now (c .before .before .before .before .before .before .before .before .before .before .before .before .before .before .before .args .text))) (c .before .before .before .before .text-needed .result) (textsOf (walkBody (columnsNamed (now (c .before .before .before .before .before .before .before .before .before .before .before .before .before .before .before .args .columns))) (c .before .before .before .before .before .before .before .before .before .before .skip-of .result) (now (c .before .before .before .before .before .before .before .before .before .before .before .before .before .before .before .args .«data»)))) (c .before .before .before .before .text-needed .ensures .0) (c .before .before .before .if1 .left), (c .before .before .before .before .before .before .before .before .before .before .before .before .before .before .before .pre .0, c .before .before .before .before .text-needed .ensures .1))))))
+write-columns-requires c κs = (omega (arith, c .before .before .before .before .before .before .before .before .before .before .skip-of .ensures, skip-fits (now (c .before .before .before .before .before .before .before .before .before .before .before .before .before .before .before .args .«data»))), (c .before .before .before .before .before .before .before .before .before .before .before .before .before .before .before .pre .1 .0, ((c .before .before .before .before .before .before .before .end .given .0 .0, sym (c .before .before .before .before .before .before .before .end .given .1) ∙ c .before .before .before .before .before .before .before .before .before .walk-columns .ensures), (c .before .before .before .before .before .before .before .before .before .before .before .before .before .before .before .pre .1 .1, (needed-fits (length (now (c .before .before .before .before .before .before .before .before .before .before .before .before .before .before .before .args .text))) (c .before .before .before .before .text-needed .result) (textsOf (walkBody (columnsNamed (now (c .before .before .before .before .before .before .before .before .before .before .before .before .before .before .before .args .columns))) (c .before .before .before .before .before .before .before .before .before .before .skip-of .result) (now (c .before .before .before .before .before .before .before .before .before .before .before .before .before .before .before .args .«data»)))) (c .before .before .before .before .text-needed .ensures .0) (c .before .before .before .if1 .left), (c .before .before .before .before .before .before .before .before .before .before .before .before .before .before .before .pre .0, c .before .before .before .before .text-needed .ensures .1))))))
 
 returns-2 : tie.Need-returns-2
 returns-2 c = told-short (columnsNamed (now (c .before .before .before .before .before .before .before .before .before .args .columns))) (now (c .before .before .before .before .before .before .before .before .before .args .«data»)) (now (c .before .before .before .before .before .before .before .before .before .args .text)) (now (c .before .before .before .before .before .before .before .before .before .args .values)) (c .before .before .before .before .skip-of .result) (c .before .before .before .before .skip-of .ensures) _ _ (sym (c .before .expected .given .1) ∙ c .before .before .before .walk-columns .ensures)

@@ -17,34 +17,34 @@ use Rattle.piece.specs.Texts.{textsOf}
 use Rattle.piece.proofs.MarkLaws.{plain-here}
 use Rattle.piece.proofs.Texts.{texts-are}
 use Rattle.row_words.proofs.Named.{named-length, named-at}
-use Rattle.row_words.proofs.Outlines.{is-done, decided-accepted}
+use Rattle.row_words.proofs.Outlines.{endOf, done-ends, is-done, decided-accepted}
 use Rattle.row_words.proofs.Putting.{Putting, putting-start, putting-step, putting-end, as-many}
 use Rattle.row_words.proofs.write_columns.Statement.{statement}
 use Rattle.row_words.proofs.write_columns.Tie as tie
 
 abbrev Inv-loop : tie.InvT-loop
-Inv-loop columns «data» start end marks values₀ text₀ count at₀ next₀ i₀ values text at next i =
-    (i ≤ length columns / 2) × Putting (columnsNamed columns) start «data» (piecesOf (walkBody (columnsNamed columns) start «data»)) end text₀ values₀ i at next text values
+Inv-loop columns «data» start marks values₀ text₀ count at₀ next₀ i₀ values text at next i =
+    (i ≤ length columns / 2) × Putting (columnsNamed columns) start «data» (piecesOf (walkBody (columnsNamed columns) start «data»)) (endOf (walkBody (columnsNamed columns) start «data»)) text₀ values₀ i at next text values
 
 abbrev μ-loop : tie.MeasureT-loop
-μ-loop columns «data» start end marks values₀ text₀ count at₀ next₀ i₀ values text at next i = length columns / 2 - i
+μ-loop columns «data» start marks values₀ text₀ count at₀ next₀ i₀ values text at next i = length columns / 2 - i
 
 -- what is known from the start
 module _ (c : tie.Start Inv-loop μ-loop) where
   abbrev walked : Walk
   walked = walkBody (columnsNamed (now (c .args .columns))) (c .args .start) (now (c .args .«data»))
 
-  whole : walked ≡ done (piecesOf walked) (c .args .end)
-  whole = is-done (c .args .end) walked (c .pre .1 .1 .0)
+  whole : walked ≡ done (piecesOf walked) (endOf walked)
+  whole = is-done (endOf walked) walked (done-ends walked (c .pre .1 .1 .0))
 
   texts : textsOf walked ≡ rowTexts ported (piecesOf walked)
   texts = texts-are walked
 
-  decided : bodyDecision ported (columnsNamed (now (c .args .columns))) (c .args .start) (now (c .args .«data»)) (now (c .args .text)) ≡ accept (piecesOf walked) (c .args .end)
-  decided = decided-accepted (columnsNamed (now (c .args .columns))) (c .args .start) (now (c .args .«data»)) (now (c .args .text)) (c .args .end) (c .pre .1 .1 .0) (c .pre .1 .1 .1 .1 .0)
+  decided : bodyDecision ported (columnsNamed (now (c .args .columns))) (c .args .start) (now (c .args .«data»)) (now (c .args .text)) ≡ accept (piecesOf walked) (endOf walked)
+  decided = decided-accepted (columnsNamed (now (c .args .columns))) (c .args .start) (now (c .args .«data»)) (now (c .args .text)) (endOf walked) (done-ends walked (c .pre .1 .1 .0)) (c .pre .1 .1 .1 .1 .0)
 
 loop-holds : tie.Need-loop-holds Inv-loop μ-loop
-loop-holds c = (omega arith, putting-start _ _ _ _ _ _ _ (c .before .before .before .before .pre .0) (is-done _ _ (c .before .before .before .before .pre .1 .1 .0)) (rw (texts (c .before .before .before .before)) at (c .before .before .before .before .pre .1 .1 .1 .1 .0)))
+loop-holds c = (omega arith, putting-start _ _ _ _ _ _ _ (c .before .before .before .before .pre .0) (whole (c .before .before .before .before)) (rw (texts (c .before .before .before .before)) at (c .before .before .before .before .pre .1 .1 .1 .1 .0)))
 
 mul-k : tie.Need-mul-k Inv-loop μ-loop
 mul-k c = omega (arith, c .loop-test .taken)
@@ -86,7 +86,7 @@ mul-put-column-3 : tie.Need-mul-put-column-3 Inv-loop μ-loop
 mul-put-column-3 c = omega (arith, c .before .before .before .before .before .loop-test .taken)
 
 put-column-requires : tie.Need-put-column-requires Inv-loop μ-loop
-put-column-requires c κs = (placing-there ported _ _ _ _ _ _ (c .before .before .before .before .before .before .loop .inv .1 .placing) _ (named-at _ _ (c .before .before .before .before .before .loop-test .taken) refl) _ (rest-is (c .before .before .before .before .before .before .before .before .before .before .before .args .«data» .now) (c .before .before .before .before .before .before .loop .at)), (omega (arith, c .before .before .before .before .before .before .before .before .before .before .before .pre .1 .0, c .before .before .before .before .before .before .loop .inv .1 .placing .going .within, ap length (rest-is (c .before .before .before .before .before .before .before .before .before .before .before .args .«data» .now) (c .before .before .before .before .before .before .loop .at)), length-drop (c .before .before .before .before .before .before .loop .at) (c .before .before .before .before .before .before .before .before .before .before .before .args .«data» .now)), (placing-room ported _ _ _ _ _ _ (c .before .before .before .before .before .before .loop .inv .1 .placing) _ (named-at _ _ (c .before .before .before .before .before .loop-test .taken) refl) _ (rest-is (c .before .before .before .before .before .before .before .before .before .before .before .args .«data» .now) (c .before .before .before .before .before .before .loop .at)), (omega (arith, c .before .before .before .before .before .before .before .before .before .before .before .pre .1 .1 .1 .0, c .before .before .before .before .before .loop-test .taken, as-many _ _ _ _ _ _ _ (c .before .before .before .before .before .before .loop .inv .1) (omega (arith, c .before .before .before .before .before .before .before .before .before .before .before .pre .1 .1 .1 .0, c .before .before .before .before .before .loop-test .taken))), (omega (arith, c .before .before .before .before .before .loop-test .taken, c .before .before .before .before .before .before .before .before .before .before .before .pre .1 .1 .1 .1 .1 .0), λ t. plain-here (columnsNamed (c .before .before .before .before .before .before .before .before .before .before .before .args .columns .now)) (c .before .before .before .before .before .before .before .before .before .before .before .args .start) (c .before .before .before .before .before .before .before .before .before .before .before .args .«data» .now) (piecesOf (walked (c .before .before .before .before .before .before .before .before .before .before .before))) (c .before .before .before .before .before .before .before .before .before .before .before .args .end) (whole (c .before .before .before .before .before .before .before .before .before .before .before)) (c .before .before .before .before .before .before .loop .inv .1 .placing .going) _ (named-at _ _ (c .before .before .before .before .before .loop-test .taken) refl) _ (rest-is (c .before .before .before .before .before .before .before .before .before .before .before .args .«data» .now) (c .before .before .before .before .before .before .loop .at)) (omega (arith, c .before .before .before .before .before .loop-test .taken, named-length (c .before .before .before .before .before .before .before .before .before .before .before .args .columns .now))) (c .before .before .before .before .before .before .before .before .before .before .before .args .marks .now) (c .before .before .before .before .before .before .before .before .before .before .before .pre .1 .1 .1 .1 .1 .1) (omega (arith, c .before .before .before .before .before .loop-test .taken, c .before .before .before .before .before .before .before .before .before .before .before .pre .1 .1 .1 .1 .1 .0)) (markAt (c .before .before .before .before .before .before .before .before .before .before .before .args .marks .now) (c .before .before .before .before .before .before .loop .i)) refl t)))))
+put-column-requires c κs = (placing-there ported _ _ _ _ _ _ (c .before .before .before .before .before .before .loop .inv .1 .placing) _ (named-at _ _ (c .before .before .before .before .before .loop-test .taken) refl) _ (rest-is (c .before .before .before .before .before .before .before .before .before .before .before .args .«data» .now) (c .before .before .before .before .before .before .loop .at)), (omega (arith, c .before .before .before .before .before .before .before .before .before .before .before .pre .1 .0, c .before .before .before .before .before .before .loop .inv .1 .placing .going .within, ap length (rest-is (c .before .before .before .before .before .before .before .before .before .before .before .args .«data» .now) (c .before .before .before .before .before .before .loop .at)), length-drop (c .before .before .before .before .before .before .loop .at) (c .before .before .before .before .before .before .before .before .before .before .before .args .«data» .now)), (placing-room ported _ _ _ _ _ _ (c .before .before .before .before .before .before .loop .inv .1 .placing) _ (named-at _ _ (c .before .before .before .before .before .loop-test .taken) refl) _ (rest-is (c .before .before .before .before .before .before .before .before .before .before .before .args .«data» .now) (c .before .before .before .before .before .before .loop .at)), (omega (arith, c .before .before .before .before .before .before .before .before .before .before .before .pre .1 .1 .1 .0, c .before .before .before .before .before .loop-test .taken, as-many _ _ _ _ _ _ _ (c .before .before .before .before .before .before .loop .inv .1) (omega (arith, c .before .before .before .before .before .before .before .before .before .before .before .pre .1 .1 .1 .0, c .before .before .before .before .before .loop-test .taken))), (omega (arith, c .before .before .before .before .before .loop-test .taken, c .before .before .before .before .before .before .before .before .before .before .before .pre .1 .1 .1 .1 .1 .0), λ t. plain-here (columnsNamed (c .before .before .before .before .before .before .before .before .before .before .before .args .columns .now)) (c .before .before .before .before .before .before .before .before .before .before .before .args .start) (c .before .before .before .before .before .before .before .before .before .before .before .args .«data» .now) (piecesOf (walked (c .before .before .before .before .before .before .before .before .before .before .before))) (endOf (walked (c .before .before .before .before .before .before .before .before .before .before .before))) (whole (c .before .before .before .before .before .before .before .before .before .before .before)) (c .before .before .before .before .before .before .loop .inv .1 .placing .going) _ (named-at _ _ (c .before .before .before .before .before .loop-test .taken) refl) _ (rest-is (c .before .before .before .before .before .before .before .before .before .before .before .args .«data» .now) (c .before .before .before .before .before .before .loop .at)) (omega (arith, c .before .before .before .before .before .loop-test .taken, named-length (c .before .before .before .before .before .before .before .before .before .before .before .args .columns .now))) (c .before .before .before .before .before .before .before .before .before .before .before .args .marks .now) (c .before .before .before .before .before .before .before .before .before .before .before .pre .1 .1 .1 .1 .1 .1) (omega (arith, c .before .before .before .before .before .loop-test .taken, c .before .before .before .before .before .before .before .before .before .before .before .pre .1 .1 .1 .1 .1 .0)) (markAt (c .before .before .before .before .before .before .before .before .before .before .before .args .marks .now) (c .before .before .before .before .before .before .loop .i)) refl t)))))
 
 add-at : tie.Need-add-at Inv-loop μ-loop
 add-at c = omega (arith, c .before .before .before .before .before .before .before .before .before .before .before .before .before .before .before .before .before .pre .1 .0, placing-there ported _ _ _ _ _ _ (c .before .before .before .before .before .before .before .before .before .before .before .before .loop .inv .1 .placing) _ (named-at _ _ (c .before .before .before .before .before .before .before .before .before .before .before .loop-test .taken) refl) _ (rest-is (c .before .before .before .before .before .before .before .before .before .before .before .before .before .before .before .before .before .args .«data» .now) (c .before .before .before .before .before .before .before .before .before .before .before .before .loop .at)), c .before .before .before .before .before .put-column .ensures .0, c .before .before .before .before .before .before .before .before .before .before .before .before .loop .inv .1 .placing .going .within, ap length (rest-is (c .before .before .before .before .before .before .before .before .before .before .before .before .before .before .before .before .before .args .«data» .now) (c .before .before .before .before .before .before .before .before .before .before .before .before .loop .at)), length-drop (c .before .before .before .before .before .before .before .before .before .before .before .before .loop .at) (c .before .before .before .before .before .before .before .before .before .before .before .before .before .before .before .before .before .args .«data» .now))

@@ -9,7 +9,7 @@ use Rattle.cell.proofs.extents.counted_need.Tie as tie
 
 returns : tie.Need-returns
 unfolding need
-returns c = rw (lt-leb 2 _ (c .if1 .taken))
+returns c = (rw (lt-leb 2 _ (c .if1 .taken)), (omega arith, omega arith))
 
 u16-of-requires : tie.Need-u16-of-requires
 u16-of-requires c κs = search needs
@@ -25,7 +25,7 @@ add-result c = record { fits = omega (arith, mul-le-mul-right (c .u16-of .result
 
 returns-2 : tie.Need-returns-2
 unfolding need
-returns-2 c = rw (le-leb 2 _ (c .before .if1 .left), c .u16-of .ensures)
+returns-2 c = (rw (le-leb 2 _ (c .before .if1 .left), c .u16-of .ensures), (omega arith, omega (arith, mul-le-mul-right (c .u16-of .result) (c .before .before .before .pre))))
 
 pub counted-need-spec : {M : Type 1} → statement M
 counted-need-spec =

@@ -43,7 +43,7 @@ unfolding need
 returns c = rw (c .before .extent .given .1)
 
 returns-2 : tie.Need-returns-2
-returns-2 c = rw (c .before .before .extent2 .given .1) (c .counted-need .ensures)
+returns-2 c = rw (c .before .before .extent2 .given .1) (c .counted-need .ensures .0)
 
 returns-3 : tie.Need-returns-3
 returns-3 c = rw (c .before .before .extent3 .given .1) (c .header-need .ensures)

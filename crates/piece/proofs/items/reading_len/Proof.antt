@@ -1,6 +1,9 @@
 -- `piece::items::reading_len` meets its contract: in each arm the reading is known. Assumes nothing.
 use mathlib.Core.Path.{sym, ap, _∙_}
 use mathlib.Core.Bool.{true≢false}
+use mathlib.Core.List.{List}
+use Prim.Native.Nat.{ℕ}
+use lib.ListN.{length}
 use denote.Ref.{now}
 use Rattle.conversion.specs.declared.Conversion.{Conversion}
 use Rattle.conversion.specs.Picked.{textIn}
@@ -10,6 +13,9 @@ use Rattle.piece.proofs.items.reading_len.Tie as tie
 
 enum-known-reading : tie.Need-enum-known-reading
 enum-known-reading c = search needs
+
+conversion-of-requires : tie.Need-conversion-of-requires
+conversion-of-requires c κs = λ h. absurd (true≢false (sym h))
 
 text-measure-requires : tie.Need-text-measure-requires
 text-measure-requires c κs = search needs
@@ -26,8 +32,9 @@ decimal-len-requires c κs = rw (c .before .reading2 .given .1) at (c .before .b
 returns : tie.Need-returns
 unfolding textIn
 returns c =
-    rw (c .before .before .before .reading .given .1)
-    (c .before .text-measure .ensures .counts, λ h. sym (c .before .text-measure .ensures .alike) ∙ ap (λ (k : Conversion). textIn k (now (c .before .before .before .before .before .before .args .s))) (c .is-plain .ensures h))
+    let same = c .before .before .conversion-of .ensures in
+    rw (c .before .before .before .before .reading .given .1)
+    (c .before .text-measure .ensures .counts ∙ ap length same, λ h. sym same ∙ sym (c .before .text-measure .ensures .alike) ∙ ap (λ (k : Conversion). textIn k (now (c .before .before .before .before .before .before .before .args .s))) (c .is-plain .ensures h))
 
 returns-2 : tie.Need-returns-2
 returns-2 c = rw (c .before .before .reading2 .given .1) (c .decimal-len .ensures, λ h. absurd (true≢false (sym h)))
@@ -37,6 +44,7 @@ reading-len-spec =
     tie.close
     (tie.spec
     enum-known-reading
+    conversion-of-requires
     text-measure-requires
     is-plain-requires
     enum-known-reading-2

@@ -1,73 +1,92 @@
--- `row_words::needs::value_need` meets its contract: each arm knows the type's place. Assumes nothing.
-use mathlib.Core.Path.{sym, _∙_}
+-- `row_words::needs::value_need` meets its contract: each arm knows the type. Assumes nothing.
+use Prim.Native.Nat.{ℕ, _%_, _^_}
+use mathlib.Core.Path.{refl, sym, ap, _∙_}
+use mathlib.Core.Bool.{cond}
 use native.Mathlib.Omega.{arith}
+use lib.Dec.{eqb}
 use denote.Ref.{now}
-use Rattle.row_words.proofs.Numbers.{number-need, number-small}
-use Rattle.row_words.proofs.Characters.{decimal-reads, char-reads, date-reads, time-reads, timestamp-reads}
+use Rattle.types.specs.FixedLength.{packedLength}
+use Rattle.cell.proofs.NumberLaws.{number-need}
+use Rattle.words.specs.Reading.{columnNamed}
+use Rattle.words.proofs.TypeWords.{none-below}
+use Rattle.row_words.specs.Passes.{typeNumbers}
+use Rattle.row_words.proofs.Typed.{no-number, length-is, small-int-is, integer-is, big-int-is, real-is, double-is, decimal-is, char-is, date-is, time-is, timestamp-is}
 use borrow.Author.Needs.{needs}
 use Rattle.row_words.proofs.needs.value_need.Statement.{statement}
 use Rattle.row_words.proofs.needs.value_need.Tie as tie
-use Rattle.row_words.proofs.needs.value_need.Reads as reads
-use Rattle.row_words.proofs.needs.value_need.Lts as lts
-use Rattle.row_words.proofs.needs.char_bytes.Reads as char-bytes-reads
-use Rattle.row_words.proofs.needs.decimal_bytes.Reads as decimal-bytes-reads
-use Rattle.row_words.proofs.needs.number_bytes.Reads as number-bytes-reads
-use Rattle.row_words.proofs.needs.other_need.Reads as other-need-reads
-use Rattle.row_words.proofs.needs.timestamp_bytes.Reads as timestamp-bytes-reads
-use Rattle.row_words.proofs.needs.varchar_need.Reads as varchar-need-reads
 
-decimal-bytes-requires : tie.Need-decimal-bytes-requires
-decimal-bytes-requires c κs = search needs
+precision-requires : tie.Need-precision-requires
+precision-requires c κs = search needs
 
-char-bytes-requires : tie.Need-char-bytes-requires
-char-bytes-requires c κs = search needs
+decimal-need-requires : tie.Need-decimal-need-requires
+decimal-need-requires c κs = search needs
 
-varchar-need-requires : tie.Need-varchar-need-requires
-varchar-need-requires c κs = search needs
+type-numbers-requires : tie.Need-type-numbers-requires
+type-numbers-requires c κs = search needs
 
-timestamp-bytes-requires : tie.Need-timestamp-bytes-requires
-timestamp-bytes-requires c κs = search needs
+cast-result : tie.Need-cast-result
+cast-result c = search needs
 
-number-bytes-requires : tie.Need-number-bytes-requires
-number-bytes-requires c κs = search needs
+var-char-need-requires : tie.Need-var-char-need-requires
+var-char-need-requires c κs = search needs
 
-other-need-requires : tie.Need-other-need-requires
-other-need-requires c κs = search needs
+length-of-requires : tie.Need-length-of-requires
+length-of-requires c κs = search needs
+
+timestamp-need-requires : tie.Need-timestamp-need-requires
+timestamp-need-requires c κs = search needs
+
+other-named-requires : tie.Need-other-named-requires
+other-named-requires c κs = no-number (c .before .before .args .first) (none-below ((c .before .before .args .first) % 2 ^ 8) 5 (c .match .rest .0 .0 .0 .0 .0 .0))
 
 returns : tie.Need-returns
-returns c = (c .decimal-bytes .ensures .0 ∙ decimal-reads (c .before .before .before .args .first) (c .before .before .before .args .second) (now (c .before .before .before .args .rest)) (c .before .match .keys1) .takes, omega (arith, c .decimal-bytes .ensures .1 .1))
+returns c = (number-need (columnNamed (c .before .before .args .first) (c .before .before .args .second)) (small-int-is (c .before .before .args .first) (c .before .before .args .second) (c .match .keys1)) 2 refl (now (c .before .before .args .rest)), omega arith)
 
 returns-2 : tie.Need-returns-2
-returns-2 c = (c .char-bytes .ensures ∙ char-reads (c .before .before .before .args .first) (c .before .before .before .args .second) (now (c .before .before .before .args .rest)) (c .before .match .keys2) .takes, omega (arith, c .char-bytes .ensures))
+returns-2 c = (number-need (columnNamed (c .before .before .args .first) (c .before .before .args .second)) (integer-is (c .before .before .args .first) (c .before .before .args .second) (c .match .keys2)) 4 refl (now (c .before .before .args .rest)), omega arith)
 
 returns-3 : tie.Need-returns-3
-returns-3 c = search needs
+returns-3 c = (number-need (columnNamed (c .before .before .args .first) (c .before .before .args .second)) (big-int-is (c .before .before .args .first) (c .before .before .args .second) (c .match .keys3)) 8 refl (now (c .before .before .args .rest)), omega arith)
 
 returns-4 : tie.Need-returns-4
-returns-4 c = (date-reads (c .before .before .args .first) (c .before .before .args .second) (now (c .before .before .args .rest)) (c .match .keys4) .takes, omega arith)
+returns-4 c = (number-need (columnNamed (c .before .before .args .first) (c .before .before .args .second)) (real-is (c .before .before .args .first) (c .before .before .args .second) (c .match .keys4)) 4 refl (now (c .before .before .args .rest)), omega arith)
 
 returns-5 : tie.Need-returns-5
-returns-5 c = (time-reads (c .before .before .args .first) (c .before .before .args .second) (now (c .before .before .args .rest)) (c .match .keys5) .takes, omega arith)
+returns-5 c = (number-need (columnNamed (c .before .before .args .first) (c .before .before .args .second)) (double-is (c .before .before .args .first) (c .before .before .args .second) (c .match .keys5)) 8 refl (now (c .before .before .args .rest)), omega arith)
 
 returns-6 : tie.Need-returns-6
-returns-6 c = (c .timestamp-bytes .ensures .0 ∙ timestamp-reads (c .before .before .before .args .first) (c .before .before .before .args .second) (now (c .before .before .before .args .rest)) (c .before .match .keys6) .takes, c .timestamp-bytes .ensures .1)
+returns-6 c = (c .decimal-need .ensures .0 ∙ ap packedLength (c .before .precision .ensures) ∙ number-need (columnNamed (c .before .before .before .before .args .first) (c .before .before .before .before .args .second)) (decimal-is (c .before .before .before .before .args .first) (c .before .before .before .before .args .second) (c .before .before .match .keys6)) (packedLength ((typeNumbers (c .before .before .before .before .args .first)) % 2 ^ 8)) refl (now (c .before .before .before .before .args .rest)), omega (arith, c .decimal-need .ensures .1 .1))
 
 returns-7 : tie.Need-returns-7
-returns-7 c = (c .number-bytes .ensures ∙ number-need (c .before .before .before .before .args .first) (c .before .before .before .before .args .second) (omega (arith, c .before .if1 .taken)) (now (c .before .before .before .before .args .rest)), omega (arith, c .number-bytes .ensures, number-small (c .before .before .before .before .args .first)))
+returns-7 c = (c .type-numbers .ensures ∙ number-need (columnNamed (c .before .before .before .args .first) (c .before .before .before .args .second)) (char-is (c .before .before .before .args .first) (c .before .before .before .args .second) (c .before .match .keys7)) (typeNumbers (c .before .before .before .args .first)) refl (now (c .before .before .before .args .rest)), omega (arith, c .type-numbers .ensures))
 
 returns-8 : tie.Need-returns-8
 returns-8 c = search needs
+
+returns-9 : tie.Need-returns-9
+returns-9 c = (number-need (columnNamed (c .before .before .args .first) (c .before .before .args .second)) (date-is (c .before .before .args .first) (c .before .before .args .second) (c .match .keys9)) 10 refl (now (c .before .before .args .rest)), omega arith)
+
+returns-10 : tie.Need-returns-10
+returns-10 c = (number-need (columnNamed (c .before .before .args .first) (c .before .before .args .second)) (time-is (c .before .before .args .first) (c .before .before .args .second) (c .match .keys10)) 8 refl (now (c .before .before .args .rest)), omega arith)
+
+returns-11 : tie.Need-returns-11
+returns-11 c = (c .timestamp-need .ensures .0 ∙ ap (λ (n : ℕ). cond (eqb n 0) 26 n) (sym (length-is (c .before .before .before .before .args .first) (c .before .before .before .before .args .second) (c .before .length-of .ensures))) ∙ number-need (columnNamed (c .before .before .before .before .args .first) (c .before .before .before .before .args .second)) (timestamp-is (c .before .before .before .before .args .first) (c .before .before .before .before .args .second) (c .before .before .match .keys11)) (cond (eqb ((columnNamed (c .before .before .before .before .args .first) (c .before .before .before .before .args .second)) .length) 0) 26 ((columnNamed (c .before .before .before .before .args .first) (c .before .before .before .before .args .second)) .length)) refl (now (c .before .before .before .before .args .rest)), omega (arith, c .timestamp-need .ensures .1))
+
+returns-12 : tie.Need-returns-12
+returns-12 c = search needs
 
 pub value-need-spec : {M : Type 1} → statement M
 value-need-spec =
     tie.close
     (tie.spec
-    decimal-bytes-requires
-    char-bytes-requires
-    varchar-need-requires
-    timestamp-bytes-requires
-    number-bytes-requires
-    other-need-requires
+    precision-requires
+    decimal-need-requires
+    type-numbers-requires
+    cast-result
+    var-char-need-requires
+    length-of-requires
+    timestamp-need-requires
+    other-named-requires
     returns
     returns-2
     returns-3
@@ -75,4 +94,8 @@ value-need-spec =
     returns-5
     returns-6
     returns-7
-    returns-8)
+    returns-8
+    returns-9
+    returns-10
+    returns-11
+    returns-12)

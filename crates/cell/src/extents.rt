@@ -289,16 +289,13 @@ pub fn number_width(t: Db2Type) -> NumberWidth
     }
 }
 
-// How many bytes the column's value takes of the rest of the row. As in decode_column_value, the column is copied in the one arm that hands it on.
+// How many bytes the column's value takes of the rest of the row.
 pub fn column_need(rest: &[u8], column: ColumnDescriptor) -> usize
     ensures { λ r. ⌜ (r ≡ need (extentOf column) (now (rest .entry))) × (r ≤ mostNeed) ⌝ }
 {
     let t = column.db2_type;
     match number_width(t) {
         NumberWidth::Bytes(n) => n,
-        NumberWidth::NoNumber => {
-            let other = column;
-            other_need(rest, other)
-        }
+        NumberWidth::NoNumber => other_need(rest, column),
     }
 }

@@ -67,13 +67,25 @@ fn decode_made(rest: &[u8], first: u64, second: u64) -> OtherValue
     decode_other_value(rest, column)
 }
 
+// The same value. A called function leaves it in memory; taken out of there, it leaves the values of the other arms in no memory.
+fn same_value(d: OtherValue) -> OtherValue
+    ensures { λ r. ⌜ r ≡ d ⌝ }
+{
+    let item = d.item;
+    OtherValue {
+        item,
+        used: d.used,
+        external: d.external,
+    }
+}
+
 fn decode_var_char(rest: &[u8], first: u64, second: u64) -> OtherValue
     requires tag { ⌜ first % 2 ^ 8 ≡ 8 ⌝ }
     requires there { ⌜ need (extentOf (columnNamed first second)) (now rest) ≤ length (now rest) ⌝ }
     ensures { λ r. ⌜ OtherIs r (columnNamed first second) (now (rest .entry)) ⌝ }
 {
     if is_header(first) {
-        return decode_made(rest, first, second);
+        return same_value(decode_made(rest, first, second));
     }
     let n = counted_need(1, rest);
     within_row(var_char_item(ccsid_of(second), n), n)
@@ -131,6 +143,6 @@ pub fn decode_other(rest: &[u8], first: u64, second: u64) -> OtherValue
             let n = timestamp_need(length_of(second));
             within_row(timestamp_item(ccsid_of(second), n), n)
         }
-        _ => decode_made(rest, first, second),
+        _ => same_value(decode_made(rest, first, second)),
     }
 }

@@ -86,6 +86,9 @@ within-row-requires-5 c κs = search needs
 decode-made-requires : tie.Need-decode-made-requires
 decode-made-requires c κs = search needs
 
+same-value-requires : tie.Need-same-value-requires
+same-value-requires c κs = search needs
+
 returns : tie.Need-returns
 returns c = rw (c .within-row .ensures) (within-row (columnNamed (c .before .before .before .before .before .before .before .args .first) (c .before .before .before .before .before .before .before .args .second)) (decimal-is (c .before .before .before .before .before .before .before .args .first) (c .before .before .before .before .before .before .before .args .second) (c .before .before .before .before .before .match .keys1)) (Fixed (packedLength ((typeNumbers (c .before .before .before .before .before .before .before .args .first)) % 2 ^ 8))) refl (now (c .before .before .before .before .before .before .before .args .rest)) (c .before .before .before .decimal-need .result) (c .before .before .before .decimal-need .ensures .0 ∙ ap packedLength (c .before .before .before .before .precision .ensures) ∙ fixed (packedLength ((typeNumbers (c .before .before .before .before .before .before .before .args .first)) % 2 ^ 8)) (now (c .before .before .before .before .before .before .before .args .rest))) (c .before .before .before .before .before .before .before .pre .0) (c .before .decimal-item .result) (λ l q. subst (λ (z : ℕ). Holds (c .before .decimal-item .result) l (typeItem ported (type.Decimal ((typeNumbers (c .before .before .before .before .before .before .before .args .first)) % 2 ^ 8) z) (columnNamed (c .before .before .before .before .before .before .before .args .first) (c .before .before .before .before .before .before .before .args .second)) l)) (c .before .before .scale .ensures) (c .before .decimal-item .ensures ((typeNumbers (c .before .before .before .before .before .before .before .args .first)) % 2 ^ 8) (columnNamed (c .before .before .before .before .before .before .before .args .first) (c .before .before .before .before .before .before .before .args .second)) l q)) (λ l. refl))
 
@@ -105,7 +108,7 @@ returns-6 : tie.Need-returns-6
 returns-6 c = rw (c .within-row5 .ensures) (within-row (columnNamed (c .before .before .before .before .before .before .before .args .first) (c .before .before .before .before .before .before .before .args .second)) (timestamp-is (c .before .before .before .before .before .before .before .args .first) (c .before .before .before .before .before .before .before .args .second) (c .before .before .before .before .before .match .keys6)) (Fixed (cond (eqb ((columnNamed (c .before .before .before .before .before .before .before .args .first) (c .before .before .before .before .before .before .before .args .second)) .length) 0) 26 ((columnNamed (c .before .before .before .before .before .before .before .args .first) (c .before .before .before .before .before .before .before .args .second)) .length))) refl (now (c .before .before .before .before .before .before .before .args .rest)) (c .before .before .before .timestamp-need .result) (c .before .before .before .timestamp-need .ensures .0 ∙ ap (λ (n : ℕ). cond (eqb n 0) 26 n) (sym (length-is (c .before .before .before .before .before .before .before .args .first) (c .before .before .before .before .before .before .before .args .second) (c .before .before .before .before .length-of .ensures))) ∙ fixed (cond (eqb ((columnNamed (c .before .before .before .before .before .before .before .args .first) (c .before .before .before .before .before .before .before .args .second)) .length) 0) 26 ((columnNamed (c .before .before .before .before .before .before .before .args .first) (c .before .before .before .before .before .before .before .args .second)) .length)) (now (c .before .before .before .before .before .before .before .args .rest))) (c .before .before .before .before .before .before .before .pre .0) (c .before .timestamp-item .result) (λ l q. c .before .timestamp-item .ensures (columnNamed (c .before .before .before .before .before .before .before .args .first) (c .before .before .before .before .before .before .before .args .second)) l (ccsid-is (c .before .before .before .before .before .before .before .args .first) (c .before .before .before .before .before .before .before .args .second) (c .before .before .ccsid-of4 .ensures)) q) (λ l. refl))
 
 returns-7 : tie.Need-returns-7
-returns-7 c = search needs
+returns-7 c = rw (c .same-value .ensures) (c .before .decode-made .ensures)
 
 pub decode-other-spec : {M : Type 1} → statement M
 decode-other-spec =
@@ -134,6 +137,7 @@ decode-other-spec =
     timestamp-item-requires
     within-row-requires-5
     decode-made-requires
+    same-value-requires
     returns
     returns-2
     returns-3

@@ -16,8 +16,11 @@ is-header-requires c κs = search needs
 decode-made-requires : tie.Need-decode-made-requires
 decode-made-requires c κs = (c .before .before .before .pre .1, no-number (c .before .before .before .args .first) (omega (arith, c .before .before .before .pre .0)))
 
+same-value-requires : tie.Need-same-value-requires
+same-value-requires c κs = search needs
+
 returns : tie.Need-returns
-returns c = search needs
+returns c = rw (c .same-value .ensures) (c .before .decode-made .ensures)
 
 counted-need-requires : tie.Need-counted-need-requires
 counted-need-requires c κs = search needs
@@ -42,6 +45,7 @@ decode-var-char-spec =
     (tie.spec
     is-header-requires
     decode-made-requires
+    same-value-requires
     returns
     counted-need-requires
     ccsid-of-requires

@@ -1,13 +1,13 @@
-/* A weave order, from a host's bytes to a table: parses the description of the columns once, decodes rows with it, and prints what
- * it gets. tools/check-bindings compiles and runs it; examples/weave_order.out is what it prints.
+/* Weave orders, from a host's bytes to a table: parses the description of the columns once, decodes the rows of a block, which lie one after the other, and
+ * prints what it gets. tools/check-bindings compiles and runs it; examples/weave_order.out is what it prints.
  *
- *     cc -Iinclude examples/weave_order.c target/staticlib/libexported.a -o weave_order */
+ *     cc -Iinclude examples/weave_order.c target/staticlib/libvejupa.a -o weave_order */
 #include <inttypes.h>
 #include <stdio.h>
 
 #include "vejupa.h"
 
-/* What the host sends once, the description. Each line is one triplet: its length, its type, its data. */
+/* What the host sends once: the description. Each line is one triplet: its length, its type, its data. */
 static const uint8_t DESCRIPTION[] = {
     0x03, 0x78, 0x31,                               /* MDD: the next SDA stands for type 31, a Char that may be null, */
     0x08, 0x70, 0x40, 0x00, 0x00, 0x00, 0x00, 0x25, /* SDA: and is named 40; its CCSID is 37, EBCDIC */
@@ -23,7 +23,9 @@ static const uint8_t DESCRIPTION[] = {
     0xCA, 0x80, 0x04,                               /* the drawing: a Clob that is sent apart, with 4 bytes to refer to it */
 };
 
-static const uint8_t FIRST[] = {
+/* And then a block: two rows, and the end of the query. This host sends FF 00 before each row. */
+static const uint8_t BLOCK[] = {
+    0xFF, 0x00,                                           /* a row begins */
     0x00, 0x01, 0x13, 0x0C,                               /* 70412 */
     0x00, 0xD2, 0xC1, 0xE2, 0xC2, 0xC1, 0xC8, 0x60, 0xF4, /* not null, KASBAH-4 */
     0x00, 0x01, 0x25, 0x0C,                               /* 12.50 */
@@ -31,13 +33,11 @@ static const uint8_t FIRST[] = {
     0x40, 0x35, 0x80, 0x00, 0x00, 0x00, 0x00, 0x00,       /* 21.5 */
     '2', '0', '2', '6', '-', '0', '3', '-', '0', '2',     /* 2026-03-02 */
     0x00, 0x00, 0x0C, 'c', 'r', 0xC3, 0xA8, 'm', 'e',     /* not null, 12 bytes of UTF-8 */
-    ' ', 'f', 'i', 'e', 'l', 'd',
+    ' ', 'f', 'i', 'e', 'l', 'd',                         /* */
     0x00, 0x03, 0x1A, 0x2B, 0x3C,                         /* three yarns */
     0x00, 0x00, 0x01, 0x07,                               /* where the drawing is */
-};
 
-static const uint8_t SECOND[] = {
-    0xFF, 0x00,                                       /* a mark that a host may put before a row: skipped */
+    0xFF, 0x00,                                       /* a row begins */
     0x00, 0x01, 0x13, 0x0D,                           /* 70413 */
     0xFF,                                             /* null: no pattern yet */
     0x00, 0x00, 0x07, 0x5D,                           /* -0.75, a correction */
@@ -47,6 +47,14 @@ static const uint8_t SECOND[] = {
     0xFF,                                             /* null */
     0x00, 0x00,                                       /* no yarns */
     0x00, 0x00, 0x00, 0x00,                           /* no drawing */
+
+    0x00, 0x00, 0x00, 0x00, 0x64, '0', '2', '0', '0', '0', /* a status (SQLCA), not a row: no more rows */
+    'C', 'S', 'S', '1', '0', '1', '4', '0', 0x00,          /* */
+    0x00, 0x00, 0x00, 0x00, 0x00, 0x00, 0x00, 0x00,        /* */
+    0x00, 0x00, 0x00, 0x02, 0x00, 0x00, 0x00, 0x00,        /* */
+    0x00, 0x00, 0x00, 0x00, 0x00, 0x00, 0x00, 0x00,        /* */
+    ' ', ' ', ' ', ' ', ' ', ' ', ' ', ' ', ' ', ' ', ' ', /* */
+    0x00, 0x00, 0x00, 0x00, 0x00, 0x00, 0xFF, 0xFF,        /* */
 };
 
 /* In the order of enum vejupa_type. */
@@ -56,13 +64,13 @@ static const char *const TYPE_NAMES[] = {
     "DbClob", "ClobLocator", "DbClobLocator", "LobBytes", "LobChar", "RowId", "Boolean", "Xml", "Null",
 };
 
-static void print_column(const uint64_t *column) {
+static void print_column(const struct vejupa_column *column) {
     unsigned type = vejupa_column_type(column);
     unsigned numbers = vejupa_column_type_numbers(column);
     unsigned ccsid = vejupa_column_ccsid(column);
     printf("%u %s", vejupa_column_number(column), TYPE_NAMES[type]);
     if (type == VEJUPA_TYPE_DECIMAL) {
-        printf("(%u,%u)", numbers & 0xFF, numbers >> 8);
+        printf("(%u,%u)", vejupa_decimal_precision(column), vejupa_decimal_scale(column));
     } else if (numbers != 0) {
         printf("(%u)", numbers);
     }
@@ -91,31 +99,31 @@ static void print_hex(struct vejupa_bytes bytes) {
     }
 }
 
-static void print_value(const uint64_t *value, struct vejupa_bytes bytes) {
+static void print_value(const struct vejupa_value *value, struct vejupa_bytes bytes) {
     switch (vejupa_value_sort(value)) {
-    case VEJUPA_NULL:
+    case VEJUPA_SORT_NULL:
         printf("null");
         break;
-    case VEJUPA_SMALL_INT:
-    case VEJUPA_INTEGER:
-    case VEJUPA_BIG_INT:
+    case VEJUPA_SORT_SMALL_INT:
+    case VEJUPA_SORT_INTEGER:
+    case VEJUPA_SORT_BIG_INT:
         printf("%" PRId64, vejupa_value_integer(value));
         break;
-    case VEJUPA_REAL:
+    case VEJUPA_SORT_REAL:
         printf("%g", (double)vejupa_value_real(value));
         break;
-    case VEJUPA_DOUBLE:
+    case VEJUPA_SORT_DOUBLE:
         printf("%g", vejupa_value_double(value));
         break;
-    case VEJUPA_REAL_NAN:
-    case VEJUPA_DOUBLE_NAN:
+    case VEJUPA_SORT_REAL_NAN:
+    case VEJUPA_SORT_DOUBLE_NAN:
         printf("no number");
         break;
-    case VEJUPA_BOOLEAN:
+    case VEJUPA_SORT_BOOLEAN:
         printf(vejupa_value_integer(value) ? "true" : "false");
         break;
-    case VEJUPA_BINARY:
-    case VEJUPA_BLOB:
+    case VEJUPA_SORT_BINARY:
+    case VEJUPA_SORT_BLOB:
         print_hex(bytes);
         break;
     default: /* a text */
@@ -124,43 +132,63 @@ static void print_value(const uint64_t *value, struct vejupa_bytes bytes) {
     printf("%s\n", vejupa_value_is_external(value) ? ", sent apart" : "");
 }
 
-static void print_row(const uint64_t *columns, uint64_t count, const uint8_t *row, size_t row_len) {
-    uint64_t values[VEJUPA_VALUE_WORDS * VEJUPA_MAX_COLUMNS];
-    uint8_t text[256]; /* where more is needed, refusal 9 says how much */
-    uint64_t first, second;
-    uint32_t refusal = vejupa_decode_row(columns, VEJUPA_COLUMN_WORDS * (size_t)count, row, row_len, values,
-                                         sizeof values / sizeof *values, text, sizeof text, &first, &second);
+/* Room for the values and texts of a row; it serves one row after the other. */
+static struct vejupa_value values[VEJUPA_MAX_COLUMNS];
+static uint8_t text[256]; /* where more is needed, refusal 9 says how much */
+
+/* Decodes the row that `data` begins with, prints it, and says how many bytes it took: 0 where it is refused. */
+static size_t print_row(const struct vejupa_column *columns, size_t count, const uint8_t *data, size_t data_len) {
+    struct vejupa_row row;
+    uint32_t refusal = vejupa_decode_row(columns, count, data, data_len, values, VEJUPA_MAX_COLUMNS, text, sizeof text, &row);
+    if (refusal == VEJUPA_BUFFER_TOO_SHORT) {
+        size_t column = vejupa_short_column(columns, count, data, data_len, values, VEJUPA_MAX_COLUMNS);
+        printf("refusal 8 at column %zu: %zu bytes expected, %zu there\n", column, row.expected, row.actual);
+        return 0;
+    }
     if (refusal != VEJUPA_ACCEPTED) {
-        printf("refusal %" PRIu32 ", %" PRIu64 ", %" PRIu64 "\n", refusal, first, second);
-        return;
+        printf("refusal %" PRIu32 ": %s\n", refusal, vejupa_refusal_name(refusal));
+        return 0;
     }
-    printf("%" PRIu64 " bytes used, %" PRIu64 " bytes of text\n", first, second);
-    for (uint64_t k = 0; k < count; k++) {
-        const uint64_t *value = values + VEJUPA_VALUE_WORDS * k;
-        struct vejupa_bytes bytes = {row, 0};
-        vejupa_value_bytes(value, VEJUPA_VALUE_WORDS, row, row_len, text, sizeof text, &bytes);
-        printf("%" PRIu64 " ", k);
-        print_value(value, bytes);
+    printf("%zu bytes used, %zu bytes of text\n", row.used, row.text_length);
+    for (size_t k = 0; k < count; k++) {
+        printf("%zu ", k);
+        print_value(&values[k], vejupa_value_bytes(&values[k], data, data_len, text, row.text_length));
     }
+    return row.used;
+}
+
+/* The rows of a block. What such a loop must heed:
+ * - A row may use no byte (a description without columns, say): stop then, or the loop does not end.
+ * - This host sends FF 00 before each row. A group that begins otherwise is no row: stop before it. Read as rows, the 62 bytes of the query's end would come
+ *   out as numbers.
+ * - A host that sends rows without these two bytes is misread where the first column is Null: its indicator, FF, is taken for them. */
+static void print_rows(const struct vejupa_column *columns, size_t count, const uint8_t *block, size_t block_len) {
+    size_t at = 0;
+    while (at < block_len && block[at] == 0xFF) {
+        printf("\nthe row at %zu: ", at);
+        size_t used = print_row(columns, count, block + at, block_len - at);
+        if (used == 0) {
+            break;
+        }
+        at += used;
+    }
+    printf("\n%zu bytes are left, from %zu on\n", block_len - at, at);
 }
 
 int main(void) {
-    uint64_t columns[VEJUPA_COLUMN_WORDS * VEJUPA_MAX_COLUMNS];
-    uint64_t count;
-    uint32_t refusal = vejupa_parse_qrydsc(DESCRIPTION, sizeof DESCRIPTION, columns, sizeof columns / sizeof *columns, &count);
+    struct vejupa_column columns[VEJUPA_MAX_COLUMNS];
+    size_t count;
+    uint32_t refusal = vejupa_parse_qrydsc(DESCRIPTION, sizeof DESCRIPTION, columns, VEJUPA_MAX_COLUMNS, &count);
     if (refusal != VEJUPA_ACCEPTED) {
-        printf("the description: refusal %" PRIu32 "\n", refusal);
+        printf("the description: refusal %" PRIu32 ": %s\n", refusal, vejupa_refusal_name(refusal));
         return 1;
     }
-    printf("%" PRIu64 " columns\n", count);
-    for (uint64_t k = 0; k < count; k++) {
-        print_column(columns + VEJUPA_COLUMN_WORDS * k);
+    printf("%zu columns\n", count);
+    for (size_t k = 0; k < count; k++) {
+        print_column(&columns[k]);
     }
-    printf("\nthe first order: ");
-    print_row(columns, count, FIRST, sizeof FIRST);
-    printf("\nthe second order: ");
-    print_row(columns, count, SECOND, sizeof SECOND);
-    printf("\nthe first order, cut off: ");
-    print_row(columns, count, FIRST, 20);
+    print_rows(columns, count, BLOCK, sizeof BLOCK);
+    printf("\nthe first row, cut off: ");
+    print_row(columns, count, BLOCK, 22);
     return 0;
 }

@@ -1,25 +1,31 @@
-/* Vejupa: a proved decoder of Db2 rows. The calls of the static library libexported.a, for C (C99 and later) and C++.
+/* Vejupa: a proved decoder of Db2 rows. The calls of the static library libvejupa.a, for C (C99 and later) and C++.
  *
- *     rt staticlib exported                                  writes target/staticlib/libexported.a, for x86-64 Linux
- *     cc -Iinclude program.c target/staticlib/libexported.a
+ *     rt staticlib vejupa                                  writes target/staticlib/libvejupa.a, for x86-64 Linux
+ *     cc -Iinclude program.c target/staticlib/libvejupa.a
  *
- * examples/weave_order.c is a whole program. docs/RULES.md has the rules; what each call promises stands beside it in
- * crates/exported/src/lib.rt.
+ * examples/weave_order.c is a whole program. docs/RULES.md has the rules of descriptions, rows and texts.
  *
  * What holds for every call
  *
- * - A slice is two arguments, a pointer and then its length: in bytes for uint8_t, in words for uint64_t.
- * - No pointer is null, also where the length is 0: an empty slice has any address that is aligned for its type, which is
- *   not looked at. NULL, and the data() of an empty std::vector, are no such address; that of any object is.
- * - No two arguments overlap, neither slices nor the numbers behind pointers.
- * - Given that, any bytes, numbers and lengths whatever may be passed: each call tests its own input, reads and writes
- *   within its slices only, and ends. The answer is the one that its contract states.
- * - The answer returned, where there is one, is 0 (VEJUPA_ACCEPTED) or a refusal's number. On a refusal no slice is changed; numbers behind
- *   pointers are written always, and are 0 where nothing else is said. On acceptance, what lies in a slice after what was written keeps
- *   what it had.
- * - Texts are UTF-8, without a byte 0 at the end.
- * - The library keeps nothing from call to call and allocates nothing: calls on different buffers may run at the same time.
- */
+ * - The answer returned, where there is one, is 0 (VEJUPA_ACCEPTED) or a refusal's number; vejupa_refusal_name says it in words. On a refusal no lent
+ *   array is changed. Numbers behind pointers are written always, and are 0 where nothing else is said. On acceptance what lies in an array after what
+ *   was written keeps what it had.
+ * - Any bytes, numbers and lengths may be passed: each call tests its own input, reads and writes within what it is lent, and ends.
+ * - An array is a pointer and how many elements there are. Where there are none, the pointer may be NULL. No other pointer may be.
+ * - What a call writes overlaps nothing else that it is given. What is only read may overlap.
+ * - Texts are UTF-8, without a byte 0 at the end; trailing blanks stay.
+ * - The library keeps nothing from call to call and allocates nothing: calls that write to different memory may run at the same time. 6,000 bytes of stack
+ *   are enough for any call: less than 2,500 of its own, and the rest where the dynamic linker looks up memset at the first one.
+ *
+ * Rows that lie one after the other: go on by `used`, and heed three things.
+ *
+ * - `used` may be 0 (no columns, or only such as take no bytes): stop then, or the loop does not end.
+ * - A first byte FF, with at least one byte behind it, is taken for two leading bytes that a host sends before a row (FF 00), and both are skipped. So
+ *   where the first column is nullable, rows must have these two: a Null's indicator, FF, would be taken for them, and the row misread.
+ * - A host that sends FF 00 before each row sends other groups too, which begin 00, as the end of a query does: stop before one, or it is read as rows.
+ *   Finding the end of a block is the caller's work.
+ *
+ * What follows a row does not change it, where it has two bytes or more, uses at least one, and each column carries its own end (W9 of docs/RULES.md). */
 #ifndef VEJUPA_H
 #define VEJUPA_H
 
@@ -30,6 +36,9 @@
 #ifdef __cplusplus
 extern "C" {
 #endif
+
+/* The version of these calls. CHANGELOG.md says what changed. */
+#define VEJUPA_VERSION "0.2.0"
 
 /* Answers. 1 to 9 are the refusals of docs/RULES.md. */
 #define VEJUPA_ACCEPTED 0
@@ -42,8 +51,8 @@ extern "C" {
 #define VEJUPA_DECIMAL_TOO_LONG 7      /* a packed decimal of more than 128 bytes */
 #define VEJUPA_BUFFER_TOO_SHORT 8      /* the row ends before a value does; with the bytes expected and the bytes there are */
 #define VEJUPA_TEXT_BUFFER_TOO_SHORT 9 /* the texts do not fit into the lent buffer; with the length needed */
-#define VEJUPA_TOO_FEW_WORDS 101       /* the lent words are too few for the columns, or for the values */
-#define VEJUPA_NO_COLUMN 102           /* words that are no column's, or a word that is no type's */
+#define VEJUPA_TOO_FEW_WORDS 101       /* there is less room than there are columns, or values */
+#define VEJUPA_NO_COLUMN 102           /* what stands for a column, or for a type, is none */
 
 /* Limits. */
 #define VEJUPA_MAX_QRYDSC 65536  /* bytes of a description */
@@ -51,18 +60,41 @@ extern "C" {
 #define VEJUPA_MAX_INPUT 1048576 /* bytes of a row, and of what a text conversion is given */
 #define VEJUPA_MAX_DECIMAL 128   /* bytes of a packed decimal */
 
-/* Words of a column and of a value. Column k takes words 2 k and 2 k + 1, value k takes words 3 k, 3 k + 1 and 3 k + 2. */
+/* A column and a value are words; the functions below take their fields out. Layout, in bits from the lowest:
+ *
+ *     column   words[0]   0..7 type, 8..23 the type's own numbers, 24..31 DRDA type code, 32..47 column number (at most 255), 48 nullable,
+ *                         49 little-endian, 50 whether there is a reference length, 51..63 are 0
+ *              words[1]   0..15 length, 16..23 precision, 24..31 scale, 32..47 CCSID, 48..63 reference length, or 0
+ *     value    words[0]   0..7 sort, 8 external, 9..63 are 0
+ *              words[1]   of a number the number itself: integers in two's complement of 64 bits, floats by their bits, Booleans 0 or 1; of a text
+ *                         the place of its first byte in the text buffer; of a Binary or Blob the place of its first byte in the row (an empty one: 0);
+ *                         else 0
+ *              words[2]   of a text, Binary or Blob the number of its bytes; else 0 */
 #define VEJUPA_COLUMN_WORDS 2
 #define VEJUPA_VALUE_WORDS 3
 
-/* The types of columns, and beside each the numbers that the type itself holds. */
+struct vejupa_column {
+    uint64_t words[VEJUPA_COLUMN_WORDS];
+};
+
+struct vejupa_value {
+    uint64_t words[VEJUPA_VALUE_WORDS];
+};
+
+/* Bytes somewhere: a part of a row or of a text buffer. */
+struct vejupa_bytes {
+    const uint8_t *start;
+    size_t length;
+};
+
+/* The types of columns, and beside each the numbers that the type itself holds. Where none is listed they are 0, and other words are no column's. */
 enum vejupa_type {
     VEJUPA_TYPE_SMALL_INT = 0,
     VEJUPA_TYPE_INTEGER = 1,
     VEJUPA_TYPE_BIG_INT = 2,
     VEJUPA_TYPE_REAL = 3,
     VEJUPA_TYPE_DOUBLE = 4,
-    VEJUPA_TYPE_DECIMAL = 5,   /* precision in the low 8 bits, scale in the high 8 */
+    VEJUPA_TYPE_DECIMAL = 5,   /* precision and scale: vejupa_decimal_numbers */
     VEJUPA_TYPE_DEC_FLOAT = 6, /* digits, at most 255 */
     VEJUPA_TYPE_CHAR = 7,      /* length */
     VEJUPA_TYPE_VAR_CHAR = 8,  /* length */
@@ -90,186 +122,303 @@ enum vejupa_type {
 
 /* The sorts of values. A float that is no number has a sort of its own. */
 enum vejupa_sort {
-    VEJUPA_NULL = 0,
-    VEJUPA_SMALL_INT = 1,
-    VEJUPA_INTEGER = 2,
-    VEJUPA_BIG_INT = 3,
-    VEJUPA_REAL = 4,
-    VEJUPA_REAL_NAN = 5,
-    VEJUPA_DOUBLE = 6,
-    VEJUPA_DOUBLE_NAN = 7,
-    VEJUPA_DECIMAL = 8, /* a text, such as -0.05 */
-    VEJUPA_CHAR = 9,
-    VEJUPA_VAR_CHAR = 10,
-    VEJUPA_BINARY = 11,
-    VEJUPA_BLOB = 12,
-    VEJUPA_CLOB = 13,
-    VEJUPA_ROW_ID = 14,
-    VEJUPA_DATE = 15,
-    VEJUPA_TIME = 16,
-    VEJUPA_TIMESTAMP = 17,
-    VEJUPA_BOOLEAN = 18,
-    VEJUPA_XML = 19
+    VEJUPA_SORT_NULL = 0,
+    VEJUPA_SORT_SMALL_INT = 1,
+    VEJUPA_SORT_INTEGER = 2,
+    VEJUPA_SORT_BIG_INT = 3,
+    VEJUPA_SORT_REAL = 4,
+    VEJUPA_SORT_REAL_NAN = 5,
+    VEJUPA_SORT_DOUBLE = 6,
+    VEJUPA_SORT_DOUBLE_NAN = 7,
+    VEJUPA_SORT_DECIMAL = 8, /* a text, such as -0.05. A nibble above 9 in place of a digit gives one of the characters : ; < = > ? */
+    VEJUPA_SORT_CHAR = 9,
+    VEJUPA_SORT_VAR_CHAR = 10,
+    VEJUPA_SORT_BINARY = 11,
+    VEJUPA_SORT_BLOB = 12,
+    VEJUPA_SORT_CLOB = 13,
+    VEJUPA_SORT_ROW_ID = 14, /* a text: 0x and hexadecimal digits */
+    VEJUPA_SORT_DATE = 15,
+    VEJUPA_SORT_TIME = 16,
+    VEJUPA_SORT_TIMESTAMP = 17,
+    VEJUPA_SORT_BOOLEAN = 18,
+    VEJUPA_SORT_XML = 19
 };
 
-/* The columns that a description (QRYDSC) lists, in order: their number in *count, and two words for each in `words`. 256
- * words are always enough. Layout, in bits from the lowest:
- *
- *     first word    0..7 type, 8..23 the type's own numbers, 24..31 DRDA type code, 32..47 column number (at most 255),
- *                   48 nullable, 49 little-endian, 50 whether there is a reference length, 51..63 are 0
- *     second word   0..15 length, 16..23 precision, 24..31 scale, 32..47 CCSID, 48..63 reference length, or 0
- *
- * Answers 0, 1, 2 or 101; with 101 *count is the number of columns as well. */
-uint32_t vejupa_parse_qrydsc(const uint8_t *data, size_t data_len, uint64_t *words, size_t words_len, uint64_t *count);
+/* The library's own symbols, for other languages that can call C; a C program calls what follows them. Columns and values are counted in words here: a name
+ * that ends in _words_len says how many words there are, two a column, three a value. An odd word of columns is 102. No pointer is null, also where there
+ * are no elements: any address will do that is aligned for the type. What each promises stands beside it in crates/vejupa/src/lib.rt. */
+#if defined(__GNUC__)
+#define VEJUPA_NONNULL __attribute__((nonnull))
+#else
+#define VEJUPA_NONNULL
+#endif
 
-/* The values of one row. `columns` has two words a column, as vejupa_parse_qrydsc writes them or a caller's own (vejupa_make_column); there
- * are columns_len / 2 columns. Of a column it goes by the type with its own numbers, nullable, the CCSID, the byte order and the reference
- * length, and by the length of Timestamp, Boolean, Blob, Clob and DbClob alone. Three words a value go into `values`, and the values' texts into `text`, one after
- * the other from its first byte, in column order. *first is then the number of bytes used, counted from data's first byte, and *second
- * the number of bytes of text written. Layout of a value, in bits from the lowest:
+uint32_t vejupa_raw_parse_qrydsc(const uint8_t *data, size_t data_len, uint64_t *column_words, size_t column_words_len, size_t *count) VEJUPA_NONNULL;
+uint32_t vejupa_raw_decode_row(const uint64_t *column_words, size_t column_words_len, const uint8_t *data, size_t data_len, uint64_t *value_words,
+                               size_t value_words_len, uint8_t *text, size_t text_len, size_t *used, size_t *text_length, size_t *expected,
+                               size_t *actual) VEJUPA_NONNULL;
+/* *bytes is {data, 0}, or any slice, before the call too. */
+void vejupa_raw_value_bytes(const uint64_t *value_words, size_t value_words_len, const uint8_t *data, size_t data_len, const uint8_t *text, size_t text_len,
+                            struct vejupa_bytes *bytes) VEJUPA_NONNULL;
+/* `type_word` is the low 24 bits of a column's first word. */
+uint32_t vejupa_raw_fixed_length(uint64_t type_word, uint32_t *fixed, size_t *length) VEJUPA_NONNULL;
+uint32_t vejupa_raw_decode_character_bytes(const uint8_t *data, size_t data_len, uint16_t ccsid, uint8_t *text, size_t text_len,
+                                           size_t *text_length) VEJUPA_NONNULL;
+uint32_t vejupa_raw_decode_graphic_bytes(const uint8_t *data, size_t data_len, uint16_t ccsid, uint8_t *text, size_t text_len,
+                                         size_t *text_length) VEJUPA_NONNULL;
+uint32_t vejupa_raw_format_lob_locator(const uint8_t *bytes, size_t bytes_len, uint8_t *text, size_t text_len, size_t *text_length) VEJUPA_NONNULL;
+uint32_t vejupa_raw_format_rowid(const uint8_t *bytes, size_t bytes_len, uint8_t *text, size_t text_len, size_t *text_length) VEJUPA_NONNULL;
+uint32_t vejupa_raw_decode_packed_decimal(const uint8_t *data, size_t data_len, uint8_t precision, uint8_t scale, uint8_t *text, size_t text_len,
+                                          size_t *text_length) VEJUPA_NONNULL;
+uint32_t vejupa_raw_bytes_are_likely_text(const uint8_t *bytes, size_t bytes_len) VEJUPA_NONNULL;
+
+/* The version as a number: 10000 times the first part, 100 times the second, and the third. Each file that includes this header refers to this symbol: with
+ * an archive of another version it does not link. */
+uint32_t vejupa_version_0_2_0(void);
+#if defined(__GNUC__)
+#if defined(__has_attribute)
+#if __has_attribute(retain)
+__attribute__((retain)) /* also where the linker drops unused sections */
+#endif
+#endif
+__attribute__((used))
+#endif
+static uint32_t (*const vejupa_version_wanted)(void) = vejupa_version_0_2_0;
+
+/* An address in place of NULL, for an array without elements. */
+static inline const void *vejupa_given(const void *p) {
+    static const uint64_t nothing = 0;
+    return p != NULL ? p : &nothing;
+}
+static inline void *vejupa_lent(void *p) {
+    static uint64_t nothing;
+    return p != NULL ? p : &nothing;
+}
+
+/* n, or the limit where there are more: so many are as good as any more, and the number of their words does not wrap. */
+static inline size_t vejupa_at_most(size_t n, size_t limit) { return n < limit ? n : limit; }
+
+/* ---- The calls. */
+
+/* The columns that a description (QRYDSC) lists, in order: the first *count of `columns`, which has room for `columns_room` of them; VEJUPA_MAX_COLUMNS are
+ * always enough. Answers 0, 1, 2 or 101; with 101 *count is the number of columns as well.
  *
- *     first word    0..7 sort, 8 external (the value refers to data that come outside of the row), 9..63 are 0
- *     second word   of a number the number itself: integers in two's complement of 64 bits, floats by their bits, Booleans 0
- *                   or 1; of a text, the place of its first byte in `text`; of a Binary or Blob, the place of its first
- *                   byte in `data` (an empty one: 0); else 0
- *     third word    of a text, Binary or Blob the number of its bytes; else 0
+ * A damaged description is not refused: where it breaks off, or a length in it is wrong, the columns read up to there are all that there are. */
+static inline uint32_t vejupa_parse_qrydsc(const uint8_t *data, size_t data_len, struct vejupa_column *columns, size_t columns_room, size_t *count) {
+    return vejupa_raw_parse_qrydsc((const uint8_t *)vejupa_given(data), data_len, (uint64_t *)vejupa_lent(columns),
+                                   VEJUPA_COLUMN_WORDS * vejupa_at_most(columns_room, VEJUPA_MAX_COLUMNS), count);
+}
+
+/* What the row call answers beside the values. */
+struct vejupa_row {
+    size_t used;        /* accepted: the bytes used, from the row's first byte, the two leading ones included. It may be 0. Else 0 */
+    size_t text_length; /* accepted: the bytes of text written. With 9: the length that `text` must have; nothing is written. Else 0 */
+    size_t expected;    /* with 8: the bytes that a value needs. Else 0 */
+    size_t actual;      /* with 8: the bytes there are for it. Else 0 */
+};
+
+/* The values of one row, one for each column: values[k] is of columns[k]. `columns` are as vejupa_parse_qrydsc writes them or a caller's own
+ * (vejupa_make_column). The values' texts go into `text`, one after the other from its first byte; vejupa_value_bytes shows a value's bytes. `data` may go on
+ * after the row. Of a column the call goes by the type with its own numbers, nullable, the CCSID, the byte order and the reference length, and by the length of
+ * Timestamp, Boolean, Blob, Clob and DbClob alone.
  *
  * Answers the first of these that applies, or 0:
  *     3     there are more than 128 columns
- *     101   values_len is below 3 for each column: *first is the number of words needed
- *     102   columns_len is odd, or two words are no column's
+ *     101   there is room for fewer values than there are columns
+ *     102   a column is none (vejupa_is_column tells which)
  *     4     the row has more than 1,048,576 bytes
  *     5     a column is of type DecFloat
- *     8     the row ends before a value does: *first is the number of bytes expected, *second how many there are
- *     9     `text` is too short: *first is the length needed, and a second call with such a buffer is accepted
- * It is fastest where text_len is at least 3 for each byte of the row and 258 for each column, so that any texts fit. */
-uint32_t vejupa_decode_row(const uint64_t *columns, size_t columns_len, const uint8_t *data, size_t data_len, uint64_t *values,
-                           size_t values_len, uint8_t *text, size_t text_len, uint64_t *first, uint64_t *second);
+ *     8     the row ends before a value does: row->expected and row->actual; vejupa_short_column tells which column
+ *     9     `text` is too short: row->text_length is the length needed, and a second call with such a buffer is accepted
+ * It is fastest where text_room is at least 3 for each byte of the row and 258 for each column, so that any texts fit. */
+static inline uint32_t vejupa_decode_row(const struct vejupa_column *columns, size_t column_count, const uint8_t *data, size_t data_len,
+                                         struct vejupa_value *values, size_t values_room, uint8_t *text, size_t text_room, struct vejupa_row *row) {
+    return vejupa_raw_decode_row((const uint64_t *)vejupa_given(columns), VEJUPA_COLUMN_WORDS * vejupa_at_most(column_count, VEJUPA_MAX_COLUMNS + 1),
+                                 (const uint8_t *)vejupa_given(data), data_len, (uint64_t *)vejupa_lent(values),
+                                 VEJUPA_VALUE_WORDS * vejupa_at_most(values_room, VEJUPA_MAX_COLUMNS), (uint8_t *)vejupa_lent(text), text_room, &row->used,
+                                 &row->text_length, &row->expected, &row->actual);
+}
 
-/* Bytes somewhere: a slice that a call hands out. */
-struct vejupa_bytes {
-    const uint8_t *start;
-    size_t length;
-};
+/* The bytes of a value: a part of `data` or of `text`, which are those of the call that gave the value. There are none for a number, a Boolean, Null, a sort
+ * that there is none of, and a place that does not fit. Nothing is copied.
+ *
+ * Where a value is external, its data come outside of the row, and its bytes only refer to them: a Clob's or Xml's text is "LOB locator 0x" and the reference
+ * in hexadecimal; a Blob's bytes are the reference's first four (all, where there are fewer, and for a LobBytes column). */
+static inline struct vejupa_bytes vejupa_value_bytes(const struct vejupa_value *value, const uint8_t *data, size_t data_len, const uint8_t *text,
+                                                     size_t text_len) {
+    struct vejupa_bytes bytes = {(const uint8_t *)vejupa_given(data), 0};
+    vejupa_raw_value_bytes(value->words, VEJUPA_VALUE_WORDS, bytes.start, data_len, (const uint8_t *)vejupa_given(text), text_len, &bytes);
+    return bytes;
+}
 
-/* The bytes of a value, in the row or in the text buffer. `value` points at its three words (values + 3 * k; words after
- * them are not looked at), `data` and `text` are those of the call that wrote them. For a text, Binary or Blob *bytes is then its part. It is
- * empty for any other value, for a sort that there is none of, for a place that does not fit, and where value_len is below 3. Nothing is refused
- * and nothing copied. *bytes is a slice before the call too: {data, 0} will do. */
-void vejupa_value_bytes(const uint64_t *value, size_t value_len, const uint8_t *data, size_t data_len, const uint8_t *text,
-                        size_t text_len, struct vejupa_bytes *bytes);
+/* The text of a character value, by its CCSID: 1208 is UTF-8, 819 ISO 8859-1, 37 and 500 code page 037; any other is ASCII where all bytes are below 80 in
+ * hexadecimal, else code page 037. What is malformed becomes U+FFFD. *text_length is the length of the text, written or with 9 needed, so that a call without
+ * a buffer measures; 3 data_len + 14 bytes are always enough, here and in the next three. Answers 0, 4 or 9. */
+static inline uint32_t vejupa_decode_character_bytes(const uint8_t *data, size_t data_len, uint16_t ccsid, uint8_t *text, size_t text_room,
+                                                     size_t *text_length) {
+    return vejupa_raw_decode_character_bytes((const uint8_t *)vejupa_given(data), data_len, ccsid, (uint8_t *)vejupa_lent(text), text_room, text_length);
+}
 
-/* The byte count of a type's values, where the type alone tells it: *fixed is 1 and *length the count, else both are 0. It is not what the
- * row call goes by. `type_word` is what vejupa_column_type_word gives: the low 24 bits of a column's first word. Answers 0 or 102. */
-uint32_t vejupa_fixed_length(uint64_t type_word, uint64_t *fixed, uint64_t *length);
+/* The text of a graphic value, by its CCSID: 1200 and 13488 are big-endian UTF-16 where the number of bytes is even; any other goes as characters. The
+ * length and answers as above. */
+static inline uint32_t vejupa_decode_graphic_bytes(const uint8_t *data, size_t data_len, uint16_t ccsid, uint8_t *text, size_t text_room, size_t *text_length) {
+    return vejupa_raw_decode_graphic_bytes((const uint8_t *)vejupa_given(data), data_len, ccsid, (uint8_t *)vejupa_lent(text), text_room, text_length);
+}
 
-/* The text of a character value, by its CCSID: 1208 is UTF-8, 819 ISO 8859-1, 37 and 500 code page 037; any other is ASCII
- * where all bytes are below 80 in hexadecimal, else code page 037. What is malformed becomes U+FFFD. *len is the number of bytes written,
- * with 9 the length needed; a buffer of 3 data_len + 14 bytes is always enough, here and in the next three. Answers 0, 4 or 9. */
-uint32_t vejupa_decode_character_bytes(const uint8_t *data, size_t data_len, uint16_t ccsid, uint8_t *text, size_t text_len,
-                                       uint64_t *len);
+/* The text "LOB locator 0x" and the bytes in upper-case hexadecimal. The length and answers as above. */
+static inline uint32_t vejupa_format_lob_locator(const uint8_t *bytes, size_t bytes_len, uint8_t *text, size_t text_room, size_t *text_length) {
+    return vejupa_raw_format_lob_locator((const uint8_t *)vejupa_given(bytes), bytes_len, (uint8_t *)vejupa_lent(text), text_room, text_length);
+}
 
-/* The text of a graphic value, by its CCSID: 1200 and 13488 are big-endian UTF-16 where the number of bytes is even; any other goes as
- * characters. *len and answers as above. */
-uint32_t vejupa_decode_graphic_bytes(const uint8_t *data, size_t data_len, uint16_t ccsid, uint8_t *text, size_t text_len,
-                                     uint64_t *len);
+/* The text "0x" and the bytes in upper-case hexadecimal. The length and answers as above. */
+static inline uint32_t vejupa_format_rowid(const uint8_t *bytes, size_t bytes_len, uint8_t *text, size_t text_room, size_t *text_length) {
+    return vejupa_raw_format_rowid((const uint8_t *)vejupa_given(bytes), bytes_len, (uint8_t *)vejupa_lent(text), text_room, text_length);
+}
 
-/* The text "LOB locator 0x" and the bytes in upper-case hexadecimal. *len and answers as above. */
-uint32_t vejupa_format_lob_locator(const uint8_t *bytes, size_t bytes_len, uint8_t *text, size_t text_len, uint64_t *len);
+/* The text of a packed decimal with so many digits behind the point. The precision has no part in it. No such text is longer than 258 bytes. A nibble
+ * above 9 in place of a digit gives one of the characters : ; < = > ?. The length as above. Answers 0, 6, 7 or 9. */
+static inline uint32_t vejupa_decode_packed_decimal(const uint8_t *data, size_t data_len, uint8_t precision, uint8_t scale, uint8_t *text, size_t text_room,
+                                                    size_t *text_length) {
+    return vejupa_raw_decode_packed_decimal((const uint8_t *)vejupa_given(data), data_len, precision, scale, (uint8_t *)vejupa_lent(text), text_room,
+                                            text_length);
+}
 
-/* The text "0x" and the bytes in upper-case hexadecimal. *len and answers as above. */
-uint32_t vejupa_format_rowid(const uint8_t *bytes, size_t bytes_len, uint8_t *text, size_t text_len, uint64_t *len);
+/* 1 where the bytes are well-formed UTF-8 without control characters save tab, line feed and carriage return; else 0. For bytes of any number. */
+static inline int vejupa_bytes_are_likely_text(const uint8_t *bytes, size_t bytes_len) {
+    return (int)vejupa_raw_bytes_are_likely_text((const uint8_t *)vejupa_given(bytes), bytes_len);
+}
 
-/* The text of a packed decimal with so many digits behind the point. The precision has no part in it. No such text is longer than 258 bytes.
- * *len as above. Answers 0, 6, 7 or 9. */
-uint32_t vejupa_decode_packed_decimal(const uint8_t *data, size_t data_len, uint8_t precision, uint8_t scale, uint8_t *text,
-                                      size_t text_len, uint64_t *len);
+/* The byte count of a column's values, where its type alone tells it: *fixed is 1 and *length the count, else both are 0. It is not what the row call goes by.
+ * Answers 0 or 102. */
+static inline uint32_t vejupa_fixed_length(const struct vejupa_column *column, uint32_t *fixed, size_t *length) {
+    return vejupa_raw_fixed_length(column->words[0] & 0xFFFFFF, fixed, length);
+}
 
-/* 1 where the bytes are well-formed UTF-8 without control characters save tab, line feed and carriage return; else 0. For bytes of any
- * number. */
-uint32_t vejupa_bytes_are_likely_text(const uint8_t *bytes, size_t bytes_len);
+/* An answer in words, for a message. */
+static inline const char *vejupa_refusal_name(uint32_t answer) {
+    switch (answer) {
+    case VEJUPA_ACCEPTED: return "accepted";
+    case VEJUPA_QRYDSC_TOO_LONG: return "the description has more than 65,536 bytes";
+    case VEJUPA_TOO_MANY_COLUMNS: return "the description has more than 128 columns";
+    case VEJUPA_COUNT_TOO_LARGE: return "more than 128 columns";
+    case VEJUPA_INPUT_TOO_LONG: return "more than 1,048,576 bytes";
+    case VEJUPA_DEC_FLOAT_COLUMN: return "a column of type DecFloat is not decoded";
+    case VEJUPA_DECIMAL_EMPTY: return "a packed decimal of no bytes";
+    case VEJUPA_DECIMAL_TOO_LONG: return "a packed decimal of more than 128 bytes";
+    case VEJUPA_BUFFER_TOO_SHORT: return "the row is too short";
+    case VEJUPA_TEXT_BUFFER_TOO_SHORT: return "the text buffer is too short";
+    case VEJUPA_TOO_FEW_WORDS: return "too little room for the columns or values";
+    case VEJUPA_NO_COLUMN: return "what stands for a column or a type is none";
+    default: return "no answer of this library";
+    }
+}
 
-/* What follows is no part of the library: fields taken out of words. `column` points at a column's two words (columns + 2 * k). */
+/* ---- Of columns. */
 
 /* One of enum vejupa_type. */
-static inline uint32_t vejupa_column_type(const uint64_t *column) { return (uint32_t)(column[0] & 0xFF); }
+static inline uint32_t vejupa_column_type(const struct vejupa_column *column) { return (uint32_t)(column->words[0] & 0xFF); }
 
-/* The numbers that the type itself holds. */
-static inline uint16_t vejupa_column_type_numbers(const uint64_t *column) { return (uint16_t)(column[0] >> 8 & 0xFFFF); }
+/* The numbers that the type itself holds: what the row call goes by. vejupa_parse_qrydsc makes them of length, precision and scale; in a caller's own list, and
+ * where the host's description contradicts itself, the two may differ. */
+static inline uint16_t vejupa_column_type_numbers(const struct vejupa_column *column) { return (uint16_t)(column->words[0] >> 8 & 0xFFFF); }
 
-/* What vejupa_fixed_length takes. */
-static inline uint64_t vejupa_column_type_word(const uint64_t *column) { return column[0] & 0xFFFFFF; }
+/* Precision and scale of a Decimal, out of its type's numbers; and those numbers from the two. */
+static inline uint8_t vejupa_decimal_precision(const struct vejupa_column *column) { return (uint8_t)(vejupa_column_type_numbers(column) & 0xFF); }
+static inline uint8_t vejupa_decimal_scale(const struct vejupa_column *column) { return (uint8_t)(vejupa_column_type_numbers(column) >> 8); }
+static inline uint16_t vejupa_decimal_numbers(uint8_t precision, uint8_t scale) { return (uint16_t)(precision | scale << 8); }
 
-static inline uint8_t vejupa_column_drda_type(const uint64_t *column) { return (uint8_t)(column[0] >> 24 & 0xFF); }
-
-static inline uint16_t vejupa_column_number(const uint64_t *column) { return (uint16_t)(column[0] >> 32 & 0xFFFF); }
-
-static inline int vejupa_column_nullable(const uint64_t *column) { return (int)(column[0] >> 48 & 1); }
-
-static inline int vejupa_column_little_endian(const uint64_t *column) { return (int)(column[0] >> 49 & 1); }
-
-static inline int vejupa_column_has_reference_length(const uint64_t *column) { return (int)(column[0] >> 50 & 1); }
-
-static inline uint16_t vejupa_column_length(const uint64_t *column) { return (uint16_t)(column[1] & 0xFFFF); }
-
-static inline uint8_t vejupa_column_precision(const uint64_t *column) { return (uint8_t)(column[1] >> 16 & 0xFF); }
-
-static inline uint8_t vejupa_column_scale(const uint64_t *column) { return (uint8_t)(column[1] >> 24 & 0xFF); }
-
-static inline uint16_t vejupa_column_ccsid(const uint64_t *column) { return (uint16_t)(column[1] >> 32 & 0xFFFF); }
+static inline uint8_t vejupa_column_drda_type(const struct vejupa_column *column) { return (uint8_t)(column->words[0] >> 24 & 0xFF); }
+static inline uint16_t vejupa_column_number(const struct vejupa_column *column) { return (uint16_t)(column->words[0] >> 32 & 0xFFFF); }
+static inline int vejupa_column_nullable(const struct vejupa_column *column) { return (int)(column->words[0] >> 48 & 1); }
+static inline int vejupa_column_little_endian(const struct vejupa_column *column) { return (int)(column->words[0] >> 49 & 1); }
+static inline int vejupa_column_has_reference_length(const struct vejupa_column *column) { return (int)(column->words[0] >> 50 & 1); }
+static inline uint16_t vejupa_column_ccsid(const struct vejupa_column *column) { return (uint16_t)(column->words[1] >> 32 & 0xFFFF); }
 
 /* 0 where there is none; 0 is a width as well. */
-static inline uint16_t vejupa_column_reference_length(const uint64_t *column) { return (uint16_t)(column[1] >> 48 & 0xFFFF); }
+static inline uint16_t vejupa_column_reference_length(const struct vejupa_column *column) { return (uint16_t)(column->words[1] >> 48 & 0xFFFF); }
 
-/* The two words of a caller's own column, without a reference length: its type and the type's own numbers (length, or precision + 256 * scale),
- * whether it is nullable and little-endian, its length and its CCSID. Column number, DRDA type code, precision and scale are 0: the row call does
- * not look at them. */
-static inline void vejupa_make_column(uint64_t *column, enum vejupa_type type, uint16_t type_numbers, int nullable, int little_endian,
-                                      uint16_t length, uint16_t ccsid) {
-    column[0] = (uint64_t)type | (uint64_t)type_numbers << 8 | (uint64_t)(nullable != 0) << 48 | (uint64_t)(little_endian != 0) << 49;
-    column[1] = (uint64_t)length | (uint64_t)ccsid << 32;
+/* Length (bit 8000 included), precision and scale as the description says them: to show, and not what the row call goes by, save for the lengths named there. A
+ * field that a description lacks is 0. */
+static inline uint16_t vejupa_column_length(const struct vejupa_column *column) { return (uint16_t)(column->words[1] & 0xFFFF); }
+static inline uint8_t vejupa_column_precision(const struct vejupa_column *column) { return (uint8_t)(column->words[1] >> 16 & 0xFF); }
+static inline uint8_t vejupa_column_scale(const struct vejupa_column *column) { return (uint8_t)(column->words[1] >> 24 & 0xFF); }
+
+/* A caller's own column, without a reference length: its type and the type's own numbers (a length, vejupa_decimal_numbers, or 0), whether it is nullable and
+ * little-endian, its length and its CCSID. Column number, DRDA type code, precision and scale are 0: the row call does not look at them. */
+static inline struct vejupa_column vejupa_make_column(enum vejupa_type type, uint16_t type_numbers, int nullable, int little_endian, uint16_t length,
+                                                      uint16_t ccsid) {
+    struct vejupa_column column;
+    column.words[0] = (uint64_t)type | (uint64_t)type_numbers << 8 | (uint64_t)(nullable != 0) << 48 | (uint64_t)(little_endian != 0) << 49;
+    column.words[1] = (uint64_t)length | (uint64_t)ccsid << 32;
+    return column;
 }
 
 /* Gives it a reference length: of a Blob, Clob, DbClob or Xml whose value is a reference of so many bytes. */
-static inline void vejupa_set_reference_length(uint64_t *column, uint16_t length) {
-    column[0] |= UINT64_C(1) << 50;
-    column[1] = (column[1] & ~(UINT64_C(0xFFFF) << 48)) | (uint64_t)length << 48;
+static inline void vejupa_set_reference_length(struct vejupa_column *column, uint16_t length) {
+    column->words[0] |= UINT64_C(1) << 50;
+    column->words[1] = (column->words[1] & ~(UINT64_C(0xFFFF) << 48)) | (uint64_t)length << 48;
 }
 
-/* Of values. `value` points at a value's three words (values + 3 * k). */
+/* Whether the words are a column's; where a row call answers 102, some column's are not. */
+static inline int vejupa_is_column(const struct vejupa_column *column) {
+    struct vejupa_value value;
+    struct vejupa_row row;
+    return vejupa_decode_row(column, 1, NULL, 0, &value, 1, NULL, 0, &row) != VEJUPA_NO_COLUMN;
+}
+
+/* Where the row call answers 8: which column it is whose value, or indicator, is not there. Found by calls with fewer columns; `values` is written. */
+static inline size_t vejupa_short_column(const struct vejupa_column *columns, size_t column_count, const uint8_t *data, size_t data_len,
+                                         struct vejupa_value *values, size_t values_room) {
+    size_t fit = 0, lacking = column_count; /* the first `fit` columns are there, the first `lacking` are not */
+    struct vejupa_row row;
+    while (fit + 1 < lacking) {
+        size_t half = fit + (lacking - fit) / 2;
+        if (vejupa_decode_row(columns, half, data, data_len, values, values_room, NULL, 0, &row) == VEJUPA_BUFFER_TOO_SHORT) {
+            lacking = half;
+        } else {
+            fit = half;
+        }
+    }
+    return fit;
+}
+
+/* ---- Of values. */
 
 /* One of enum vejupa_sort. */
-static inline uint32_t vejupa_value_sort(const uint64_t *value) { return (uint32_t)(value[0] & 0xFF); }
+static inline uint32_t vejupa_value_sort(const struct vejupa_value *value) { return (uint32_t)(value->words[0] & 0xFF); }
 
-static inline int vejupa_value_is_external(const uint64_t *value) { return (int)(value[0] >> 8 & 1); }
+static inline int vejupa_value_is_null(const struct vejupa_value *value) { return vejupa_value_sort(value) == VEJUPA_SORT_NULL; }
+
+/* Whether the value refers to data that come outside of the row. */
+static inline int vejupa_value_is_external(const struct vejupa_value *value) { return (int)(value->words[0] >> 8 & 1); }
 
 /* Of a SmallInt, Integer, BigInt or Boolean. */
-static inline int64_t vejupa_value_integer(const uint64_t *value) {
+static inline int64_t vejupa_value_integer(const struct vejupa_value *value) {
     int64_t n;
-    memcpy(&n, &value[1], sizeof n);
+    memcpy(&n, &value->words[1], sizeof n);
     return n;
 }
 
 /* Of a Real or RealNan, where float is IEEE 754's of 32 bits. */
-static inline float vejupa_value_real(const uint64_t *value) {
-    uint32_t bits = (uint32_t)(value[1] & 0xFFFFFFFF);
+static inline float vejupa_value_real(const struct vejupa_value *value) {
+    uint32_t bits = (uint32_t)(value->words[1] & 0xFFFFFFFF);
     float x;
     memcpy(&x, &bits, sizeof x);
     return x;
 }
 
 /* Of a Double or DoubleNan, where double is IEEE 754's of 64 bits. */
-static inline double vejupa_value_double(const uint64_t *value) {
+static inline double vejupa_value_double(const struct vejupa_value *value) {
     double x;
-    memcpy(&x, &value[1], sizeof x);
+    memcpy(&x, &value->words[1], sizeof x);
     return x;
 }
 
 /* Whether the value is a text: Decimal, Char, VarChar, Clob, RowId, Date, Time, Timestamp or Xml. */
-static inline int vejupa_value_is_text(const uint64_t *value) {
+static inline int vejupa_value_is_text(const struct vejupa_value *value) {
     uint32_t sort = vejupa_value_sort(value);
-    return (VEJUPA_DECIMAL <= sort && sort <= VEJUPA_VAR_CHAR) || (VEJUPA_CLOB <= sort && sort <= VEJUPA_TIMESTAMP) ||
-           sort == VEJUPA_XML;
+    return (VEJUPA_SORT_DECIMAL <= sort && sort <= VEJUPA_SORT_VAR_CHAR) || (VEJUPA_SORT_CLOB <= sort && sort <= VEJUPA_SORT_TIMESTAMP) ||
+           sort == VEJUPA_SORT_XML;
 }
 
 #ifdef __cplusplus

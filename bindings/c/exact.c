@@ -41,69 +41,71 @@ static struct slice bytes_of(const char *field) {
     return s;
 }
 
-/* The sum of what was read. */
+/* The sum of what was read, so that nothing is left out. */
 static unsigned long touched;
 
 /* Reads the bytes of every value. */
-static void touch(const uint64_t *values, size_t count, struct slice data, const uint8_t *text, size_t text_len) {
+static void touch(const struct vejupa_value *values, size_t count, struct slice data, const uint8_t *text, size_t text_len) {
     for (size_t k = 0; k < count; k++) {
-        struct vejupa_bytes bytes = {data.start, 0};
-        vejupa_value_bytes(values + VEJUPA_VALUE_WORDS * k, VEJUPA_VALUE_WORDS, data.start, data.length, text, text_len, &bytes);
+        struct vejupa_bytes bytes = vejupa_value_bytes(&values[k], data.start, data.length, text, text_len);
         for (size_t i = 0; i < bytes.length; i++) {
             touched += bytes.start[i];
         }
     }
 }
 
-static void row(const uint64_t *columns, size_t count, struct slice data) {
+static void row(const struct vejupa_column *columns, size_t count, struct slice data) {
     size_t lengths[2] = {0, 0}; /* first no text buffer, then one just long enough */
     for (int turn = 0; turn < 2; turn++) {
-        uint64_t *values = exactly(VEJUPA_VALUE_WORDS * count * sizeof *values);
+        struct vejupa_value *values = exactly(count * sizeof *values);
         uint8_t *text = exactly(lengths[turn]);
-        uint64_t first, second;
-        uint32_t answer = vejupa_decode_row(columns, VEJUPA_COLUMN_WORDS * count, data.start, data.length, values,
-                                            VEJUPA_VALUE_WORDS * count, text, lengths[turn], &first, &second);
-        if (answer == VEJUPA_ACCEPTED) {
+        struct vejupa_row answer;
+        uint32_t refusal = vejupa_decode_row(columns, count, data.start, data.length, values, count, text, lengths[turn], &answer);
+        if (refusal == VEJUPA_ACCEPTED) {
             touch(values, count, data, text, lengths[turn]);
         }
-        lengths[1] = answer == VEJUPA_TEXT_BUFFER_TOO_SHORT ? (size_t)first : 0;
+        if (refusal == VEJUPA_BUFFER_TOO_SHORT) {
+            touched += vejupa_short_column(columns, count, data.start, data.length, values, count);
+        }
+        lengths[1] = refusal == VEJUPA_TEXT_BUFFER_TOO_SHORT ? answer.text_length : 0;
         free(text);
         free(values);
     }
 }
 
 static void description(struct slice data, struct slice row_data) {
-    uint64_t count, *words = exactly(0);
-    uint32_t answer = vejupa_parse_qrydsc(data.start, data.length, words, 0, &count);
-    if (answer == VEJUPA_TOO_FEW_WORDS) {
-        free(words);
-        words = exactly(VEJUPA_COLUMN_WORDS * (size_t)count * sizeof *words);
-        answer = vejupa_parse_qrydsc(data.start, data.length, words, VEJUPA_COLUMN_WORDS * (size_t)count, &count);
+    struct vejupa_column *columns = exactly(0);
+    size_t count;
+    uint32_t refusal = vejupa_parse_qrydsc(data.start, data.length, columns, 0, &count);
+    if (refusal == VEJUPA_TOO_FEW_WORDS) {
+        free(columns);
+        columns = exactly(count * sizeof *columns);
+        refusal = vejupa_parse_qrydsc(data.start, data.length, columns, count, &count);
     }
-    if (answer == VEJUPA_ACCEPTED) {
-        row(words, (size_t)count, row_data);
+    if (refusal == VEJUPA_ACCEPTED) {
+        row(columns, count, row_data);
     }
-    free(words);
+    free(columns);
 }
 
-static uint32_t convert(char kind, unsigned number, struct slice data, uint8_t *text, size_t text_len, uint64_t *len) {
+static uint32_t convert(char kind, unsigned number, struct slice data, uint8_t *text, size_t text_room, size_t *text_length) {
     if (kind == 'T') {
-        return vejupa_decode_character_bytes(data.start, data.length, (uint16_t)number, text, text_len, len);
+        return vejupa_decode_character_bytes(data.start, data.length, (uint16_t)number, text, text_room, text_length);
     }
     if (kind == 'G') {
-        return vejupa_decode_graphic_bytes(data.start, data.length, (uint16_t)number, text, text_len, len);
+        return vejupa_decode_graphic_bytes(data.start, data.length, (uint16_t)number, text, text_room, text_length);
     }
-    return vejupa_decode_packed_decimal(data.start, data.length, 31, (uint8_t)number, text, text_len, len);
+    return vejupa_decode_packed_decimal(data.start, data.length, 31, (uint8_t)number, text, text_room, text_length);
 }
 
 static void text_of(char kind, unsigned number, struct slice data) {
-    uint64_t len;
+    size_t length;
     uint8_t *text = exactly(0);
-    uint32_t answer = convert(kind, number, data, text, 0, &len);
+    uint32_t refusal = convert(kind, number, data, text, 0, &length);
     free(text);
-    if (answer == VEJUPA_TEXT_BUFFER_TOO_SHORT) {
-        text = exactly((size_t)len);
-        convert(kind, number, data, text, (size_t)len, &len);
+    if (refusal == VEJUPA_TEXT_BUFFER_TOO_SHORT) {
+        text = exactly(length);
+        convert(kind, number, data, text, length, &length);
         free(text);
     }
 }

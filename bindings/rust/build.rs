@@ -1,20 +1,60 @@
-//! Says where the archive libexported.a is: in the folder that VEJUPA_LIB names (absolute, or seen from this crate's folder), else where
-//! `rt staticlib exported` writes it, in target/staticlib at the repository's root.
+//! Says where the archive libvejupa.a is: in the folder that VEJUPA_LIB names (absolute, or seen from this crate's folder), else where
+//! `rt staticlib vejupa` writes it, in target/staticlib at the repository's root.
+//!
+//! An archive that is missing or out of date is a warning and no error, so that `cargo check` and `cargo doc` do without it. A program
+//! cannot be linked without it.
 use std::env;
-use std::path::PathBuf;
+use std::fs;
+use std::path::{Path, PathBuf};
+use std::time::SystemTime;
+
+const COMMAND: &str = "run `rt staticlib vejupa` at the repository's root";
 
 fn main() {
     println!("cargo:rerun-if-env-changed=VEJUPA_LIB");
     let here = PathBuf::from(env::var_os("CARGO_MANIFEST_DIR").expect("cargo sets it"));
     let lib = env::var_os("VEJUPA_LIB").unwrap_or_else(|| "../../target/staticlib".into());
     let folder = here.join(lib);
-    let archive = folder.join("libexported.a");
+    let archive = folder.join("libvejupa.a");
     println!("cargo:rerun-if-changed={}", archive.display());
-    assert!(
-        archive.is_file(),
-        "{} is missing: run `rt staticlib exported` at the repository's root, or set VEJUPA_LIB",
-        archive.display()
-    );
     println!("cargo:rustc-link-search=native={}", folder.display());
-    println!("cargo:rustc-link-lib=static=exported");
+    println!("cargo:rustc-link-lib=static=vejupa");
+
+    let newest = sources(&here.join("../.."))
+        .into_iter()
+        .max_by_key(|file| changed(file));
+    let archive_name = archive.display();
+    let Some(made) = changed(&archive) else {
+        return println!("cargo:warning={archive_name} is missing, nothing can be linked: {COMMAND}, or set VEJUPA_LIB to its folder");
+    };
+    let Some(newest) = newest.filter(|file| changed(file) > Some(made)) else {
+        return;
+    };
+    let newest = newest.display();
+    println!("cargo:warning={archive_name} is older than {newest}: {COMMAND}");
+}
+
+/// What the archive is made from, where it lies beside this crate: crates.txt, and the sources of each crate. cargo is told to look at them
+/// again, by folder, so that a new file counts as well.
+fn sources(root: &Path) -> Vec<PathBuf> {
+    let Ok(crates) = fs::read_dir(root.join("crates")) else {
+        return Vec::new();
+    };
+    let list = root.join("crates.txt");
+    println!("cargo:rerun-if-changed={}", list.display());
+    let mut sources = vec![list];
+    for folder in crates.flatten().map(|entry| entry.path().join("src")) {
+        let Ok(files) = fs::read_dir(&folder) else {
+            continue;
+        };
+        println!("cargo:rerun-if-changed={}", folder.display());
+        let files = files.flatten().map(|entry| entry.path());
+        sources.extend(files.filter(|file| file.extension().is_some_and(|name| name == "rt")));
+    }
+    sources
+}
+
+/// When a file was last changed; None where there is no such file.
+fn changed(file: &Path) -> Option<SystemTime> {
+    fs::metadata(file).ok()?.modified().ok()
 }

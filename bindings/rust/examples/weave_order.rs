@@ -1,7 +1,8 @@
-//! A weave order, from a host's bytes to a table: the same as examples/weave_order.c at the repository's root, which says what the bytes are, and
-//! with the same output.
-use vejupa::{decode_row_into, Buffers, Columns, Refusal, Value};
+//! Weave orders, from a host's bytes to a table: the same as examples/weave_order.c at the repository's root, which says what the bytes
+//! are, and with the same output.
+use vejupa::{decode_row_into, Buffers, Columns, Refusal, Row, Rows, Value};
 
+/// What the host sends once: the description.
 const DESCRIPTION: &[u8] = &[
     0x03, 0x78, 0x31, // 40 stands for a Char that may be null, with CCSID 37
     0x08, 0x70, 0x40, 0x00, 0x00, 0x00, 0x00, 0x25, //
@@ -17,16 +18,16 @@ const DESCRIPTION: &[u8] = &[
     0xCA, 0x80, 0x04, // the drawing, sent apart
 ];
 
-const FIRST: &[u8] = b"\x00\x01\x13\x0C\x00\xD2\xC1\xE2\xC2\xC1\xC8\x60\xF4\x00\x01\x25\x0C\x00\x00\x06\x40\x35\x80\x00\x00\x00\x00\x00\
-2026-03-02\x00\x00\x0Ccr\xC3\xA8me field\x00\x03\x1A\x2B\x3C\x00\x00\x01\x07";
-
-const SECOND: &[u8] =
-    b"\xFF\x00\x00\x01\x13\x0D\xFF\x00\x00\x07\x5D\xFF\x7F\xF8\x00\x00\x00\x00\x00\x00\
-2026-03-09\xFF\x00\x00\x00\x00\x00\x00";
+/// And then a block: two rows, each with FF 00 before it, and the end of the query, which is no row.
+const BLOCK: &[u8] = b"\xFF\x00\x00\x01\x13\x0C\x00\xD2\xC1\xE2\xC2\xC1\xC8\x60\xF4\x00\x01\x25\x0C\x00\x00\x06\
+\x40\x35\x80\x00\x00\x00\x00\x002026-03-02\x00\x00\x0Ccr\xC3\xA8me field\x00\x03\x1A\x2B\x3C\x00\x00\x01\x07\
+\xFF\x00\x00\x01\x13\x0D\xFF\x00\x00\x07\x5D\xFF\x7F\xF8\x00\x00\x00\x00\x00\x002026-03-09\xFF\x00\x00\x00\x00\x00\x00\
+\x00\x00\x00\x00\x6402000CSS10140\x00\x00\x00\x00\x00\x00\x00\x00\x00\x00\x00\x00\x02\x00\x00\x00\x00\
+\x00\x00\x00\x00\x00\x00\x00\x00\x20\x20\x20\x20\x20\x20\x20\x20\x20\x20\x20\x00\x00\x00\x00\x00\x00\xFF\xFF";
 
 fn print_columns(columns: &Columns) {
     println!("{} columns", columns.len());
-    for column in columns.iter() {
+    for column in columns {
         let null = if column.nullable { " or null" } else { "" };
         print!("{} {}{null}", column.column_index, column.db2_type);
         match column.ccsid {
@@ -44,38 +45,50 @@ fn shown(value: Value) -> String {
     }
 }
 
-fn print_row(columns: &Columns, bytes: &[u8], buffers: &mut Buffers) {
-    let row = match decode_row_into(bytes, columns, buffers) {
+fn print_row(row: Result<Row, Refusal>) {
+    let row = match row {
         Ok(row) => row,
-        Err(Refusal::BufferTooShort { expected, actual }) => {
-            return println!("refusal 8, {expected}, {actual}");
+        Err(Refusal::BufferTooShort {
+            column,
+            expected,
+            actual,
+        }) => {
+            return println!(
+                "refusal 8 at column {column}: {expected} bytes expected, {actual} there"
+            )
         }
         Err(refusal) => return println!("{refusal}"),
     };
-    println!(
-        "{} bytes used, {} bytes of text",
-        row.used(),
-        row.text().len()
-    );
+    let (used, text) = (row.used(), row.text().len());
+    println!("{used} bytes used, {text} bytes of text");
     for (k, value) in row.values().enumerate() {
-        let apart = if row.is_external(k) {
-            ", sent apart"
-        } else {
-            ""
+        let apart = match row.is_external(k) {
+            true => ", sent apart",
+            false => "",
         };
         println!("{k} {}{apart}", shown(value));
     }
 }
 
+/// The rows of a block. The host sends FF 00 before each: a group that begins otherwise is no row. The rows end by themselves at one that
+/// is refused or uses no byte.
+fn print_rows(columns: &Columns) {
+    let mut rows = Rows::new(BLOCK, columns);
+    let mut at = 0;
+    while rows.rest().starts_with(&[0xFF]) {
+        let Some(row) = rows.next_row() else { break };
+        print!("\nthe row at {at}: ");
+        print_row(row);
+        at = BLOCK.len() - rows.rest().len();
+    }
+    println!("\n{} bytes are left, from {at} on", rows.rest().len());
+}
+
 fn main() -> Result<(), Refusal> {
     let columns = Columns::parse(DESCRIPTION)?;
     print_columns(&columns);
-    let mut buffers = Buffers::new();
-    print!("\nthe first order: ");
-    print_row(&columns, FIRST, &mut buffers);
-    print!("\nthe second order: ");
-    print_row(&columns, SECOND, &mut buffers);
-    print!("\nthe first order, cut off: ");
-    print_row(&columns, &FIRST[..20], &mut buffers);
+    print_rows(&columns);
+    print!("\nthe first row, cut off: ");
+    print_row(decode_row_into(&BLOCK[..22], &columns, &mut Buffers::new()));
     Ok(())
 }

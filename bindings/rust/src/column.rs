@@ -1,28 +1,48 @@
 //! Columns, one by one and as the list of words that the row call takes.
 use crate::raw::{self, ACCEPTED, COLUMN_WORDS};
 use crate::{ByteOrder, Db2Type, Refusal, MAX_COLUMNS};
+use std::fmt;
+use std::iter::FusedIterator;
+use std::ops::Range;
+use std::slice::ChunksExact;
 
-/// What a description says of a column. The row call goes by the type and the numbers that it holds; of the other fields it looks at
-/// `nullable`, `ccsid`, `byte_order`, `reference_length`, and for some types at `length`.
+/// What a description says of a column.
+///
+/// `length`, `precision` and `scale` are as the host describes them. What the row call goes by are the numbers that the type itself
+/// holds, such as a Decimal's precision and scale or a Char's length; in a list of one's own they may differ from these fields. Of the
+/// fields it looks at `nullable`, `ccsid`, `byte_order` and `reference_length`, and for Timestamp, Boolean, Blob, Clob and DbClob at
+/// `length`.
+///
+/// ```
+/// use vejupa::{decode_row, Column, Db2Type, Value};
+/// let columns = [
+///     Column::new(Db2Type::Integer),
+///     Column::new(Db2Type::Char(3)).with_ccsid(37).with_nullable(true),
+/// ];
+/// let row = decode_row(&[0x00, 0x00, 0x00, 0x07, 0x00, 0xC1, 0xC2, 0xC3], &columns)?;
+/// assert_eq!(row.values, [Value::Integer(7), Value::Char("ABC")]);
+/// # Ok::<(), vejupa::Refusal>(())
+/// ```
 #[derive(Debug, Clone, Copy, PartialEq, Eq, Hash)]
+#[non_exhaustive]
 pub struct Column {
     /// The column's number, from 0. Nothing goes by it.
     pub column_index: u8,
-    /// The type.
+    /// The type, with the numbers that the row call goes by.
     pub db2_type: Db2Type,
-    /// The DRDA type code that the type was made from.
+    /// The DRDA type code that the type was made from. Nothing goes by it.
     pub drda_type: u8,
-    /// The length as described, flags included.
+    /// The length as described, flags included. The row call goes by it for Timestamp, Boolean, Blob, Clob and DbClob alone.
     pub length: u16,
-    /// The precision as described.
+    /// The precision as described. Nothing goes by it.
     pub precision: u8,
-    /// The scale as described.
+    /// The scale as described. Nothing goes by it.
     pub scale: u8,
     /// Whether an indicator byte stands before each value.
     pub nullable: bool,
     /// The code page of texts.
     pub ccsid: u16,
-    /// The width of a reference to data outside of the row, where the description declares one.
+    /// The width of a reference to data outside of the row, where the description declares one. 0 is a width too.
     pub reference_length: Option<u16>,
     /// The order of a number's bytes.
     pub byte_order: ByteOrder,
@@ -30,7 +50,8 @@ pub struct Column {
 
 impl Column {
     /// A column of a type and nothing else: not null, big-endian, CCSID 0, no reference, every other number 0.
-    pub fn new(db2_type: Db2Type) -> Column {
+    #[must_use]
+    pub const fn new(db2_type: Db2Type) -> Column {
         Column {
             column_index: 0,
             db2_type,
@@ -42,6 +63,39 @@ impl Column {
             ccsid: 0,
             reference_length: None,
             byte_order: ByteOrder::BigEndian,
+        }
+    }
+
+    /// The column, nullable or not.
+    #[must_use]
+    pub const fn with_nullable(self, nullable: bool) -> Column {
+        Column { nullable, ..self }
+    }
+
+    /// The column with this code page.
+    #[must_use]
+    pub const fn with_ccsid(self, ccsid: u16) -> Column {
+        Column { ccsid, ..self }
+    }
+
+    /// The column with this length. That of most types is in the type itself; see [`Column`].
+    #[must_use]
+    pub const fn with_length(self, length: u16) -> Column {
+        Column { length, ..self }
+    }
+
+    /// The column with this order of its numbers' bytes.
+    #[must_use]
+    pub const fn with_byte_order(self, byte_order: ByteOrder) -> Column {
+        Column { byte_order, ..self }
+    }
+
+    /// The column, whose values are references of so many bytes to data outside of the row. It is for Blob, Clob, DbClob and Xml.
+    #[must_use]
+    pub const fn with_reference_length(self, length: u16) -> Column {
+        Column {
+            reference_length: Some(length),
+            ..self
         }
     }
 
@@ -85,6 +139,9 @@ impl Column {
 
 /// The columns that a description (QRYDSC) lists, in order.
 ///
+/// A description that is damaged or cut off is not refused: what comes out are the columns before the damage. How many a query has, its
+/// caller may know otherwise.
+///
 /// # Errors
 /// [`Refusal::QrydscTooLong`] and [`Refusal::TooManyColumns`].
 ///
@@ -93,6 +150,9 @@ impl Column {
 /// let columns = parse_qrydsc(&[0x05, 0x70, 0x02, 0x00, 0x04])?;
 /// assert_eq!(columns.len(), 1);
 /// assert_eq!(columns[0].db2_type, Db2Type::Integer);
+///
+/// let cut_off = parse_qrydsc(&[0x05, 0x70, 0x02, 0x00, 0x04, 0x05, 0x70, 0x02])?;
+/// assert_eq!(cut_off.len(), 1);
 /// # Ok::<(), vejupa::Refusal>(())
 /// ```
 pub fn parse_qrydsc(data: &[u8]) -> Result<Vec<Column>, Refusal> {
@@ -104,20 +164,22 @@ pub fn parse_qrydsc(data: &[u8]) -> Result<Vec<Column>, Refusal> {
 /// ```
 /// use vejupa::{Column, Columns, Db2Type};
 /// let columns = Columns::parse(&[0x05, 0x70, 0x02, 0x00, 0x04])?;
-/// assert_eq!(columns.get(0).unwrap().db2_type, Db2Type::Integer);
+/// for column in &columns {
+///     assert_eq!(column.db2_type, Db2Type::Integer);
+/// }
 ///
 /// // A list of one's own.
 /// let own: Columns = [Column::new(Db2Type::SmallInt), Column::new(Db2Type::Date)].into_iter().collect();
 /// assert_eq!(own.len(), 2);
 /// # Ok::<(), vejupa::Refusal>(())
 /// ```
-#[derive(Debug, Clone, PartialEq, Eq, Hash, Default)]
+#[derive(Clone, PartialEq, Eq, Hash, Default)]
 pub struct Columns {
     words: Vec<u64>,
 }
 
 impl Columns {
-    /// The columns that a description (QRYDSC) lists.
+    /// The columns that a description (QRYDSC) lists. One that is damaged or cut off gives the columns before the damage.
     ///
     /// # Errors
     /// As [`parse_qrydsc`].
@@ -125,10 +187,10 @@ impl Columns {
         let mut words = [0; COLUMN_WORDS * MAX_COLUMNS];
         let answer = raw::parse_qrydsc(data, &mut words);
         if answer.number != ACCEPTED {
-            return Err(Refusal::from_answer(answer.number, 0, 0));
+            return Err(Refusal::from_number(answer.number));
         }
         Ok(Columns {
-            words: words[..COLUMN_WORDS * answer.count as usize].to_vec(),
+            words: words[..COLUMN_WORDS * answer.count].to_vec(),
         })
     }
 
@@ -144,23 +206,32 @@ impl Columns {
 
     /// Column k, from 0.
     pub fn get(&self, k: usize) -> Option<Column> {
-        (k < self.len()).then(|| self.column(k))
+        (k < self.len()).then(|| column(&self.words[COLUMN_WORDS * k..]))
     }
 
     /// The columns in order.
-    pub fn iter(&self) -> impl ExactSizeIterator<Item = Column> + '_ {
-        (0..self.len()).map(|k| self.column(k))
+    pub fn iter(&self) -> ColumnsIter<'_> {
+        ColumnsIter {
+            words: self.words.chunks_exact(COLUMN_WORDS),
+        }
     }
 
     /// The words, two a column, as [`raw::decode_row`] takes them.
     pub fn words(&self) -> &[u64] {
         &self.words
     }
+}
 
-    fn column(&self, k: usize) -> Column {
-        let at = COLUMN_WORDS * k;
-        Column::from_words([self.words[at], self.words[at + 1]])
-            .expect("the words came from columns, or from a description")
+// The column that these words begin with.
+fn column(words: &[u64]) -> Column {
+    Column::from_words([words[0], words[1]])
+        .expect("the words came from columns, or from a description")
+}
+
+/// A list of the columns.
+impl fmt::Debug for Columns {
+    fn fmt(&self, f: &mut fmt::Formatter<'_>) -> fmt::Result {
+        f.debug_list().entries(self).finish()
     }
 }
 
@@ -175,5 +246,105 @@ impl FromIterator<Column> for Columns {
         Columns {
             words: columns.into_iter().flat_map(|c| c.words()).collect(),
         }
+    }
+}
+
+impl<'a> IntoIterator for &'a Columns {
+    type Item = Column;
+    type IntoIter = ColumnsIter<'a>;
+
+    fn into_iter(self) -> ColumnsIter<'a> {
+        self.iter()
+    }
+}
+
+impl IntoIterator for Columns {
+    type Item = Column;
+    type IntoIter = ColumnsIntoIter;
+
+    fn into_iter(self) -> ColumnsIntoIter {
+        ColumnsIntoIter {
+            left: 0..self.len(),
+            columns: self,
+        }
+    }
+}
+
+/// The columns of a borrowed list, in order.
+#[derive(Clone)]
+pub struct ColumnsIter<'a> {
+    words: ChunksExact<'a, u64>,
+}
+
+impl Iterator for ColumnsIter<'_> {
+    type Item = Column;
+
+    fn next(&mut self) -> Option<Column> {
+        self.words.next().map(column)
+    }
+
+    fn nth(&mut self, n: usize) -> Option<Column> {
+        self.words.nth(n).map(column)
+    }
+
+    fn size_hint(&self) -> (usize, Option<usize>) {
+        self.words.size_hint()
+    }
+}
+
+impl DoubleEndedIterator for ColumnsIter<'_> {
+    fn next_back(&mut self) -> Option<Column> {
+        self.words.next_back().map(column)
+    }
+}
+
+impl ExactSizeIterator for ColumnsIter<'_> {}
+
+impl FusedIterator for ColumnsIter<'_> {}
+
+/// A list of the columns that are left.
+impl fmt::Debug for ColumnsIter<'_> {
+    fn fmt(&self, f: &mut fmt::Formatter<'_>) -> fmt::Result {
+        f.debug_list().entries(self.clone()).finish()
+    }
+}
+
+/// The columns of a list, in order.
+#[derive(Clone)]
+pub struct ColumnsIntoIter {
+    columns: Columns,
+    left: Range<usize>,
+}
+
+impl Iterator for ColumnsIntoIter {
+    type Item = Column;
+
+    fn next(&mut self) -> Option<Column> {
+        self.columns.get(self.left.next()?)
+    }
+
+    fn nth(&mut self, n: usize) -> Option<Column> {
+        self.columns.get(self.left.nth(n)?)
+    }
+
+    fn size_hint(&self) -> (usize, Option<usize>) {
+        self.left.size_hint()
+    }
+}
+
+impl DoubleEndedIterator for ColumnsIntoIter {
+    fn next_back(&mut self) -> Option<Column> {
+        self.columns.get(self.left.next_back()?)
+    }
+}
+
+impl ExactSizeIterator for ColumnsIntoIter {}
+
+impl FusedIterator for ColumnsIntoIter {}
+
+/// A list of the columns that are left.
+impl fmt::Debug for ColumnsIntoIter {
+    fn fmt(&self, f: &mut fmt::Formatter<'_>) -> fmt::Result {
+        f.debug_list().entries(self.clone()).finish()
     }
 }

@@ -1,6 +1,6 @@
-//! Decodes rows that a Db2 host sends (DRDA, FD:OCA), by a library in which every function is proved to meet its contract. This crate calls that
-//! library with ordinary Rust types and adds no rule of its own: whatever the bytes, a call answers or refuses, and never reads or writes
-//! elsewhere.
+//! Decodes rows that a Db2 host sends (DRDA, FD:OCA), by a library in which every function is proved to meet its contract. This crate
+//! calls that library with ordinary Rust types and adds no rule of its own: whatever the bytes, a call answers or refuses, and never
+//! reads or writes elsewhere.
 //!
 //! ```
 //! use vejupa::{decode_row_into, Buffers, Columns, Value};
@@ -17,26 +17,38 @@
 //! # Ok::<(), vejupa::Refusal>(())
 //! ```
 //!
-//! [`parse_qrydsc`] and [`decode_row`] are the same in a shorter form, which allocates for each row. [`decode_character_bytes`] and the like
-//! convert single texts. [`raw`] has the calls on plain words and lent slices.
+//! [`parse_qrydsc`] and [`decode_row`] are the same in a shorter form, with owned values, which allocates for each row. [`Rows`] goes
+//! through rows that lie one after the other. [`decode_character_bytes`] and the like convert single texts. [`raw`] has the calls on
+//! plain words and lent slices.
 //!
 //! # The archive
 //!
-//! The crate links `libexported.a`, which `rt staticlib exported` writes into `target/staticlib` at the repository's root. The environment
-//! variable `VEJUPA_LIB` names another folder with the archive, absolute or seen from this crate's folder.
-#![warn(missing_docs)]
+//! The crate links `libvejupa.a`, which `rt staticlib vejupa` writes into `target/staticlib` at the repository's root. The environment
+//! variable `VEJUPA_LIB` names another folder with the archive, absolute or seen from this crate's folder. Without the archive, the crate
+//! can be checked and documented, but no program can be linked; nor can one with an archive of another version.
+#![deny(missing_docs)]
+#![deny(unsafe_code)]
+
+// The Rust of README.md is run as a test.
+#[cfg(doctest)]
+#[doc = include_str!("../../../README.md")]
+mod readme {}
 
 mod column;
+#[allow(unsafe_code)]
 pub mod raw;
 mod refusal;
 mod row;
+mod rows;
+mod show;
 mod text;
 mod types;
 mod value;
 
-pub use column::{parse_qrydsc, Column, Columns};
+pub use column::{parse_qrydsc, Column, Columns, ColumnsIntoIter, ColumnsIter};
 pub use refusal::Refusal;
-pub use row::{decode_row, decode_row_into, Buffers, Row};
+pub use row::{decode_row, decode_row_into, Buffers, OwnedRow, Row, Values};
+pub use rows::Rows;
 pub use text::{
     bytes_are_likely_text, decode_character_bytes, decode_character_bytes_into,
     decode_graphic_bytes, decode_graphic_bytes_into, decode_packed_decimal,
@@ -44,7 +56,10 @@ pub use text::{
     format_rowid_into,
 };
 pub use types::{ByteOrder, Db2Type};
-pub use value::Value;
+pub use value::{OwnedValue, Value};
+
+/// This crate's version, and that of the archive it links.
+pub const VERSION: &str = env!("CARGO_PKG_VERSION");
 
 /// How many columns a description may have, and the row call takes.
 pub const MAX_COLUMNS: usize = 128;

@@ -12,80 +12,90 @@ mod foreign {
     }
 
     unsafe extern "C" {
-        pub fn vejupa_parse_qrydsc(
+        pub fn vejupa_version_0_2_0() -> u32;
+        pub fn vejupa_raw_parse_qrydsc(
             data: *const u8,
             data_len: usize,
-            words: *mut u64,
-            words_len: usize,
-            count: *mut u64,
+            column_words: *mut u64,
+            column_words_len: usize,
+            count: *mut usize,
         ) -> u32;
-        pub fn vejupa_decode_row(
-            columns: *const u64,
-            columns_len: usize,
+        pub fn vejupa_raw_decode_row(
+            column_words: *const u64,
+            column_words_len: usize,
             data: *const u8,
             data_len: usize,
-            values: *mut u64,
-            values_len: usize,
+            value_words: *mut u64,
+            value_words_len: usize,
             text: *mut u8,
             text_len: usize,
-            first: *mut u64,
-            second: *mut u64,
+            used: *mut usize,
+            text_length: *mut usize,
+            expected: *mut usize,
+            actual: *mut usize,
         ) -> u32;
-        pub fn vejupa_value_bytes(
-            value: *const u64,
-            value_len: usize,
+        pub fn vejupa_raw_value_bytes(
+            value_words: *const u64,
+            value_words_len: usize,
             data: *const u8,
             data_len: usize,
             text: *const u8,
             text_len: usize,
             bytes: *mut Bytes,
         );
-        pub fn vejupa_fixed_length(type_word: u64, fixed: *mut u64, length: *mut u64) -> u32;
-        pub fn vejupa_decode_character_bytes(
+        pub fn vejupa_raw_fixed_length(type_word: u64, fixed: *mut u32, length: *mut usize) -> u32;
+        pub fn vejupa_raw_decode_character_bytes(
             data: *const u8,
             data_len: usize,
             ccsid: u16,
             text: *mut u8,
             text_len: usize,
-            len: *mut u64,
+            text_length: *mut usize,
         ) -> u32;
-        pub fn vejupa_decode_graphic_bytes(
+        pub fn vejupa_raw_decode_graphic_bytes(
             data: *const u8,
             data_len: usize,
             ccsid: u16,
             text: *mut u8,
             text_len: usize,
-            len: *mut u64,
+            text_length: *mut usize,
         ) -> u32;
-        pub fn vejupa_format_lob_locator(
+        pub fn vejupa_raw_format_lob_locator(
             bytes: *const u8,
             bytes_len: usize,
             text: *mut u8,
             text_len: usize,
-            len: *mut u64,
+            text_length: *mut usize,
         ) -> u32;
-        pub fn vejupa_format_rowid(
+        pub fn vejupa_raw_format_rowid(
             bytes: *const u8,
             bytes_len: usize,
             text: *mut u8,
             text_len: usize,
-            len: *mut u64,
+            text_length: *mut usize,
         ) -> u32;
-        pub fn vejupa_decode_packed_decimal(
+        pub fn vejupa_raw_decode_packed_decimal(
             data: *const u8,
             data_len: usize,
             precision: u8,
             scale: u8,
             text: *mut u8,
             text_len: usize,
-            len: *mut u64,
+            text_length: *mut usize,
         ) -> u32;
-        pub fn vejupa_bytes_are_likely_text(bytes: *const u8, bytes_len: usize) -> u32;
+        pub fn vejupa_raw_bytes_are_likely_text(bytes: *const u8, bytes_len: usize) -> u32;
     }
 }
 
+// The symbol has the version's name: a program does not link with an archive of another one.
+#[used]
+static OF_THIS_VERSION: unsafe extern "C" fn() -> u32 = foreign::vejupa_version_0_2_0;
+
 /// What every call answers where it accepts.
 pub const ACCEPTED: u32 = 0;
+
+/// The row ends before a value does: refusal 8.
+pub const BUFFER_TOO_SHORT: u32 = 8;
 
 /// A lent text buffer is too short: refusal 9.
 pub const TEXT_BUFFER_TOO_SHORT: u32 = 9;
@@ -107,10 +117,14 @@ pub const VALUE_WORDS: usize = 3;
 pub struct RowAnswer {
     /// [`ACCEPTED`], a refusal's number, [`TOO_FEW_WORDS`] or [`NO_COLUMN`].
     pub number: u32,
-    /// Accepted: the bytes used. 8: the bytes expected. 9: the length of text needed. 101: the words needed. Else 0.
-    pub first: u64,
-    /// Accepted: the bytes of text written. 8: the bytes there are. Else 0.
-    pub second: u64,
+    /// Accepted: the bytes used. Else 0.
+    pub used: usize,
+    /// Accepted: the bytes of text written. [`TEXT_BUFFER_TOO_SHORT`]: the length needed. Else 0.
+    pub text_length: usize,
+    /// [`BUFFER_TOO_SHORT`]: the bytes expected. Else 0.
+    pub expected: usize,
+    /// [`BUFFER_TOO_SHORT`]: the bytes there are. Else 0.
+    pub actual: usize,
 }
 
 /// What a call answers that writes a text.
@@ -118,8 +132,8 @@ pub struct RowAnswer {
 pub struct TextAnswer {
     /// [`ACCEPTED`], or a refusal's number.
     pub number: u32,
-    /// Accepted: the bytes written. 9: the length needed. Else 0.
-    pub len: u64,
+    /// Accepted: the bytes written. [`TEXT_BUFFER_TOO_SHORT`]: the length needed. Else 0.
+    pub text_length: usize,
 }
 
 /// What `parse_qrydsc` answers beside the words.
@@ -127,8 +141,8 @@ pub struct TextAnswer {
 pub struct DescriptionAnswer {
     /// [`ACCEPTED`], a refusal's number or [`TOO_FEW_WORDS`].
     pub number: u32,
-    /// Accepted and 101: the number of columns. Else 0.
-    pub count: u64,
+    /// Accepted and [`TOO_FEW_WORDS`]: the number of columns. Else 0.
+    pub count: usize,
 }
 
 /// What `fixed_length` answers.
@@ -137,70 +151,83 @@ pub struct LengthAnswer {
     /// [`ACCEPTED`] or [`NO_COLUMN`].
     pub number: u32,
     /// 1 where the type has a fixed length, else 0.
-    pub fixed: u64,
+    pub fixed: u32,
     /// That length in bytes, else 0.
-    pub length: u64,
+    pub length: usize,
 }
 
 // What no call leaves in a number that it is to write, so that one that is not written does not look like 0.
-const UNWRITTEN: u64 = u64::MAX;
+const UNWRITTEN: usize = usize::MAX;
 
-// SAFETY, for all calls below: a slice's pointer is never null and is aligned, also where the slice is empty; all slices and numbers
-// are borrowed for the whole call, those that are written apart from all others. The library reads and writes inside of them only, and ends:
+// SAFETY, for all calls below: a slice's pointer is never null and is aligned, also where the slice is empty; all slices and numbers are
+// borrowed for the whole call, those that are written apart from all others. The library reads and writes inside of them only, and ends:
 // that is proved of it.
 
-/// Two words a column, as many as there are columns.
-pub fn parse_qrydsc(data: &[u8], words: &mut [u64]) -> DescriptionAnswer {
+/// The archive's version: 10,000 for each major one, 100 for each minor one, 1 for each patch.
+pub fn version() -> u32 {
+    unsafe { foreign::vejupa_version_0_2_0() }
+}
+
+/// Two words a column into `column_words`, for as many columns as are described.
+pub fn parse_qrydsc(data: &[u8], column_words: &mut [u64]) -> DescriptionAnswer {
     let mut count = UNWRITTEN;
     let number = unsafe {
-        foreign::vejupa_parse_qrydsc(
+        foreign::vejupa_raw_parse_qrydsc(
             data.as_ptr(),
             data.len(),
-            words.as_mut_ptr(),
-            words.len(),
+            column_words.as_mut_ptr(),
+            column_words.len(),
             &mut count,
         )
     };
     DescriptionAnswer { number, count }
 }
 
-/// Three words a value into `values`, and the texts into `text`.
-pub fn decode_row(columns: &[u64], data: &[u8], values: &mut [u64], text: &mut [u8]) -> RowAnswer {
-    let mut first = UNWRITTEN;
-    let mut second = UNWRITTEN;
-    let number = unsafe {
-        foreign::vejupa_decode_row(
-            columns.as_ptr(),
-            columns.len(),
+/// Three words a value into `value_words`, and the texts into `text`.
+pub fn decode_row(
+    column_words: &[u64],
+    data: &[u8],
+    value_words: &mut [u64],
+    text: &mut [u8],
+) -> RowAnswer {
+    let mut answer = RowAnswer {
+        number: u32::MAX,
+        used: UNWRITTEN,
+        text_length: UNWRITTEN,
+        expected: UNWRITTEN,
+        actual: UNWRITTEN,
+    };
+    answer.number = unsafe {
+        foreign::vejupa_raw_decode_row(
+            column_words.as_ptr(),
+            column_words.len(),
             data.as_ptr(),
             data.len(),
-            values.as_mut_ptr(),
-            values.len(),
+            value_words.as_mut_ptr(),
+            value_words.len(),
             text.as_mut_ptr(),
             text.len(),
-            &mut first,
-            &mut second,
+            &mut answer.used,
+            &mut answer.text_length,
+            &mut answer.expected,
+            &mut answer.actual,
         )
     };
-    RowAnswer {
-        number,
-        first,
-        second,
-    }
+    answer
 }
 
-/// The bytes of the value of these three words, in the row or in the texts; empty where it has none, where its place does not fit, and where
-/// there are fewer words.
-pub fn value_bytes<'a>(value: &[u64], data: &'a [u8], text: &'a [u8]) -> &'a [u8] {
+/// The bytes of the value of these three words, in the row or in the texts; empty where it has none, where its place does not fit, and
+/// where there are fewer words.
+pub fn value_bytes<'a>(value_words: &[u64], data: &'a [u8], text: &'a [u8]) -> &'a [u8] {
     let mut bytes = foreign::Bytes {
         start: data.as_ptr(),
         length: 0,
     };
     // SAFETY, beside what stands above: what is handed out is a part of `data` or of `text`.
     unsafe {
-        foreign::vejupa_value_bytes(
-            value.as_ptr(),
-            value.len(),
+        foreign::vejupa_raw_value_bytes(
+            value_words.as_ptr(),
+            value_words.len(),
             data.as_ptr(),
             data.len(),
             text.as_ptr(),
@@ -213,9 +240,9 @@ pub fn value_bytes<'a>(value: &[u64], data: &'a [u8], text: &'a [u8]) -> &'a [u8
 
 /// By a type word: the low 24 bits of a column's first word.
 pub fn fixed_length(type_word: u64) -> LengthAnswer {
-    let mut fixed = UNWRITTEN;
+    let mut fixed = u32::MAX;
     let mut length = UNWRITTEN;
-    let number = unsafe { foreign::vejupa_fixed_length(type_word, &mut fixed, &mut length) };
+    let number = unsafe { foreign::vejupa_raw_fixed_length(type_word, &mut fixed, &mut length) };
     LengthAnswer {
         number,
         fixed,
@@ -223,83 +250,86 @@ pub fn fixed_length(type_word: u64) -> LengthAnswer {
     }
 }
 
-// Lets a call write its length.
-fn text_answer(call: impl FnOnce(*mut u64) -> u32) -> TextAnswer {
-    let mut len = UNWRITTEN;
-    let number = call(&mut len);
-    TextAnswer { number, len }
+// Lets a call write its text's length.
+fn text_answer(call: impl FnOnce(*mut usize) -> u32) -> TextAnswer {
+    let mut text_length = UNWRITTEN;
+    let number = call(&mut text_length);
+    TextAnswer {
+        number,
+        text_length,
+    }
 }
 
 /// The text of a character value.
 pub fn decode_character_bytes(data: &[u8], ccsid: u16, text: &mut [u8]) -> TextAnswer {
-    text_answer(|len| unsafe {
-        foreign::vejupa_decode_character_bytes(
+    text_answer(|text_length| unsafe {
+        foreign::vejupa_raw_decode_character_bytes(
             data.as_ptr(),
             data.len(),
             ccsid,
             text.as_mut_ptr(),
             text.len(),
-            len,
+            text_length,
         )
     })
 }
 
 /// The text of a graphic value.
 pub fn decode_graphic_bytes(data: &[u8], ccsid: u16, text: &mut [u8]) -> TextAnswer {
-    text_answer(|len| unsafe {
-        foreign::vejupa_decode_graphic_bytes(
+    text_answer(|text_length| unsafe {
+        foreign::vejupa_raw_decode_graphic_bytes(
             data.as_ptr(),
             data.len(),
             ccsid,
             text.as_mut_ptr(),
             text.len(),
-            len,
+            text_length,
         )
     })
 }
 
 /// The text of a LOB locator.
 pub fn format_lob_locator(bytes: &[u8], text: &mut [u8]) -> TextAnswer {
-    text_answer(|len| unsafe {
-        foreign::vejupa_format_lob_locator(
+    text_answer(|text_length| unsafe {
+        foreign::vejupa_raw_format_lob_locator(
             bytes.as_ptr(),
             bytes.len(),
             text.as_mut_ptr(),
             text.len(),
-            len,
+            text_length,
         )
     })
 }
 
 /// The text of a row id.
 pub fn format_rowid(bytes: &[u8], text: &mut [u8]) -> TextAnswer {
-    text_answer(|len| unsafe {
-        foreign::vejupa_format_rowid(
+    text_answer(|text_length| unsafe {
+        foreign::vejupa_raw_format_rowid(
             bytes.as_ptr(),
             bytes.len(),
             text.as_mut_ptr(),
             text.len(),
-            len,
+            text_length,
         )
     })
 }
 
 /// The text of a packed decimal.
 pub fn decode_packed_decimal(data: &[u8], precision: u8, scale: u8, text: &mut [u8]) -> TextAnswer {
-    text_answer(|len| unsafe {
-        foreign::vejupa_decode_packed_decimal(
+    text_answer(|text_length| unsafe {
+        foreign::vejupa_raw_decode_packed_decimal(
             data.as_ptr(),
             data.len(),
             precision,
             scale,
             text.as_mut_ptr(),
             text.len(),
-            len,
+            text_length,
         )
     })
 }
 
 /// 1 or 0.
 pub fn bytes_are_likely_text(bytes: &[u8]) -> u32 {
-    unsafe { foreign::vejupa_bytes_are_likely_text(bytes.as_ptr(), bytes.len()) }
+    unsafe { foreign::vejupa_raw_bytes_are_likely_text(bytes.as_ptr(), bytes.len()) }
 }

@@ -1,9 +1,12 @@
 //! Why a call refuses its input.
+use crate::raw;
+use crate::show::pad;
 use std::error::Error;
 use std::fmt;
 
 /// Why a call refuses its input, in the order of the refusals' numbers.
 #[derive(Debug, Clone, Copy, PartialEq, Eq, Hash)]
+#[non_exhaustive]
 pub enum Refusal {
     /// 1: a description of more than 65,536 bytes.
     QrydscTooLong,
@@ -22,10 +25,12 @@ pub enum Refusal {
     /// 8: the row ends before a value does. A missing indicator counts from the row's beginning (or from behind the two bytes that are
     /// skipped), any other shortage from the value's first byte.
     BufferTooShort {
+        /// The column whose value or indicator is not all there, from 0. The columns before it are.
+        column: usize,
         /// How many bytes were expected.
-        expected: u64,
+        expected: usize,
         /// How many there are.
-        actual: u64,
+        actual: usize,
     },
     /// 9: a lent text buffer is too short. Calls that make room themselves never refuse so.
     TextBufferTooShort {
@@ -50,11 +55,11 @@ impl Refusal {
         }
     }
 
-    /// The refusal of a number and of the two values that come with it.
+    /// The refusal of a number that comes without values.
     ///
     /// # Panics
-    /// Where the number is no refusal's. The calls of this crate pass on only what they cannot shut out: 101 and 102 cannot come.
-    pub(crate) fn from_answer(number: u32, first: u64, second: u64) -> Refusal {
+    /// Where there is no such refusal. The calls of this crate pass on only what they cannot shut out: 101 and 102 cannot come.
+    pub(crate) fn from_number(number: u32) -> Refusal {
         match number {
             1 => Refusal::QrydscTooLong,
             2 => Refusal::TooManyColumns,
@@ -63,35 +68,38 @@ impl Refusal {
             5 => Refusal::DecFloatColumn,
             6 => Refusal::DecimalEmpty,
             7 => Refusal::DecimalTooLong,
-            8 => Refusal::BufferTooShort {
-                expected: first,
-                actual: second,
-            },
-            9 => Refusal::TextBufferTooShort {
-                needed: usize::try_from(first).expect("no text needs more than memory holds"),
-            },
-            _ => panic!("the library answered {number}, which is no refusal"),
+            // To ask for the version also makes every program refer to its symbol where the compiler lets the linker drop a static (`raw`).
+            _ => panic!(
+                "the library of version {} answered {number}, which is no refusal here",
+                raw::version()
+            ),
         }
     }
 }
 
+/// `refusal`, its number, and what it says.
 impl fmt::Display for Refusal {
     fn fmt(&self, f: &mut fmt::Formatter<'_>) -> fmt::Result {
-        write!(f, "refusal {}: ", self.number())?;
         match self {
-            Refusal::QrydscTooLong => f.write_str("the description has more than 65,536 bytes"),
-            Refusal::TooManyColumns => f.write_str("the description has more than 128 columns"),
-            Refusal::CountTooLarge => f.write_str("more than 128 columns"),
-            Refusal::InputTooLong => f.write_str("more than 1,048,576 bytes"),
-            Refusal::DecFloatColumn => f.write_str("a column of type DecFloat is not decoded"),
-            Refusal::DecimalEmpty => f.write_str("a packed decimal of no bytes"),
-            Refusal::DecimalTooLong => f.write_str("a packed decimal of more than 128 bytes"),
-            Refusal::BufferTooShort { expected, actual } => {
-                write!(f, "too short: {expected} bytes expected, {actual} there")
-            }
-            Refusal::TextBufferTooShort { needed } => {
-                write!(f, "the text buffer is too short: {needed} bytes needed")
-            }
+            Refusal::QrydscTooLong => f.pad("refusal 1: the description has more than 65,536 bytes"),
+            Refusal::TooManyColumns => f.pad("refusal 2: the description has more than 128 columns"),
+            Refusal::CountTooLarge => f.pad("refusal 3: more than 128 columns"),
+            Refusal::InputTooLong => f.pad("refusal 4: more than 1,048,576 bytes"),
+            Refusal::DecFloatColumn => f.pad("refusal 5: a column of type DecFloat is not decoded"),
+            Refusal::DecimalEmpty => f.pad("refusal 6: a packed decimal of no bytes"),
+            Refusal::DecimalTooLong => f.pad("refusal 7: a packed decimal of more than 128 bytes"),
+            Refusal::BufferTooShort {
+                column,
+                expected,
+                actual,
+            } => pad(
+                f,
+                format_args!("refusal 8: too short in column {column}: {expected} bytes expected, {actual} there"),
+            ),
+            Refusal::TextBufferTooShort { needed } => pad(
+                f,
+                format_args!("refusal 9: the text buffer is too short: {needed} bytes needed"),
+            ),
         }
     }
 }

@@ -1,22 +1,44 @@
-//! Rows.
-use crate::raw::{self, ACCEPTED, TEXT_BUFFER_TOO_SHORT, VALUE_WORDS};
-use crate::{Column, Columns, Refusal, Value};
-use std::borrow::Cow;
+//! Rows, one by one.
+use crate::raw::{
+    self, ACCEPTED, BUFFER_TOO_SHORT, COLUMN_WORDS, TEXT_BUFFER_TOO_SHORT, VALUE_WORDS,
+};
+use crate::{Column, Columns, OwnedValue, Refusal, Value};
+use std::fmt;
+use std::iter::FusedIterator;
+use std::slice::{self, ChunksExact};
+use std::vec;
 
-// No row of so many bytes and columns has longer texts. Where the buffer is as long, the library need not measure the texts before it writes them.
-fn ample(bytes: usize, columns: usize) -> usize {
+/// No row of so many bytes and columns has longer texts. Where the buffer is as long, the library need not measure the texts before it
+/// writes them.
+pub(crate) fn ample(bytes: usize, columns: usize) -> usize {
     3 * bytes + 258 * columns
 }
 
 // The most that is set aside before a row asks for it.
 const ROOM: usize = 65_536;
 
+// That texts are UTF-8, and that each place fits, is proved (crates/rules, TextsUtf8 and PlacesFit). Asked again here, it needs no
+// `unsafe`.
+const UTF8: &str = "the library's texts are UTF-8";
+const PLACES: &str = "every place of an accepted row fits";
+
 /// Room for a row's values and texts, to be used for one row after another. It grows where a row needs more and never shrinks, so that
 /// after the widest row no call allocates.
-#[derive(Debug, Clone, Default)]
+#[derive(Clone, Default)]
 pub struct Buffers {
     values: Vec<u64>,
     text: Vec<u8>,
+}
+
+/// What an accepted row left in the buffers.
+#[derive(Clone, Copy)]
+pub(crate) struct Filled {
+    /// The words of its values.
+    words: usize,
+    /// The bytes of its texts.
+    text: usize,
+    /// The bytes of the input that it takes.
+    pub(crate) used: usize,
 }
 
 impl Buffers {
@@ -33,9 +55,8 @@ impl Buffers {
         }
     }
 
-    // Decodes a row: how many of its bytes are used, and how many bytes of text it has. The second turn, with the length that the first
-    // asked for, is the last.
-    fn fill(&mut self, data: &[u8], columns: &Columns) -> Result<(usize, usize), Refusal> {
+    /// Decodes a row. The second turn, with the length that the first asked for, is the last.
+    pub(crate) fn fill(&mut self, data: &[u8], columns: &Columns) -> Result<Filled, Refusal> {
         let words = VALUE_WORDS * columns.len();
         if self.values.len() < words {
             self.values.resize(words, 0);
@@ -46,31 +67,79 @@ impl Buffers {
         }
         loop {
             let answer = raw::decode_row(columns.words(), data, &mut self.values, &mut self.text);
-            let (first, second) = (answer.first, answer.second);
             match answer.number {
-                ACCEPTED => return Ok((first as usize, second as usize)),
-                TEXT_BUFFER_TOO_SHORT => self
-                    .text
-                    .resize(first.max(2 * self.text.len() as u64) as usize, 0),
-                number => return Err(Refusal::from_answer(number, first, second)),
+                ACCEPTED => {
+                    return Ok(Filled {
+                        words,
+                        text: answer.text_length,
+                        used: answer.used,
+                    })
+                }
+                TEXT_BUFFER_TOO_SHORT => {
+                    let room = answer.text_length.max(2 * self.text.len());
+                    self.text.resize(room, 0);
+                }
+                BUFFER_TOO_SHORT => {
+                    return Err(Refusal::BufferTooShort {
+                        column: self.short_column(data, columns),
+                        expected: answer.expected,
+                        actual: answer.actual,
+                    })
+                }
+                number => return Err(Refusal::from_number(number)),
             }
+        }
+    }
+
+    // The column at which a row is too short. So many columns from the first on are too short where that one is among them, and not else:
+    // what a column reads does not depend on those behind it. No text is written meanwhile: for want of room the library only measures
+    // it.
+    #[cold]
+    fn short_column(&mut self, data: &[u8], columns: &Columns) -> usize {
+        let (mut enough, mut short) = (0, columns.len());
+        while short - enough > 1 {
+            let middle = enough + (short - enough) / 2;
+            let first = &columns.words()[..COLUMN_WORDS * middle];
+            match raw::decode_row(first, data, &mut self.values, &mut []).number {
+                BUFFER_TOO_SHORT => short = middle,
+                _ => enough = middle,
+            }
+        }
+        enough
+    }
+
+    /// The row that `fill` decoded from these bytes.
+    pub(crate) fn row<'a>(&'a self, data: &'a [u8], filled: Filled) -> Row<'a> {
+        Row {
+            data,
+            words: &self.values[..filled.words],
+            text: std::str::from_utf8(&self.text[..filled.text]).expect(UTF8),
+            used: filled.used,
         }
     }
 }
 
-/// A decoded row.
-#[derive(Debug, Clone)]
+/// How much room there is.
+impl fmt::Debug for Buffers {
+    fn fmt(&self, f: &mut fmt::Formatter<'_>) -> fmt::Result {
+        f.debug_struct("Buffers")
+            .field("values", &(self.values.len() / VALUE_WORDS))
+            .field("text_bytes", &self.text.len())
+            .finish()
+    }
+}
+
+/// A decoded row. Its values live as long as the input and the buffers, also where the `Row` itself is gone.
+#[derive(Clone, Copy)]
 pub struct Row<'a> {
     data: &'a [u8],
-    words: Cow<'a, [u64]>,
-    text: Cow<'a, str>,
+    words: &'a [u64],
+    text: &'a str,
     used: usize,
 }
 
-// That texts are UTF-8, and that each place fits, is proved (crates/rules, TextsUtf8 and PlacesFit). Asked again here, it needs no `unsafe`.
-const UTF8: &str = "the library's texts are UTF-8";
-
-/// The values of a row, in buffers of its own. Where there are many rows, [`decode_row_into`] saves what this allocates.
+/// The values of a row, with texts and bytes of their own. Where there are many rows, [`decode_row_into`] saves what this allocates, and
+/// [`Rows`](crate::Rows) goes through rows that lie one after the other.
 ///
 /// # Errors
 /// [`Refusal::CountTooLarge`], [`Refusal::InputTooLong`], [`Refusal::DecFloatColumn`] and [`Refusal::BufferTooShort`].
@@ -79,22 +148,13 @@ const UTF8: &str = "the library's texts are UTF-8";
 /// use vejupa::{decode_row, parse_qrydsc, Value};
 /// let columns = parse_qrydsc(&[0x09, 0x76, 0xD0, 0x05, 0x00, 0x02, 0x0F, 0x05, 0x02])?;
 /// let row = decode_row(&[0x00, 0x00, 0x2A, 0x00, 0x12, 0x34, 0x5C], &columns)?;
-/// assert_eq!(row.value(0), Value::SmallInt(42));
-/// assert_eq!(row.value(1), Value::Decimal("123.45"));
-/// assert_eq!(row.used(), 7);
+/// assert_eq!(row.values, [Value::SmallInt(42), Value::Decimal("123.45")]);
+/// assert_eq!(row.used, 7);
 /// # Ok::<(), vejupa::Refusal>(())
 /// ```
-pub fn decode_row<'a>(data: &'a [u8], columns: &[Column]) -> Result<Row<'a>, Refusal> {
-    let columns = Columns::from(columns);
+pub fn decode_row(data: &[u8], columns: &[Column]) -> Result<OwnedRow, Refusal> {
     let mut buffers = Buffers::new();
-    let (used, written) = buffers.fill(data, &columns)?;
-    buffers.text.truncate(written);
-    Ok(Row {
-        data,
-        words: buffers.values.into(),
-        text: String::from_utf8(buffers.text).expect(UTF8).into(),
-        used,
-    })
+    decode_row_into(data, &Columns::from(columns), &mut buffers).map(Row::into_owned)
 }
 
 /// The values of a row, in lent buffers: the form for many rows.
@@ -119,18 +179,11 @@ pub fn decode_row_into<'a>(
     columns: &Columns,
     buffers: &'a mut Buffers,
 ) -> Result<Row<'a>, Refusal> {
-    let (used, written) = buffers.fill(data, columns)?;
-    let words = &buffers.values[..VALUE_WORDS * columns.len()];
-    let text = std::str::from_utf8(&buffers.text[..written]).expect(UTF8);
-    Ok(Row {
-        data,
-        words: words.into(),
-        text: text.into(),
-        used,
-    })
+    let filled = buffers.fill(data, columns)?;
+    Ok(buffers.row(data, filled))
 }
 
-impl Row<'_> {
+impl<'a> Row<'a> {
     /// How many values there are: as many as columns.
     pub fn len(&self) -> usize {
         self.words.len() / VALUE_WORDS
@@ -141,46 +194,52 @@ impl Row<'_> {
         self.words.is_empty()
     }
 
-    /// The value of column k.
+    /// The value of column k, from 0.
     ///
     /// # Panics
     /// Where there is no such column.
-    pub fn value(&self, k: usize) -> Value<'_> {
-        Value::from_words(self.words_of(k), self.data, &self.text)
-            .expect("every place of an accepted row fits")
+    #[track_caller]
+    pub fn value(&self, k: usize) -> Value<'a> {
+        value(self.words_of(k), self.data, self.text)
     }
 
     /// The value of column k, where there is one.
-    pub fn get(&self, k: usize) -> Option<Value<'_>> {
-        (k < self.len()).then(|| self.value(k))
+    pub fn get(&self, k: usize) -> Option<Value<'a>> {
+        self.find(k).map(|words| value(words, self.data, self.text))
     }
 
     /// The values in the columns' order.
-    pub fn values(&self) -> impl ExactSizeIterator<Item = Value<'_>> + '_ {
-        (0..self.len()).map(|k| self.value(k))
+    pub fn values(&self) -> Values<'a> {
+        Values {
+            words: self.words.chunks_exact(VALUE_WORDS),
+            data: self.data,
+            text: self.text,
+        }
     }
 
-    /// The bytes of the value of column k, a part of the row or of [`Row::text`]: empty for a number, a Boolean and Null. It is the library's own
-    /// accessor; the places that [`Row::value`] takes are tested here, in Rust.
+    /// The bytes of the value of column k, a part of the row or of [`Row::text`]: empty for a number, a Boolean and Null. It is the
+    /// library's own accessor; the places that [`Row::value`] takes are tested here, in Rust.
     ///
     /// # Panics
     /// Where there is no such column.
-    pub fn value_bytes(&self, k: usize) -> &[u8] {
-        raw::value_bytes(&self.words_of(k), self.data, self.text.as_bytes())
+    #[track_caller]
+    pub fn value_bytes(&self, k: usize) -> &'a [u8] {
+        raw::value_bytes(self.words_of(k), self.data, self.text.as_bytes())
     }
 
     /// Whether the value of column k refers to data outside of the row, which come apart (EXTDTA).
     ///
     /// # Panics
     /// Where there is no such column.
+    #[track_caller]
     pub fn is_external(&self, k: usize) -> bool {
-        let [kind, ..] = self.words_of(k);
-        kind >> 8 & 1 == 1
+        is_external(self.words_of(k))
     }
 
     /// The columns whose values refer to data outside of the row.
-    pub fn external_columns(&self) -> impl Iterator<Item = usize> + '_ {
-        (0..self.len()).filter(|&k| self.is_external(k))
+    pub fn external_columns(&self) -> impl DoubleEndedIterator<Item = usize> + 'a {
+        let words = self.words.chunks_exact(VALUE_WORDS).enumerate();
+        words.filter_map(|(k, words)| is_external(words).then_some(k))
     }
 
     /// How many bytes of the input the row takes, counted from its first one. The next row of a block begins there.
@@ -189,17 +248,159 @@ impl Row<'_> {
     }
 
     /// The texts of all values, one after the other.
-    pub fn text(&self) -> &str {
-        &self.text
+    pub fn text(&self) -> &'a str {
+        self.text
     }
 
     /// The values' words, three a value; `include/vejupa.h` has their layout. Places of texts are places in [`Row::text`].
-    pub fn words(&self) -> &[u64] {
-        &self.words
+    pub fn words(&self) -> &'a [u64] {
+        self.words
     }
 
-    fn words_of(&self, k: usize) -> [u64; VALUE_WORDS] {
-        let at = VALUE_WORDS * k;
-        [self.words[at], self.words[at + 1], self.words[at + 2]]
+    /// The row with texts and bytes of its own.
+    pub fn into_owned(self) -> OwnedRow {
+        OwnedRow {
+            values: self.values().map(Value::into_owned).collect(),
+            external_columns: self.external_columns().collect(),
+            used: self.used,
+        }
+    }
+
+    fn find(&self, k: usize) -> Option<&'a [u64; VALUE_WORDS]> {
+        let at = k.checked_mul(VALUE_WORDS)?;
+        self.words.get(at..)?.first_chunk()
+    }
+
+    #[track_caller]
+    fn words_of(&self, k: usize) -> &'a [u64; VALUE_WORDS] {
+        match self.find(k) {
+            Some(words) => words,
+            None => no_column(k, self.len()),
+        }
+    }
+}
+
+fn value<'a>(words: &[u64], data: &'a [u8], text: &'a str) -> Value<'a> {
+    Value::from_words([words[0], words[1], words[2]], data, text).expect(PLACES)
+}
+
+fn is_external(words: &[u64]) -> bool {
+    words[0] >> 8 & 1 == 1
+}
+
+#[cold]
+#[track_caller]
+fn no_column(k: usize, count: usize) -> ! {
+    let s = if count == 1 { "" } else { "s" };
+    panic!("column {k} of a row of {count} column{s}, which count from 0");
+}
+
+/// The values, the external columns and the bytes used.
+impl fmt::Debug for Row<'_> {
+    fn fmt(&self, f: &mut fmt::Formatter<'_>) -> fmt::Result {
+        let external_columns: Vec<usize> = self.external_columns().collect();
+        f.debug_struct("Row")
+            .field("values", &self.values())
+            .field("external_columns", &external_columns)
+            .field("used", &self.used)
+            .finish()
+    }
+}
+
+impl<'a> IntoIterator for Row<'a> {
+    type Item = Value<'a>;
+    type IntoIter = Values<'a>;
+
+    fn into_iter(self) -> Values<'a> {
+        self.values()
+    }
+}
+
+impl<'a> IntoIterator for &Row<'a> {
+    type Item = Value<'a>;
+    type IntoIter = Values<'a>;
+
+    fn into_iter(self) -> Values<'a> {
+        self.values()
+    }
+}
+
+/// The values of a row, in the columns' order.
+#[derive(Clone)]
+pub struct Values<'a> {
+    words: ChunksExact<'a, u64>,
+    data: &'a [u8],
+    text: &'a str,
+}
+
+impl<'a> Iterator for Values<'a> {
+    type Item = Value<'a>;
+
+    fn next(&mut self) -> Option<Value<'a>> {
+        let words = self.words.next()?;
+        Some(value(words, self.data, self.text))
+    }
+
+    fn nth(&mut self, n: usize) -> Option<Value<'a>> {
+        let words = self.words.nth(n)?;
+        Some(value(words, self.data, self.text))
+    }
+
+    fn size_hint(&self) -> (usize, Option<usize>) {
+        self.words.size_hint()
+    }
+}
+
+impl DoubleEndedIterator for Values<'_> {
+    fn next_back(&mut self) -> Option<Self::Item> {
+        let words = self.words.next_back()?;
+        Some(value(words, self.data, self.text))
+    }
+}
+
+impl ExactSizeIterator for Values<'_> {}
+
+impl FusedIterator for Values<'_> {}
+
+/// A list of the values that are left.
+impl fmt::Debug for Values<'_> {
+    fn fmt(&self, f: &mut fmt::Formatter<'_>) -> fmt::Result {
+        f.debug_list().entries(self.clone()).finish()
+    }
+}
+
+/// A decoded row with texts and bytes of its own.
+#[derive(Debug, Clone, PartialEq)]
+#[non_exhaustive]
+pub struct OwnedRow {
+    /// The values, as many as columns.
+    pub values: Vec<OwnedValue>,
+    /// The columns whose values refer to data outside of the row, which come apart (EXTDTA), in order.
+    pub external_columns: Vec<usize>,
+    /// How many bytes of the input the row takes, counted from its first one. The next row of a block begins there.
+    pub used: usize,
+}
+
+impl From<Row<'_>> for OwnedRow {
+    fn from(row: Row<'_>) -> OwnedRow {
+        row.into_owned()
+    }
+}
+
+impl IntoIterator for OwnedRow {
+    type Item = OwnedValue;
+    type IntoIter = vec::IntoIter<OwnedValue>;
+
+    fn into_iter(self) -> vec::IntoIter<OwnedValue> {
+        self.values.into_iter()
+    }
+}
+
+impl<'a> IntoIterator for &'a OwnedRow {
+    type Item = &'a OwnedValue;
+    type IntoIter = slice::Iter<'a, OwnedValue>;
+
+    fn into_iter(self) -> slice::Iter<'a, OwnedValue> {
+        self.values.iter()
     }
 }

@@ -8,17 +8,21 @@ const SPARE: usize = 16;
 // That is proved. Asked again here, it needs no `unsafe`.
 const UTF8: &str = "the library's texts are UTF-8";
 
+// How long a call's text is.
 fn accepted(answer: TextAnswer) -> Result<usize, Refusal> {
-    if answer.number != ACCEPTED {
-        return Err(Refusal::from_answer(answer.number, answer.len, 0));
+    match answer.number {
+        ACCEPTED => Ok(answer.text_length),
+        TEXT_BUFFER_TOO_SHORT => Err(Refusal::TextBufferTooShort {
+            needed: answer.text_length,
+        }),
+        number => Err(Refusal::from_number(number)),
     }
-    Ok(answer.len as usize)
 }
 
 // The text that a call wrote into a lent buffer.
 fn written(answer: TextAnswer, text: &mut [u8]) -> Result<&str, Refusal> {
-    let len = accepted(answer)?;
-    Ok(std::str::from_utf8(&text[..len]).expect(UTF8))
+    let length = accepted(answer)?;
+    Ok(std::str::from_utf8(&text[..length]).expect(UTF8))
 }
 
 // The text that a call writes, in a String of its own; `room` is the first try.
@@ -26,7 +30,7 @@ fn owned(room: usize, call: impl Fn(&mut [u8]) -> TextAnswer) -> Result<String, 
     let mut text = vec![0; room];
     let mut answer = call(&mut text);
     if answer.number == TEXT_BUFFER_TOO_SHORT {
-        text.resize(answer.len as usize, 0);
+        text.resize(answer.text_length, 0);
         answer = call(&mut text);
     }
     text.truncate(accepted(answer)?);

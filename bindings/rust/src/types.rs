@@ -1,39 +1,78 @@
 //! The types of columns, and their words.
 use crate::raw;
+use crate::show::pad;
 use std::fmt;
 
-/// The type of a column, with the numbers that it holds.
+/// The type of a column, with the numbers that it holds. Those are what the row call goes by; see [`Column`](crate::Column).
+///
+/// Where a length has bit 0x8000, the low 15 bits are a length too: of a LobBytes and LobChar the value's, of a VarChar and VarGraphic
+/// that of a reference to data outside of the row, which stands in the value's place.
 #[derive(Debug, Clone, Copy, PartialEq, Eq, Hash)]
-#[allow(missing_docs)]
+#[non_exhaustive]
 pub enum Db2Type {
+    /// A signed number of 2 bytes.
     SmallInt,
+    /// A signed number of 4 bytes.
     Integer,
+    /// A signed number of 8 bytes.
     BigInt,
+    /// A float of 4 bytes.
     Real,
+    /// A float of 8 bytes.
     Double,
-    Decimal { precision: u8, scale: u8 },
+    /// A packed decimal.
+    Decimal {
+        /// How many digits there are. A value has (precision + 2) / 2 bytes, rounded down.
+        precision: u8,
+        /// How many of them stand behind the point.
+        scale: u8,
+    },
+    /// A decimal floating-point number of so many digits. Descriptions may list it; the row call refuses it
+    /// ([`Refusal::DecFloatColumn`](crate::Refusal::DecFloatColumn)).
     DecFloat(u8),
+    /// A text of so many bytes.
     Char(u16),
+    /// A text that says how many bytes it has. The length is the most that the host sends, and is not tested.
     VarChar(u16),
+    /// A text that says how many bytes it has.
     LongVarChar,
+    /// A long text, or a reference to one outside of the row.
     Clob,
+    /// So many bytes.
     Binary(u16),
+    /// Bytes that say how many they are. The length is the most that the host sends, and is not tested.
     VarBinary(u16),
+    /// Many bytes, or a reference to them outside of the row.
     Blob,
+    /// A reference of 4 bytes to a Blob.
     BlobLocator,
+    /// A date, as a text of 10 bytes.
     Date,
+    /// A time of day, as a text of 8 bytes.
     Time,
+    /// A date and time, as a text of as many bytes as the column's length says, or of 26 where that is 0.
     Timestamp,
+    /// A text of so many units: of two bytes where the CCSID is 1200 and the column little-endian, else of one.
     Graphic(u16),
+    /// A text that says how many units it has. The length is the most that the host sends, and is not tested.
     VarGraphic(u16),
+    /// A long text, or a reference to one outside of the row. Its values are Clobs.
     DbClob,
+    /// A reference of 4 bytes to a Clob.
     ClobLocator,
+    /// A reference of 4 bytes to a DbClob.
     DbClobLocator,
+    /// So many bytes, which come out as a VarChar where they are likely text, else as a Blob.
     LobBytes(u16),
+    /// A text of so many bytes, which comes out as a Clob.
     LobChar(u16),
+    /// A row's identifier, of so many bytes.
     RowId(u16),
+    /// True where any byte is not 0: of as many bytes as the column's length says, or of 1 where that is 0.
     Boolean,
+    /// An XML document, or a reference to one outside of the row.
     Xml,
+    /// No type: values of no bytes, which are Null.
     Null,
 }
 
@@ -47,7 +86,7 @@ impl Db2Type {
     /// ```
     pub fn fixed_length(self) -> Option<usize> {
         let answer = raw::fixed_length(self.word());
-        (answer.fixed == 1).then_some(answer.length as usize)
+        (answer.fixed == 1).then_some(answer.length)
     }
 
     /// The type word: the type's tag in bits 0 to 7, the numbers that it holds in bits 8 to 23.
@@ -137,16 +176,20 @@ impl Db2Type {
 impl fmt::Display for Db2Type {
     fn fmt(&self, f: &mut fmt::Formatter<'_>) -> fmt::Result {
         match self {
-            Db2Type::Decimal { precision, scale } => write!(f, "Decimal({precision},{scale})"),
-            other => write!(f, "{other:?}"),
+            Db2Type::Decimal { precision, scale } => {
+                pad(f, format_args!("Decimal({precision},{scale})"))
+            }
+            other => pad(f, format_args!("{other:?}")),
         }
     }
 }
 
 /// The order of the bytes of a number in the row.
 #[derive(Debug, Clone, Copy, PartialEq, Eq, Hash)]
-#[allow(missing_docs)]
+#[non_exhaustive]
 pub enum ByteOrder {
+    /// The highest byte comes first.
     BigEndian,
+    /// The lowest byte comes first.
     LittleEndian,
 }

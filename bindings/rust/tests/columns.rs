@@ -1,6 +1,9 @@
 //! Descriptions, columns and their words.
+mod common;
+
+use common::walked_both_ways;
 use vejupa::raw::{self, DescriptionAnswer, LengthAnswer, TOO_FEW_WORDS};
-use vejupa::{parse_qrydsc, ByteOrder, Column, Columns, Db2Type, Refusal};
+use vejupa::{decode_row, parse_qrydsc, ByteOrder, Column, Columns, Db2Type, Refusal, Value};
 
 /// One of each type.
 const TYPES: [Db2Type; 29] = [
@@ -41,29 +44,27 @@ const TYPES: [Db2Type; 29] = [
 #[test]
 fn every_column_is_the_column_of_its_words() {
     for (tag, db2_type) in TYPES.into_iter().enumerate() {
-        let column = Column {
-            column_index: 255,
-            db2_type,
-            drda_type: 0xC9,
-            length: 0x8004,
-            precision: 5,
-            scale: 2,
-            nullable: true,
-            ccsid: 1208,
-            reference_length: Some(4),
-            byte_order: ByteOrder::LittleEndian,
-        };
+        let mut column = Column::new(db2_type)
+            .with_length(0x8004)
+            .with_nullable(true)
+            .with_ccsid(1208)
+            .with_reference_length(4)
+            .with_byte_order(ByteOrder::LittleEndian);
+        column.column_index = 255;
+        column.drda_type = 0xC9;
+        column.precision = 5;
+        column.scale = 2;
         for column in [column, Column::new(db2_type)] {
             assert_eq!(column.words()[0] & 0xFF, tag as u64);
             assert_eq!(Column::from_words(column.words()), Some(column));
         }
-        assert_eq!(column.words()[0] >> 24, 0x07_00FF_C9);
+        assert_eq!(column.words()[0] >> 24, 0x0700_FFC9);
         assert_eq!(column.words()[1], 0x0004_04B8_0205_8004);
     }
 }
 
-/// Types without numbers that hold one; a DecFloat of 256 digits; a tag that is no type's; a column number above 255; bits that are not in use;
-/// a reference length that is not there.
+/// Types without numbers that hold one; a DecFloat of 256 digits; a tag that is no type's; a column number above 255; bits that are not
+/// in use; a reference length that is not there.
 #[test]
 fn some_words_are_no_column() {
     for words in [
@@ -93,21 +94,16 @@ fn some_words_are_no_column() {
 #[test]
 fn a_description_and_its_columns() {
     let description = [0x09, 0x76, 0xD0, 0x05, 0x00, 0x02, 0x0F, 0x05, 0x02];
-    let decimal = Column {
-        column_index: 1,
-        db2_type: Db2Type::Decimal {
-            precision: 5,
-            scale: 2,
-        },
-        drda_type: 0x0F,
-        length: 3,
+    let mut decimal = Column::new(Db2Type::Decimal {
         precision: 5,
         scale: 2,
-        nullable: true,
-        ccsid: 0,
-        reference_length: None,
-        byte_order: ByteOrder::BigEndian,
-    };
+    });
+    decimal.column_index = 1;
+    decimal.drda_type = 0x0F;
+    decimal.length = 3;
+    decimal.precision = 5;
+    decimal.scale = 2;
+    decimal.nullable = true;
     let columns = parse_qrydsc(&description).unwrap();
     assert_eq!(columns.len(), 2);
     assert_eq!(columns[1], decimal);
@@ -116,7 +112,83 @@ fn a_description_and_its_columns() {
     assert_eq!(packed, Columns::from(&columns[..]));
     assert_eq!(packed.get(1), Some(decimal));
     assert_eq!(packed.get(2), None);
+    assert_eq!(packed.get(usize::MAX), None);
     assert!(Columns::parse(&[]).unwrap().is_empty());
+}
+
+/// Each sets its own field and no other.
+#[test]
+fn a_column_made_step_by_step() {
+    let plain = Column::new(Db2Type::Clob);
+    assert_eq!(plain.byte_order, ByteOrder::BigEndian);
+    assert_eq!((plain.nullable, plain.reference_length), (false, None));
+    let made = |change: fn(&mut Column)| {
+        let mut column = plain;
+        change(&mut column);
+        assert_ne!(column, plain);
+        column
+    };
+    assert_eq!(plain.with_nullable(true), made(|c| c.nullable = true));
+    assert_eq!(plain.with_ccsid(37), made(|c| c.ccsid = 37));
+    assert_eq!(plain.with_length(9), made(|c| c.length = 9));
+    assert_eq!(
+        plain.with_byte_order(ByteOrder::LittleEndian),
+        made(|c| c.byte_order = ByteOrder::LittleEndian)
+    );
+    assert_eq!(
+        plain.with_reference_length(0),
+        made(|c| c.reference_length = Some(0))
+    );
+    assert_eq!(plain.with_nullable(true).with_nullable(false), plain);
+}
+
+#[test]
+fn columns_one_by_one() {
+    let all = TYPES.map(Column::new);
+    let columns = Columns::from(&all[..]);
+    walked_both_ways(columns.iter(), &all);
+    walked_both_ways((&columns).into_iter(), &all);
+    walked_both_ways(columns.clone().into_iter(), &all);
+    walked_both_ways(Columns::default().into_iter(), &[]);
+    assert_eq!(columns.iter().collect::<Columns>(), columns);
+
+    let mut types = Vec::new();
+    for column in &columns {
+        types.push(column.db2_type);
+    }
+    assert_eq!(types, TYPES);
+}
+
+/// What is cut off, or has a length that cannot be, ends the list and is no refusal.
+#[test]
+fn damaged_descriptions() {
+    let two = [0x05, 0x70, 0x02, 0x00, 0x04, 0x05, 0x70, 0x04, 0x00, 0x02];
+    for length in 0..two.len() {
+        let columns = parse_qrydsc(&two[..length]).unwrap();
+        assert_eq!(columns.len(), length / 5, "{length} bytes");
+    }
+    let mut damaged = two;
+    damaged[5] = 0x01;
+    assert_eq!(parse_qrydsc(&damaged), parse_qrydsc(&two[..5]));
+    damaged[5] = 0x06;
+    assert_eq!(parse_qrydsc(&damaged), parse_qrydsc(&two[..5]));
+}
+
+/// The type's own numbers count, not those beside it: three bytes of Char, two of Decimal.
+#[test]
+fn a_type_goes_by_its_own_numbers() {
+    let decimal = Db2Type::Decimal {
+        precision: 3,
+        scale: 1,
+    };
+    let mut columns = [Column::new(Db2Type::Char(3)), Column::new(decimal)];
+    for column in &mut columns {
+        column.length = 40;
+        column.precision = 31;
+        column.scale = 5;
+    }
+    let row = decode_row(b"abc\x12\x3C", &columns).unwrap();
+    assert_eq!(row.values, [Value::Char("abc"), Value::Decimal("12.3")]);
 }
 
 #[test]

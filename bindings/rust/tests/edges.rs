@@ -1,5 +1,8 @@
 //! The cases A to P of the rules ("At the edges"), each with its whole outcome. crates/edges has the same table for the prover.
-use vejupa::{decode_packed_decimal, decode_row, parse_qrydsc, Refusal, Value};
+use vejupa::{
+    decode_packed_decimal, decode_row, decode_row_into, parse_qrydsc, Buffers, Columns, Refusal,
+    Value,
+};
 
 struct Case {
     letter: char,
@@ -111,12 +114,18 @@ const ROWS: [Case; 11] = [
 
 #[test]
 fn rows() {
+    let mut buffers = Buffers::new();
     for case in ROWS {
         let columns = parse_qrydsc(case.description).unwrap();
         let row = decode_row(case.row, &columns).unwrap();
-        let values: Vec<Value> = row.values().collect();
+        assert_eq!(row.values, case.values, "{}", case.letter);
+        assert_eq!(row.external_columns, case.external, "{}", case.letter);
+        assert_eq!(row.used, case.used, "{}", case.letter);
+
+        let columns = Columns::parse(case.description).unwrap();
+        let row = decode_row_into(case.row, &columns, &mut buffers).unwrap();
         let external: Vec<usize> = row.external_columns().collect();
-        assert_eq!(values, case.values, "{}", case.letter);
+        assert!(row.values().eq(case.values.iter().copied()), "{row:?}");
         assert_eq!(external, case.external, "{}", case.letter);
         assert_eq!(row.used(), case.used, "{}", case.letter);
     }
@@ -129,6 +138,7 @@ fn e_is_too_short() {
     assert_eq!(
         refusal,
         Refusal::BufferTooShort {
+            column: 0,
             expected: 1,
             actual: 0
         }

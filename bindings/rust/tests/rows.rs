@@ -1,9 +1,15 @@
-//! Rows: values of every sort, buffers, refusals.
+//! Rows: values of every sort, borrowed and owned; buffers; refusals.
+mod common;
+
+use common::{all_sorts, walked_both_ways, VALUES};
 use std::alloc::{GlobalAlloc, Layout, System};
 use std::cell::Cell;
-use vejupa::raw::{self, RowAnswer, ACCEPTED, TEXT_BUFFER_TOO_SHORT, TOO_FEW_WORDS};
+use vejupa::raw::{
+    self, RowAnswer, ACCEPTED, BUFFER_TOO_SHORT, TEXT_BUFFER_TOO_SHORT, TOO_FEW_WORDS,
+};
 use vejupa::{
-    decode_row, decode_row_into, Buffers, ByteOrder, Column, Columns, Db2Type, Refusal, Value,
+    decode_row, decode_row_into, Buffers, ByteOrder, Column, Columns, Db2Type, OwnedRow,
+    OwnedValue, Refusal, Row, Rows, Value,
 };
 
 /// Counts what a thread allocates.
@@ -32,97 +38,117 @@ fn column(db2_type: Db2Type) -> Column {
     Column::new(db2_type)
 }
 
-fn with_ccsid(db2_type: Db2Type, ccsid: u16) -> Column {
-    Column {
-        ccsid,
-        ..column(db2_type)
-    }
+/// The columns of all sorts, a row of them, and how it is decoded.
+fn with_row_of_all_sorts(check: impl FnOnce(Row)) {
+    let (columns, bytes) = all_sorts();
+    let mut buffers = Buffers::new();
+    check(decode_row_into(&bytes, &Columns::from(&columns[..]), &mut buffers).unwrap());
 }
-
-/// Columns of most types, and a row of them. It does not begin with FF, which would be skipped with the byte after it.
-fn all_sorts() -> (Vec<Column>, Vec<u8>) {
-    let decimal = Db2Type::Decimal {
-        precision: 5,
-        scale: 2,
-    };
-    let columns_and_bytes: [(Column, &[u8]); 22] = [
-        (column(Db2Type::Integer), &[0x80, 0, 0, 0]),
-        (column(Db2Type::SmallInt), &[0xFF, 0xFE]),
-        (column(Db2Type::BigInt), &[0x80, 0, 0, 0, 0, 0, 0, 0]),
-        (column(Db2Type::Real), &[0x40, 0x49, 0x0F, 0xDB]),
-        (column(Db2Type::Double), &[0x80, 0, 0, 0, 0, 0, 0, 0]),
-        (column(decimal), &[0x00, 0x00, 0x5D]),
-        (with_ccsid(Db2Type::Char(2), 37), &[0xC1, 0x4A]),
-        (with_ccsid(Db2Type::VarChar(9), 1208), &[0, 2, 0xC3, 0xA9]),
-        (with_ccsid(Db2Type::LongVarChar, 819), &[0, 1, 0xE9]),
-        (column(Db2Type::Binary(3)), &[1, 2, 3]),
-        (column(Db2Type::VarBinary(3)), &[0, 2, 4, 5]),
-        (column(Db2Type::Blob), &[0, 0, 0, 1]),
-        (column(Db2Type::Clob), &[0, 0, 0, 2]),
-        (column(Db2Type::BlobLocator), &[0, 0, 0, 3]),
-        (column(Db2Type::ClobLocator), &[0, 0, 0, 4]),
-        (column(Db2Type::Date), b"2026-03-02"),
-        (column(Db2Type::Time), b"13.45.00"),
-        (column(Db2Type::Timestamp), b"2026-03-02-13.45.00.000000"),
-        (
-            with_ccsid(Db2Type::Graphic(4), 1200),
-            &[0xD8, 0x3D, 0xDE, 0x00],
-        ),
-        (column(Db2Type::RowId(2)), &[0x0A, 0xBC]),
-        (column(Db2Type::Boolean), &[1]),
-        (column(Db2Type::Xml), &[0, 0, 0, 4, b'<', b'a', b'/', b'>']),
-    ];
-    let columns = columns_and_bytes
-        .iter()
-        .map(|(column, _)| *column)
-        .collect();
-    let row = columns_and_bytes
-        .iter()
-        .flat_map(|(_, bytes)| bytes.iter().copied());
-    (columns, row.collect())
-}
-
-const VALUES: [Value; 22] = [
-    Value::Integer(i32::MIN),
-    Value::SmallInt(-2),
-    Value::BigInt(i64::MIN),
-    Value::Real(std::f32::consts::PI),
-    Value::Double(-0.0),
-    Value::Decimal("-0.05"),
-    Value::Char("A¢"),
-    Value::VarChar("é"),
-    Value::VarChar("é"),
-    Value::Binary(&[1, 2, 3]),
-    Value::Binary(&[4, 5]),
-    Value::Blob(&[0, 0, 0, 1]),
-    Value::Clob("LOB locator 0x00000002"),
-    Value::Blob(&[0, 0, 0, 3]),
-    Value::Clob("LOB locator 0x00000004"),
-    Value::Date("2026-03-02"),
-    Value::Time("13.45.00"),
-    Value::Timestamp("2026-03-02-13.45.00.000000"),
-    Value::Char("\u{1F600}"),
-    Value::RowId("0x0ABC"),
-    Value::Boolean(true),
-    Value::Xml("<a/>"),
-];
 
 #[test]
 fn values_of_every_sort() {
+    with_row_of_all_sorts(|row| {
+        assert_eq!(row.len(), VALUES.len());
+        assert_eq!(row.used(), all_sorts().1.len());
+        for (k, (value, expected)) in row.values().zip(VALUES).enumerate() {
+            assert_eq!(value, expected, "column {k}");
+            assert_eq!(row.value(k), expected);
+            assert_eq!(row.get(k), Some(expected));
+            assert_eq!(row.value_bytes(k), expected.as_bytes().unwrap_or_default());
+        }
+        assert_eq!(row.get(VALUES.len()), None);
+        assert_eq!(row.get(usize::MAX / 3 + 1), None);
+        assert_eq!(row.external_columns().collect::<Vec<_>>(), [11, 12, 13, 14]);
+        assert!((0..22).all(|k| row.is_external(k) == (11..=14).contains(&k)));
+        let texts: String = VALUES.iter().filter_map(|value| value.as_str()).collect();
+        assert_eq!(row.text(), texts);
+        assert!(matches!(row.value(4), Value::Double(x) if x.is_sign_negative()));
+    });
+}
+
+#[test]
+fn values_one_by_one() {
+    with_row_of_all_sorts(|row| {
+        walked_both_ways(row.values(), &VALUES);
+        walked_both_ways(row.into_iter(), &VALUES);
+        walked_both_ways((&row).into_iter(), &VALUES);
+        let owned = row.into_owned();
+        walked_both_ways(owned.clone().into_iter(), &owned.values);
+        walked_both_ways(
+            (&owned).into_iter(),
+            &owned.values.iter().collect::<Vec<_>>(),
+        );
+    });
+}
+
+/// What a row hands out lives as long as the input and the buffers; the row itself is gone here.
+#[test]
+fn values_outlive_their_row() {
     let (columns, bytes) = all_sorts();
-    let row = decode_row(&bytes, &columns).unwrap();
-    assert_eq!(row.len(), VALUES.len());
-    assert_eq!(row.used(), bytes.len());
-    for (k, (value, expected)) in row.values().zip(VALUES).enumerate() {
-        assert_eq!(value, expected, "column {k}");
-        assert_eq!(row.get(k), Some(expected));
-        assert_eq!(row.value_bytes(k), expected.as_bytes().unwrap_or_default());
+    let columns = Columns::from(&columns[..]);
+    let mut buffers = Buffers::new();
+    let (values, sixth, text, words, bytes_of_ninth) = {
+        let row = decode_row_into(&bytes, &columns, &mut buffers).unwrap();
+        let copy = row;
+        let values: Vec<Value> = copy.into_iter().collect();
+        (
+            values,
+            row.get(5),
+            row.text(),
+            row.words(),
+            row.value_bytes(9),
+        )
+    };
+    assert_eq!(values, VALUES);
+    assert_eq!(sixth, Some(Value::Decimal("-0.05")));
+    assert_eq!((words.len(), bytes_of_ninth), (66, &[1, 2, 3][..]));
+    let begins = "-0.05A¢éé";
+    assert!(text.starts_with(begins), "{text}");
+}
+
+#[test]
+fn owned_rows() {
+    let (columns, bytes) = all_sorts();
+    let row: OwnedRow = decode_row(&bytes, &columns).unwrap();
+    assert_eq!(row.values, VALUES);
+    assert_eq!(row.external_columns, [11, 12, 13, 14]);
+    assert_eq!(row.used, bytes.len());
+    with_row_of_all_sorts(|borrowed| assert_eq!(OwnedRow::from(borrowed), row));
+}
+
+/// There and back again for each sort, with the same answers of the small accessors.
+#[test]
+fn owned_values() {
+    for value in VALUES.into_iter().chain([Value::Null]) {
+        let owned = value.into_owned();
+        assert_eq!(owned.as_value(), value);
+        assert_eq!(owned, value);
+        assert_eq!(value, owned);
+        assert_eq!(OwnedValue::from(value), owned);
+        assert_eq!(Value::from(&owned), value);
+        assert_eq!(owned.is_null(), value.is_null());
+        assert_eq!(owned.as_bool(), value.as_bool());
+        assert_eq!(owned.as_i64(), value.as_i64());
+        assert_eq!(owned.as_f64(), value.as_f64());
+        assert_eq!(owned.as_str(), value.as_str());
+        assert_eq!(owned.as_bytes(), value.as_bytes());
+        for other in VALUES {
+            assert_eq!(owned == other, value == other);
+        }
     }
-    assert_eq!(row.get(VALUES.len()), None);
-    assert_eq!(row.external_columns().collect::<Vec<_>>(), [11, 12, 13, 14]);
-    let texts: String = VALUES.iter().filter_map(|value| value.as_str()).collect();
-    assert_eq!(row.text(), texts);
-    assert!(matches!(row.value(4), Value::Double(x) if x.is_sign_negative()));
+    assert_eq!(
+        Value::Binary(&[7]).into_owned(),
+        OwnedValue::Binary(vec![7])
+    );
+    assert_ne!(Value::Binary(&[7]).into_owned(), Value::Blob(&[7]));
+}
+
+#[test]
+fn booleans() {
+    assert_eq!(Value::Boolean(true).as_bool(), Some(true));
+    assert_eq!(Value::Boolean(false).as_bool(), Some(false));
+    let others = VALUES.into_iter().filter(|v| *v != Value::Boolean(true));
+    assert!(others.map(Value::as_bool).all(|truth| truth.is_none()));
 }
 
 /// `as_i64` and `as_f64` take the values that the published Rust's take, of each sort.
@@ -181,10 +207,7 @@ fn bytes_of_words() {
 
 #[test]
 fn floats_carry_their_bits() {
-    let little = Column {
-        byte_order: ByteOrder::LittleEndian,
-        ..column(Db2Type::Real)
-    };
+    let little = column(Db2Type::Real).with_byte_order(ByteOrder::LittleEndian);
     let columns = [little, column(Db2Type::Real), column(Db2Type::Double)];
     for bits in [
         0x7FA0_0001_u32,
@@ -202,9 +225,9 @@ fn floats_carry_their_bits() {
         .concat();
         let row = decode_row(&row, &columns).unwrap();
         for k in [0, 1] {
-            assert!(matches!(row.value(k), Value::Real(x) if x.to_bits() == bits));
+            assert!(matches!(row.values[k], OwnedValue::Real(x) if x.to_bits() == bits));
         }
-        assert!(matches!(row.value(2), Value::Double(x) if x.to_bits() == double));
+        assert!(matches!(row.values[2], OwnedValue::Double(x) if x.to_bits() == double));
     }
 }
 
@@ -221,6 +244,16 @@ fn one_row_after_another_without_allocation() {
         let few: &[u8] = &bytes[..5];
         assert!(decode_row_into(few, &columns, &mut buffers).is_err());
     }
+    assert_eq!(ALLOCATIONS.with(Cell::get), before);
+
+    let block = bytes.repeat(4);
+    let mut rows = Rows::new(&block, &columns);
+    assert!(rows.next_row().is_some());
+    let before = ALLOCATIONS.with(Cell::get);
+    for _ in 0..3 {
+        assert!(rows.next_row().unwrap().unwrap().values().eq(VALUES));
+    }
+    assert!(rows.next_row().is_none());
     assert_eq!(ALLOCATIONS.with(Cell::get), before);
 }
 
@@ -242,13 +275,13 @@ fn buffers_serve_narrow_rows_after_wide_ones() {
 /// More than is set aside before a row asks for it.
 #[test]
 fn a_long_text() {
-    let columns = [with_ccsid(Db2Type::LongVarChar, 819)];
+    let columns = [column(Db2Type::LongVarChar).with_ccsid(819)];
     let mut bytes = vec![0xE9; 65_537];
     bytes[..2].fill(0xFF);
     bytes.splice(0..0, [0xFF, 0x00]);
     let text = "é".repeat(65_535);
     let row = decode_row(&bytes, &columns).unwrap();
-    assert!(row.value(0) == Value::VarChar(&text));
+    assert!(row.values == [Value::VarChar(&text)]);
     let mut buffers = Buffers::new();
     let row = decode_row_into(&bytes, &Columns::from(&columns[..]), &mut buffers).unwrap();
     assert!(row.value(0) == Value::VarChar(&text));
@@ -258,8 +291,11 @@ fn a_long_text() {
 #[test]
 fn a_row_without_columns() {
     let row = decode_row(&[0xFF, 0x41], &[]).unwrap();
+    assert_eq!((row.values.len(), row.used), (0, 2));
+    let mut buffers = Buffers::new();
+    let row = decode_row_into(&[0xFF, 0x41], &Columns::default(), &mut buffers).unwrap();
     assert!(row.is_empty());
-    assert_eq!(row.used(), 2);
+    assert_eq!((row.len(), row.used()), (0, 2));
 }
 
 #[test]
@@ -282,6 +318,7 @@ fn refusals() {
     assert_eq!(
         short,
         Refusal::BufferTooShort {
+            column: 0,
             expected: 4,
             actual: 3
         }
@@ -289,7 +326,7 @@ fn refusals() {
     assert_eq!(short.number(), 8);
     assert_eq!(
         short.to_string(),
-        "refusal 8: too short: 4 bytes expected, 3 there"
+        "refusal 8: too short in column 0: 4 bytes expected, 3 there"
     );
 }
 
@@ -307,11 +344,14 @@ fn a_refusal_changes_no_buffer() {
     let mut text = vec![7; needed + 1];
 
     let answer = raw::decode_row(columns.words(), &bytes, &mut values[..65], &mut text);
-    let expected = RowAnswer {
+    let refused = RowAnswer {
         number: TOO_FEW_WORDS,
-        first: 66,
-        second: 0,
+        used: 0,
+        text_length: 0,
+        expected: 0,
+        actual: 0,
     };
+    let expected = refused;
     assert_eq!(answer, expected);
     let answer = raw::decode_row(
         columns.words(),
@@ -321,8 +361,16 @@ fn a_refusal_changes_no_buffer() {
     );
     let expected = RowAnswer {
         number: TEXT_BUFFER_TOO_SHORT,
-        first: needed as u64,
-        second: 0,
+        text_length: needed,
+        ..refused
+    };
+    assert_eq!(answer, expected);
+    let answer = raw::decode_row(columns.words(), &bytes[..5], &mut values, &mut text);
+    let expected = RowAnswer {
+        number: BUFFER_TOO_SHORT,
+        expected: 2,
+        actual: 1,
+        ..refused
     };
     assert_eq!(answer, expected);
     assert!(values.iter().all(|&word| word == 7) && text.iter().all(|&byte| byte == 7));
@@ -330,8 +378,9 @@ fn a_refusal_changes_no_buffer() {
     let answer = raw::decode_row(columns.words(), &bytes, &mut values, &mut text);
     let expected = RowAnswer {
         number: ACCEPTED,
-        first: bytes.len() as u64,
-        second: needed as u64,
+        used: bytes.len(),
+        text_length: needed,
+        ..refused
     };
     assert_eq!(answer, expected);
     assert_eq!((values[66], text[needed]), (7, 7));

@@ -1,5 +1,5 @@
 // Inner. The row call on plain words, for C and Rust: columns are read from lent words, values are written into lent words, texts into a lent
-// buffer. What it costs grows with the columns used: no list of 128 places is made. crates/exported has the refusals before the body.
+// buffer. What it costs grows with the columns used: no list of 128 places is made. crates/vejupa has the refusals before the body.
 mod needs;
 mod puts;
 mod tags;

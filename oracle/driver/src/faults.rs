@@ -105,7 +105,7 @@ const REPLACEMENT: &[u8] = "\u{FFFD}".as_bytes();
 fn whole(leaf: Leaf, data: &[u8]) -> Option<Vec<u8>> {
     let mut text = vec![0; ample(data.len()) + 300];
     let outcome = Archive.write(leaf, data, &mut text);
-    text.truncate(outcome.len as usize);
+    text.truncate(outcome.text_length);
     (outcome.number == 0).then_some(text)
 }
 
@@ -117,7 +117,7 @@ fn deliver(other: &[u8], text: &mut [u8]) -> Outcome {
     }
     Outcome {
         number: refusal,
-        len: other.len() as u64,
+        text_length: other.len(),
     }
 }
 
@@ -195,7 +195,12 @@ impl Faulty {
 
     /// The wrong outcome, where the fault is one of a limit.
     fn wrong_limit(&self, leaf: Leaf, data: &[u8], text: &mut [u8]) -> Option<Outcome> {
-        let refuse = |number| Some(Outcome { number, len: 0 });
+        let refuse = |number| {
+            Some(Outcome {
+                number,
+                text_length: 0,
+            })
+        };
         let decimal = matches!(leaf, Leaf::Decimal { .. });
         match self.0 {
             Fault::LimitEarly if !decimal && data.len() == TEXT_LIMIT => refuse(4),
@@ -224,15 +229,15 @@ impl Faulty {
 
     /// The archive's outcome with the fault put into it, where the fault is one of numbers or of other bytes.
     fn wrong_outcome(&self, mut outcome: Outcome, data: &[u8], text: &mut [u8]) -> Outcome {
-        let length = outcome.len as usize;
+        let length = outcome.text_length;
         match (self.0, outcome.number) {
-            (Fault::LengthShort, 0) if length > 0 => outcome.len -= 1,
-            (Fault::LengthLong, 0) => outcome.len += 1,
+            (Fault::LengthShort, 0) if length > 0 => outcome.text_length -= 1,
+            (Fault::LengthLong, 0) => outcome.text_length += 1,
             (Fault::AfterText, 0) if text.len() > length.max(ample(data.len())) => {
                 text[length] ^= 0x55
             }
             (Fault::ChangedOnRefusal, 9) if !text.is_empty() => text[0] ^= 0x55,
-            (Fault::NeededLong, 9) => outcome.len += 1,
+            (Fault::NeededLong, 9) => outcome.text_length += 1,
             (Fault::RefusedAtFit, 0) if length > 0 && length == text.len() => outcome.number = 9,
             _ => {}
         }

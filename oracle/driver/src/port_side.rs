@@ -68,19 +68,19 @@ impl<L: Library> PortSide<L> {
         }
         let Outcome {
             number: refusal,
-            len: length,
+            text_length: length,
         } = self.call(leaf, data, 0);
         if !self.buffer.kept(0, 0) {
             return Answer::BadRest;
         }
         let most = ample(data.len()) + SPARE;
         match refusal {
-            0 | 9 if length > most as u64 || (refusal == 0) != (length == 0) => Answer::Bad9,
-            0 | 9 => self.written(leaf, data, length as usize),
+            0 | 9 if length > most || (refusal == 0) != (length == 0) => Answer::Bad9,
+            0 | 9 => self.written(leaf, data, length),
             _ => {
                 let first = Outcome {
                     number: refusal,
-                    len: length,
+                    text_length: length,
                 };
                 self.refused(leaf, data, first)
             }
@@ -96,7 +96,7 @@ impl<L: Library> PortSide<L> {
     fn written(&mut self, leaf: Leaf, data: &[u8], length: usize) -> Answer<'_> {
         let accepted = Outcome {
             number: 0,
-            len: length as u64,
+            text_length: length,
         };
         if self.call(leaf, data, length) != accepted {
             return Answer::Bad9;
@@ -108,7 +108,8 @@ impl<L: Library> PortSide<L> {
         self.text.extend_from_slice(self.buffer.first(length));
         if length > 0 {
             let short = self.call(leaf, data, length - 1);
-            if (short.number, short.len) != (9, length as u64) || !self.buffer.kept(0, length - 1) {
+            if (short.number, short.text_length) != (9, length) || !self.buffer.kept(0, length - 1)
+            {
                 return Answer::Bad9;
             }
         }
@@ -131,7 +132,7 @@ impl<L: Library> PortSide<L> {
     /// A refusal but 9: the same with a buffer in which any text fits, with length 0 and no byte changed.
     fn refused(&mut self, leaf: Leaf, data: &[u8], first: Outcome) -> Answer<'_> {
         let size = ample(data.len()) + SPARE;
-        if self.call(leaf, data, size) != first || first.len != 0 {
+        if self.call(leaf, data, size) != first || first.text_length != 0 {
             return Answer::Bad9;
         }
         if !self.buffer.kept(0, size) {

@@ -1,4 +1,4 @@
-//! The calls of the static library libexported.a, as the crate `vejupa` of bindings/rust has them: what is compared is what its users call.
+//! The calls of the static library libvejupa.a, as the crate `vejupa` of bindings/rust has them: what is compared is what its users call.
 //! Columns and values are taken apart here by code of the driver's own, so that an error of that crate does not hide one of the library.
 pub mod column;
 pub mod value;

@@ -142,7 +142,7 @@ impl<L: Library> Run<L> {
         // The format has no line for a word that is no type's: the call is named, so that no one takes it for a request.
         let request = match asked {
             Some(asked) => Request::FixedLength(asked).to_string(),
-            None => format!("vejupa_fixed_length(0x{word:X})"),
+            None => format!("vejupa_raw_fixed_length(0x{word:X})"),
         };
         Break(End::Different(Box::new(Difference {
             rust: format!("{request} {rust}"),

@@ -150,7 +150,7 @@ impl Faulty {
     /// The wrong answer, where the fault is one of the numbers.
     fn wrong_number(&self, data: &[u8], answer: Described, lent: usize) -> Option<Described> {
         let refuse = |number| Some(Described { number, count: 0 });
-        let count = answer.count as usize;
+        let count = answer.count;
         match (self.0, answer.number) {
             (Fault::BytesEarly, 0) if data.len() == DESCRIPTION_LIMIT => refuse(1),
             (Fault::ColumnsEarly, 0 | TOO_FEW_WORDS) if count == COLUMN_LIMIT => refuse(2),
@@ -160,7 +160,7 @@ impl Faulty {
             }
             (Fault::TooFewFirst, 2) if lent == 0 => Some(Described {
                 number: TOO_FEW_WORDS,
-                count: COLUMN_LIMIT as u64 + 1,
+                count: COLUMN_LIMIT + 1,
             }),
             (Fault::CountOn101, TOO_FEW_WORDS) => Some(Described {
                 count: answer.count + 1,
@@ -199,7 +199,7 @@ impl Faulty {
     /// Puts the fault into the words, where it is one of them.
     fn wrong_words(&self, answer: Described, words: &mut [u64]) {
         let used = match answer.number {
-            0 => 2 * answer.count as usize,
+            0 => 2 * answer.count,
             _ => 0,
         };
         for pair in words[..used].as_chunks_mut::<2>().0 {
@@ -240,7 +240,7 @@ impl Library for Faulty {
         match self.0 {
             Fault::GraphicCharacters if is(Name::Graphic) => answer.length /= 2,
             Fault::LobBit if is(Name::LobBytes) && answer.number == 0 => {
-                answer.length = type_word >> 8;
+                answer.length = (type_word >> 8) as usize;
             }
             Fault::HighBitTaken => return Archive.fixed_length(type_word & !(1 << 40)),
             _ => {}
@@ -308,7 +308,7 @@ mod tests {
             Fault::ColumnsFirst => "",
             Fault::GraphicCharacters => "F Graphic.1 A 1",
             Fault::LobBit => "F LobBytes.32768 A 32768",
-            Fault::HighBitTaken => "vejupa_fixed_length(0x10000000000) A 2",
+            Fault::HighBitTaken => "vejupa_raw_fixed_length(0x10000000000) A 2",
         };
         line.to_string()
     }

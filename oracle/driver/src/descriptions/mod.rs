@@ -40,7 +40,7 @@ pub enum Description {
 /// What a side answers to a type. The last two only the port's side gives.
 #[derive(Debug, Clone, PartialEq, Eq)]
 pub enum FixedLength {
-    Bytes(u64),
+    Bytes(usize),
     Varies,
     /// A number other than 0.
     Refusal(u32),

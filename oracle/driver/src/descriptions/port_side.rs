@@ -49,8 +49,8 @@ impl<L: Library> PortSide<L> {
     pub fn describe(&mut self, data: &[u8]) -> Description {
         let first = self.call(data, MANY);
         match first.number {
-            0 if first.count <= COLUMN_LIMIT as u64 => {
-                let count = first.count as usize;
+            0 if first.count <= COLUMN_LIMIT => {
+                let count = first.count;
                 let columns = self.columns(count);
                 if !self.words.kept(2 * count, MANY) {
                     return Description::BadRest;

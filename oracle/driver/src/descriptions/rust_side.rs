@@ -22,7 +22,7 @@ pub fn parsed(data: &[u8]) -> Vec<ColumnDescriptor> {
 
 pub fn fixed_length(asked: Type) -> FixedLength {
     match published_type(asked).fixed_length() {
-        Some(length) => FixedLength::Bytes(length as u64),
+        Some(length) => FixedLength::Bytes(length),
         None => FixedLength::Varies,
     }
 }

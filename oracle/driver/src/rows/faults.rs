@@ -36,10 +36,10 @@ faults! {
     LongFirst,
     /// Refusal 5 comes before 4.
     DecFloatFirst,
-    /// 101 with the number of columns.
-    ColumnsNeeded,
-    /// 101 with a second number.
-    LentToo,
+    /// 101 with the number of words needed.
+    TooFewWithNeeded,
+    /// 101 with the number of words lent.
+    TooFewWithLent,
     /// Refusal 4 at the limit.
     RowEarly,
     /// No refusal 4 one above the limit.
@@ -217,8 +217,10 @@ faults! {
     NineWritesValues,
     /// Refusal 9 with one byte more than needed.
     NineLong,
-    /// Refusal 9 with a second number.
+    /// Refusal 9 with the bytes lent.
     NineWithLent,
+    /// Refusal 9 with the bytes that the row would use.
+    NineWithUsed,
     /// No text is written.
     NoText,
     /// A text is taken for well-formed where that of the column before it is,
@@ -231,8 +233,14 @@ faults! {
     ByteAfterChanged,
     /// The bytes used for the bytes of text.
     TextsCountedWrong,
+    /// An accepted row with a number of refusal 8.
+    ExpectedLeft,
     /// The words change with refusal 8.
     ShortWritesValues,
+    /// Refusal 8 with the bytes used up to it.
+    ShortWithUsed,
+    /// Refusal 8 with its numbers in the other order.
+    ShortSwapped,
 }
 
 #[cfg(test)]

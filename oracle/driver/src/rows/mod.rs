@@ -103,7 +103,7 @@ impl List {
 pub fn request(list: &List, data: &[u8]) -> String {
     if !list.has_line() {
         let words: Vec<String> = list.words.iter().map(|word| format!("{word:X}")).collect();
-        return format!("vejupa_decode_row({}; {})", words.join(" "), Hex(data));
+        return format!("vejupa_raw_decode_row({}; {})", words.join(" "), Hex(data));
     }
     let columns: String = list
         .columns
@@ -124,11 +124,11 @@ pub struct Answer {
 #[derive(Debug, Clone, Copy, PartialEq, Eq)]
 pub enum Outcome {
     Accepted {
-        used: u64,
+        used: usize,
     },
     TooShort {
-        expected: u64,
-        actual: u64,
+        expected: usize,
+        actual: usize,
     },
     /// Any other refusal by its number.
     Refusal(u32),
@@ -174,7 +174,7 @@ impl Answer {
         }
     }
 
-    fn accepted(&self, used: u64, data: &[u8]) -> String {
+    fn accepted(&self, used: usize, data: &[u8]) -> String {
         let (words, _) = self.values.as_chunks::<VALUE_WORDS>();
         let mut external = Vec::new();
         let mut values = String::new();

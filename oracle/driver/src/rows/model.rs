@@ -73,14 +73,20 @@ fn low15(number: u16) -> usize {
 }
 
 fn refused(number: u32) -> Decoded {
-    told(number, 0, 0)
-}
-
-fn told(number: u32, first: usize, second: usize) -> Decoded {
     Decoded {
         number,
-        first: first as u64,
-        second: second as u64,
+        used: 0,
+        text_length: 0,
+        expected: 0,
+        actual: 0,
+    }
+}
+
+fn too_short(expected: usize, actual: usize) -> Decoded {
+    Decoded {
+        expected,
+        actual,
+        ..refused(8)
     }
 }
 
@@ -153,9 +159,15 @@ impl Model {
             }
         };
         let too_few = match self.0 {
-            Some(Fault::ColumnsNeeded) => told(TOO_FEW_WORDS, count, 0),
-            Some(Fault::LentToo) => told(TOO_FEW_WORDS, needed, lent),
-            _ => told(TOO_FEW_WORDS, needed, 0),
+            Some(Fault::TooFewWithNeeded) => Decoded {
+                expected: needed,
+                ..refused(TOO_FEW_WORDS)
+            },
+            Some(Fault::TooFewWithLent) => Decoded {
+                text_length: lent,
+                ..refused(TOO_FEW_WORDS)
+            },
+            _ => refused(TOO_FEW_WORDS),
         };
         if few && self.has(Fault::TooFewFirst) {
             return Err(too_few);
@@ -205,6 +217,36 @@ impl Model {
         }
     }
 
+    /// Refusal 8 at a place of the row.
+    fn short(&self, at: usize, expected: usize, actual: usize) -> Decoded {
+        let short = too_short(expected, actual);
+        match self.0 {
+            Some(Fault::ShortWithUsed) => Decoded { used: at, ..short },
+            Some(Fault::ShortSwapped) => too_short(actual, expected),
+            _ => short,
+        }
+    }
+
+    /// Refusal 9 of a row whose texts have so many bytes.
+    fn nine(&self, texts: usize, lent: usize, used: usize) -> Decoded {
+        let nine = Decoded {
+            text_length: texts,
+            ..refused(9)
+        };
+        match self.0 {
+            Some(Fault::NineLong) => Decoded {
+                text_length: texts + 1,
+                ..nine
+            },
+            Some(Fault::NineWithLent) => Decoded {
+                actual: lent,
+                ..nine
+            },
+            Some(Fault::NineWithUsed) => Decoded { used, ..nine },
+            _ => nine,
+        }
+    }
+
     /// The values with their rests' places, and the bytes used; or the refusal.
     fn walk(
         &self,
@@ -221,7 +263,7 @@ impl Model {
                     Some(Fault::IndicatorFromRow) => 0,
                     _ => skip,
                 };
-                let short = told(8, at + 1 - from, data.len() - from.min(data.len()));
+                let short = self.short(at, at + 1 - from, data.len() - from.min(data.len()));
                 let indicator = *data.get(at).ok_or(short)?;
                 at += 1;
                 if self.is_null(indicator) {
@@ -243,7 +285,7 @@ impl Model {
             };
             let (found, used) = self
                 .value(&data[at..], column)
-                .map_err(|need| told(8, at - from + need, data.len() - from))?;
+                .map_err(|need| self.short(at, at - from + need, data.len() - from))?;
             values.push((found, at));
             at += used;
         }
@@ -756,11 +798,9 @@ impl Model {
             match self.0 {
                 Some(Fault::NineWritesText) if !text.is_empty() => text[0] ^= 0x55,
                 Some(Fault::NineWritesValues) if !values.is_empty() => values[0] ^= 0x55,
-                Some(Fault::NineLong) => return told(9, texts.len() + 1, 0),
-                Some(Fault::NineWithLent) => return told(9, texts.len(), text.len()),
                 _ => {}
             }
-            return told(9, texts.len(), 0);
+            return self.nine(texts.len(), text.len(), used);
         }
         let taken = words.len().min(values.len());
         values[..taken].copy_from_slice(&words[..taken]);
@@ -774,12 +814,22 @@ impl Model {
         if self.has(Fault::ByteAfterChanged) && text.len() > texts.len() + 20 {
             text[texts.len()] = 0;
         }
-        let second = if self.has(Fault::TextsCountedWrong) {
+        let text_length = if self.has(Fault::TextsCountedWrong) {
             used
         } else {
             texts.len()
         };
-        told(0, used, second)
+        let expected = if self.has(Fault::ExpectedLeft) {
+            used
+        } else {
+            0
+        };
+        Decoded {
+            used,
+            text_length,
+            expected,
+            ..refused(0)
+        }
     }
 }
 

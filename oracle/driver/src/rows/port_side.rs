@@ -46,6 +46,32 @@ pub struct PortSide<L> {
     turn: usize,
 }
 
+/// An answer whose other numbers are all 0.
+fn plain(number: u32) -> Decoded {
+    Decoded {
+        number,
+        used: 0,
+        text_length: 0,
+        expected: 0,
+        actual: 0,
+    }
+}
+
+fn accepted(used: usize, text_length: usize) -> Decoded {
+    Decoded {
+        used,
+        text_length,
+        ..plain(0)
+    }
+}
+
+fn nine(text_length: usize) -> Decoded {
+    Decoded {
+        text_length,
+        ..plain(9)
+    }
+}
+
 impl<L: Library> PortSide<L> {
     pub fn new(library: L) -> Self {
         PortSide {
@@ -72,17 +98,15 @@ impl<L: Library> PortSide<L> {
         let words = VALUE_WORDS * (columns.len() / 2);
         let first = self.call(columns, data, words, 0);
         let texts = match first.number {
-            0 if first.second == 0 => 0,
-            9 if first.first > 0 && first.second == 0 => first.first,
+            0 if first == accepted(first.used, 0) => 0,
+            9 if first.text_length > 0 && first == nine(first.text_length) => first.text_length,
             0 | 9 => return Outcome::Bad(Bad::Nine),
             _ => return self.refused(columns, data, first),
         };
-        match usize::try_from(texts) {
-            Ok(texts) if texts <= ample(columns.len() / 2, data.len()) => {
-                self.accepted(columns, data, first, texts)
-            }
-            _ => Outcome::Bad(Bad::Nine),
+        if texts > ample(columns.len() / 2, data.len()) {
+            return Outcome::Bad(Bad::Nine);
         }
+        self.accepted(columns, data, first, texts)
     }
 
     /// A call with so many words for values and bytes for texts.
@@ -109,20 +133,20 @@ impl<L: Library> PortSide<L> {
         } else {
             first
         };
-        if (exact.number, exact.second) != (0, texts as u64) {
+        if exact != accepted(exact.used, texts) {
             return Outcome::Bad(Bad::Nine);
         }
         if !self.values.kept(words, words) || !self.text.kept(texts, texts) {
             return Outcome::Bad(Bad::Rest);
         }
-        self.answer.set(Outcome::Accepted { used: exact.first });
+        self.answer.set(Outcome::Accepted { used: exact.used });
         self.answer
             .values
             .extend_from_slice(self.values.first(words));
         self.answer.text.extend_from_slice(self.text.first(texts));
         // More of both; of the text around the lengths from which on no text can fail to fit.
         let enough = ample(columns.len() / 2, data.len());
-        let just = ample(columns.len() / 2, (exact.first as usize).min(data.len()));
+        let just = ample(columns.len() / 2, exact.used.min(data.len()));
         let sizes = [
             texts + 1,
             texts + 7,
@@ -142,12 +166,7 @@ impl<L: Library> PortSide<L> {
         if texts > 0 {
             let words = words + self.turn % 2;
             let short = self.call(columns, data, words, texts - 1);
-            let nine = Decoded {
-                number: 9,
-                first: texts as u64,
-                second: 0,
-            };
-            if short != nine || !self.kept(words, texts - 1) {
+            if short != nine(texts) || !self.kept(words, texts - 1) {
                 return Outcome::Bad(Bad::Nine);
             }
         }
@@ -172,12 +191,7 @@ impl<L: Library> PortSide<L> {
             return true;
         }
         let words = [needed - 1, 0, needed - 1, needed / 2][self.turn % 4];
-        let too_few = Decoded {
-            number: TOO_FEW_WORDS,
-            first: needed as u64,
-            second: 0,
-        };
-        self.call(columns, data, words, bytes) == too_few && self.kept(words, bytes)
+        self.call(columns, data, words, bytes) == plain(TOO_FEW_WORDS) && self.kept(words, bytes)
     }
 
     /// A refusal but 9: the same with room for all and more, and nothing changed. All but refusal 3 come after 101.
@@ -201,16 +215,19 @@ impl<L: Library> PortSide<L> {
         }
         let Decoded {
             number,
-            first,
-            second,
+            expected,
+            actual,
+            ..
         } = first;
+        let short = Decoded {
+            expected,
+            actual,
+            ..plain(8)
+        };
         match number {
-            8 => Outcome::TooShort {
-                expected: first,
-                actual: second,
-            },
+            8 if first == short => Outcome::TooShort { expected, actual },
             TOO_FEW_WORDS => Outcome::Bad(Bad::TooFew),
-            _ if (first, second) != (0, 0) => Outcome::Bad(Bad::Rest),
+            _ if first != plain(number) => Outcome::Bad(Bad::Rest),
             _ => Outcome::Refusal(number),
         }
     }
@@ -221,12 +238,7 @@ impl<L: Library> PortSide<L> {
             return false;
         };
         let (words, bytes) = (answer.values.len(), answer.text.len());
-        let decoded = Decoded {
-            number: 0,
-            first: used,
-            second: bytes as u64,
-        };
-        self.call(columns, data, words, bytes) == decoded
+        self.call(columns, data, words, bytes) == accepted(used, bytes)
             && self.values.first(words) == answer.values
             && self.text.first(bytes) == answer.text
             && self.values.kept(words, words)

@@ -47,14 +47,11 @@ pub fn answer_into(list: &List, data: &[u8], answer: &mut Answer) {
     let (values, used) = match decode_row(data, &list.published) {
         Ok(decoded) => decoded,
         Err(ProtoError::BufferTooShort { expected, actual }) => {
-            return answer.set(Outcome::TooShort {
-                expected: expected as u64,
-                actual: actual as u64,
-            });
+            return answer.set(Outcome::TooShort { expected, actual });
         }
         Err(other) => panic!("the Rust refuses a row otherwise: {other}"),
     };
-    answer.set(Outcome::Accepted { used: used as u64 });
+    answer.set(Outcome::Accepted { used });
     let skip = if data.len() >= 2 && data[0] == 0xFF {
         2
     } else {

@@ -119,7 +119,7 @@ impl<L: Library> Smallest<'_, L> {
         let used = |columns: &[Column]| {
             let list = List::of(columns);
             match rust_side::answer(&list, &self.data).outcome {
-                super::Outcome::Accepted { used } => Some(used as usize),
+                super::Outcome::Accepted { used } => Some(used),
                 _ => None,
             }
         };

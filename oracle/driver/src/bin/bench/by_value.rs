@@ -1,4 +1,4 @@
-//! The calls by value, from the archive libby_value.a beside libexported.a: each answers one number of what the call hands back.
+//! The calls by value, from the archive libby_value.a beside libvejupa.a: each answers one number of what the call hands back.
 use db2_proto::fdoca::ColumnDescriptor;
 use differential::descriptions::rust_side::parsed;
 

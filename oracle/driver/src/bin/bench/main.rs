@@ -151,7 +151,7 @@ fn same<'a>(line: &'a Line, lent: &mut Lent) -> Result<(), &'a [u8]> {
             &Call::Leaf(leaf) => {
                 let rust = rust_side::text(leaf, text);
                 let outcome = Archive.write(leaf, text, &mut lent.text[..ample(text.len())]);
-                let written = &lent.text[..outcome.len as usize];
+                let written = &lent.text[..outcome.text_length];
                 outcome.number == 0 && rust.as_bytes() == written
             }
             Call::Copy => true,
@@ -220,7 +220,7 @@ fn port_texts(leaf: Leaf, texts: &[Vec<u8>], sizes: &[usize], buffer: &mut [u8])
     batch(texts, |text| {
         let size = *sizes.next().expect("a size for each text");
         let outcome = Archive.write(leaf, text, &mut buffer[..size]);
-        read(&buffer[..outcome.len as usize])
+        read(&buffer[..outcome.text_length])
     })
 }
 

@@ -49,7 +49,7 @@ impl Table {
         let described = port::parse_qrydsc(&description, &mut words);
         assert_eq!(
             (described.number, described.count),
-            (0, kinds.len() as u64),
+            (0, kinds.len()),
             "the description is read"
         );
         Table {
@@ -364,7 +364,7 @@ fn port_rows(table: &Table, rows: &[Vec<u8>], sizes: &[usize], lent: &mut Lent) 
         let text = &mut lent.text[..size];
         let decoded = port::decode_row(black_box(&table.words), row, values, text);
         black_box((values, text));
-        decoded.first
+        decoded.used as u64
     })
 }
 

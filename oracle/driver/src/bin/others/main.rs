@@ -87,7 +87,7 @@ fn line(
         [
             &|buffer| copied(&text, buffer),
             &|buffer| {
-                let length = Archive.write(leaf, &text, buffer).len;
+                let length = Archive.write(leaf, &text, buffer).text_length;
                 read(&buffer[..length as usize])
             },
             &|_| read(rust_side::text(leaf, &text).as_bytes()),

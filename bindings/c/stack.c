@@ -1,0 +1,112 @@
+/* How much stack the calls take: each is made on a stack of its own, filled with a pattern first, whose bytes are then counted from the end that stayed. It
+ * prints one line, and fails where a call took more than the header says. Long texts take other ways through the library than short ones, so there
+ * are both. tools/check-bindings compiles and runs it. */
+#define _XOPEN_SOURCE 700
+#include <stdio.h>
+#include <stdlib.h>
+#include <ucontext.h>
+
+#include "vejupa.h"
+
+#define SAID 2500 /* what the header says of a call's own stack; memset has been looked up here before */
+#define PATTERN 0xA5
+
+static uint8_t stack[1 << 16];
+static ucontext_t back, there;
+
+static uint8_t data[30000];
+static size_t data_len;
+static uint16_t ccsid;
+static size_t text_room;
+static uint8_t text[3 * sizeof data + 14 + 258];
+static struct vejupa_column columns[VEJUPA_MAX_COLUMNS];
+static struct vejupa_value values[VEJUPA_MAX_COLUMNS];
+static size_t count, text_length;
+static struct vejupa_row row;
+
+static void nothing(void) {}
+static void characters(void) { (void)vejupa_decode_character_bytes(data, data_len, ccsid, text, text_room, &text_length); }
+static void graphics(void) { (void)vejupa_decode_graphic_bytes(data, data_len, ccsid, text, text_room, &text_length); }
+static void decimal(void) { (void)vejupa_decode_packed_decimal(data, 128, 31, 2, text, text_room, &text_length); }
+static void likely(void) { (void)vejupa_bytes_are_likely_text(data, data_len); }
+static void description(void) { (void)vejupa_parse_qrydsc(data, data_len, columns, VEJUPA_MAX_COLUMNS, &count); }
+static void decode(void) { (void)vejupa_decode_row(columns, 1, data, data_len, values, VEJUPA_MAX_COLUMNS, text, text_room, &row); }
+
+/* The bytes of stack that a call took, the beginning of such a stack included. */
+static size_t taken(void (*call)(void)) {
+    size_t free_bytes = 0;
+    memset(stack, PATTERN, sizeof stack);
+    if (getcontext(&there) != 0) {
+        exit(2);
+    }
+    there.uc_stack.ss_sp = stack;
+    there.uc_stack.ss_size = sizeof stack;
+    there.uc_link = &back;
+    makecontext(&there, call, 0);
+    if (swapcontext(&back, &there) != 0) {
+        exit(2);
+    }
+    while (stack[free_bytes] == PATTERN) {
+        free_bytes++;
+    }
+    return sizeof stack - free_bytes;
+}
+
+static size_t most;
+
+static void call(void (*one)(void)) {
+    size_t bytes = taken(one);
+    most = bytes > most ? bytes : most;
+}
+
+/* Every call on the first n bytes of `data`: without room for a text, with just enough, and with more than enough. */
+static void calls(size_t n) {
+    static const uint16_t ccsids[] = {1208, 819, 37, 1047, 1200, 0};
+    size_t k, turn;
+    data_len = n;
+    call(likely);
+    for (k = 0; k < sizeof ccsids / sizeof *ccsids; k++) {
+        ccsid = ccsids[k];
+        columns[0] = vejupa_make_column(k % 2 == 0 ? VEJUPA_TYPE_CHAR : VEJUPA_TYPE_GRAPHIC, (uint16_t)n, 0, 0, (uint16_t)n, ccsid);
+        for (turn = 0; turn < 3; turn++) {
+            text_room = turn == 0 ? 0 : turn == 1 ? text_length : sizeof text;
+            call(decimal);
+            call(decode);
+            call(graphics);
+            call(characters);
+        }
+    }
+}
+
+/* Characters of one, two, three and four bytes by turns, in UTF-8. */
+static void mixed(void) {
+    static const char characters_by_turns[] = "A\xC3\xA9\xE6\xBC\xA2\xF0\x9F\x98\x80";
+    size_t i;
+    for (i = 0; i < sizeof data; i++) {
+        data[i] = (uint8_t)characters_by_turns[i % (sizeof characters_by_turns - 1)];
+    }
+}
+
+int main(void) {
+    static const size_t lengths[] = {0, 7, 64, 200, 2000, sizeof data};
+    size_t fill, i, k;
+    for (fill = 0; fill < 4; fill++) {
+        for (i = 0; i < sizeof data; i++) {
+            data[i] = (uint8_t)(fill == 0 ? 'A' : fill == 1 ? 0xC1 : i * i * 31 >> 3);
+        }
+        if (fill == 3) {
+            mixed();
+        }
+        for (k = 0; k < sizeof lengths / sizeof *lengths; k++) {
+            calls(lengths[k]);
+        }
+        data_len = sizeof data;
+        call(description);
+    }
+    if (taken(nothing) > 512 || most > SAID) {
+        printf("a call took %zu bytes of stack\n", most);
+        return 1;
+    }
+    printf("no call took more than %zu bytes of stack\n", most);
+    return 0;
+}

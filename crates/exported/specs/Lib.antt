@@ -1,3 +1,0 @@
-pub mod Exported
-pub mod Descriptions
-pub mod Rows

@@ -1,0 +1,120 @@
+-- What vejupa_raw_decode_row promises, at each of its ways out. Assumes nothing.
+use Prim.Native.Nat.{ℕ, zero, suc, _+_, _-_, _*_, _/_, _≤_, _<_}
+use mathlib.Core.Path.{_≡_, refl, sym, ap, _∙_}
+use mathlib.Core.Bool.{Bool, true, false, cond}
+use mathlib.Core.List.{List, [], _∷_, _++_}
+use mathlib.Core.Option.{Option, some, none}
+use native.Mathlib.Omega.{arith}
+use borrow.Author.Tests.{lt-ltb, le-ltb}
+use lib.ListN.{length, replicate}
+use lib.Seq.{take-at}
+use Rattle.refusal.specs.Refusal.{inputLimit}
+use Rattle.types.specs.declared.ColumnDescriptor.{ColumnDescriptor}
+use Rattle.types.specs.Places.{maxColumns, filled, blankColumn, columnList}
+use Rattle.rules.specs.Walk.{Cell, skipOf}
+use Rattle.rules.specs.Row.{refuse, accept, rowTexts, anyDecFloat, covered, bodyDecision, rowDecision, textAfter}
+use Rattle.rules.specs.Conversions.{ported}
+use Rattle.words.specs.Reading.{readColumns}
+use Rattle.row_words.specs.declared.Checked.{Checked}
+use Rattle.row_words.specs.declared.Checked.the-variants.{Columns, NoColumn}
+use Rattle.row_words.specs.declared.RowOutcome.the-variants.{Accepted, TooShort, TextTooShort}
+use Rattle.row_words.specs.Rows.{valuesAfter}
+use Rattle.row_words.specs.Passes.{checkedOf, columnsNamed, Says}
+use Rattle.row_words.proofs.Named.{named-length, read-named}
+use Rattle.vejupa.specs.Answers.{tooFewNumber, noColumnNumber}
+use Rattle.vejupa.specs.Rows.{OnWords, decided, decisionFor, wordsDecision, rowNumbers, wordsLeft, textLeft}
+
+-- ---- the columns of a list in its places
+
+pub covered-list : (cs : List ColumnDescriptor) → covered (columnList cs) ≡ cs
+unfolding columnList filled
+covered-list cs = take-at cs (replicate (maxColumns - length cs) blankColumn) (length cs) refl
+
+-- ---- what was found of the words
+
+no-columns : (x : Option (List ColumnDescriptor)) → NoColumn ≡ checkedOf x → x ≡ none
+no-columns (some cs) h = let z : _≡_ {A = ℕ} 0 1 = cc in absurd (omega arith)
+no-columns none h = refl
+
+pub record Found (x : Option (List ColumnDescriptor)) (k : Bool) : Type 0 where
+  pub columns : List ColumnDescriptor
+  pub read : x ≡ some columns
+  pub floats : k ≡ anyDecFloat columns
+
+found : (x : Option (List ColumnDescriptor)) (k : Bool) → Columns k ≡ checkedOf x → Found x k
+found (some cs) k h = record { columns = cs; read = refl; floats = cc }
+found none k h = let z : _≡_ {A = ℕ} 0 1 = cc in absurd (omega arith)
+
+-- what the call hands out: its number, the bytes used, the texts' length, refusal 8's values, the words of values and the text buffer
+abbrev pub Handed : OnWords → List ℕ → List ℕ → ℕ → ℕ → ℕ → ℕ → ℕ → List ℕ → List ℕ → Type 0
+Handed e v d r n m x y words out =
+    (r ≡ rowNumbers e .returned) × ((n ≡ rowNumbers e .used) × ((m ≡ rowNumbers e .textLength) × ((x ≡ rowNumbers e .expected) × ((y ≡ rowNumbers e .actual) × ((words ≡ wordsLeft e v) × (out ≡ textLeft e d))))))
+
+module _ (w s v d : List ℕ) where
+  pub too-many : maxColumns < length w / 2 → Handed (wordsDecision w s v d) v d 3 0 0 0 0 v d
+  unfolding wordsDecision textAfter
+  too-many h = rw (lt-ltb maxColumns (length w / 2) h) (refl, (refl, (refl, (refl, (refl, (refl, refl))))))
+
+  module _ (few : length w / 2 ≤ maxColumns) where
+    pub too-few : length v < 3 * (length w / 2) → Handed (wordsDecision w s v d) v d tooFewNumber 0 0 0 0 v d
+    unfolding wordsDecision textAfter
+    too-few h = rw (le-ltb maxColumns (length w / 2) few, lt-ltb (length v) (3 * (length w / 2)) h) (refl, (refl, (refl, (refl, (refl, (refl, refl))))))
+
+    module _ (room : 3 * (length w / 2) ≤ length v) where
+      by-columns : wordsDecision w s v d ≡ decisionFor (readColumns w) s d
+      unfolding wordsDecision
+      by-columns = rw (le-ltb maxColumns (length w / 2) few, le-ltb (length v) (3 * (length w / 2)) room)
+
+      pub no-column : NoColumn ≡ checkedOf (readColumns w) → Handed (wordsDecision w s v d) v d noColumnNumber 0 0 0 0 v d
+      unfolding textAfter
+      no-column h = rw (by-columns, no-columns (readColumns w) h) (refl, (refl, (refl, (refl, (refl, (refl, refl))))))
+
+      module _ (k : Bool) (h : Columns k ≡ checkedOf (readColumns w)) where
+        here : Found (readColumns w) k
+        here = found (readColumns w) k h
+
+        named : columnsNamed w ≡ here .columns
+        named = read-named w (here .columns) (here .read)
+
+        as-row : wordsDecision w s v d ≡ decided (rowDecision ported (columnList (here .columns)) s d)
+        as-row = by-columns ∙ ap (λ (x : Option (List ColumnDescriptor)). decisionFor x s d) (here .read)
+
+        count-fits : columnList (here .columns) .count ≤ maxColumns
+        unfolding columnList
+        count-fits = omega (arith, few, named-length w, ap length named)
+
+        pub too-long : inputLimit < length s → Handed (wordsDecision w s v d) v d 4 0 0 0 0 v d
+        unfolding rowDecision textAfter
+        too-long l =
+            rw (as-row, le-ltb maxColumns (columnList (here .columns) .count) count-fits, lt-ltb inputLimit (length s) l)
+            (refl, (refl, (refl, (refl, (refl, (refl, refl))))))
+
+        module _ (short : length s ≤ inputLimit) where
+          pub dec-float : k ≡ true → Handed (wordsDecision w s v d) v d 5 0 0 0 0 v d
+          unfolding rowDecision textAfter
+          dec-float l =
+              let e : anyDecFloat (covered (columnList (here .columns))) ≡ true = rw (covered-list (here .columns)) (sym (here .floats) ∙ l) in
+              rw (as-row, le-ltb maxColumns (columnList (here .columns) .count) count-fits, le-ltb inputLimit (length s) short, e)
+              (refl, (refl, (refl, (refl, (refl, (refl, refl))))))
+
+          module _ (l : k ≡ false) where
+            as-body : wordsDecision w s v d ≡ decided (bodyDecision ported (columnsNamed w) (skipOf s) s d)
+            unfolding rowDecision
+            as-body =
+                let e : anyDecFloat (covered (columnList (here .columns))) ≡ false = rw (covered-list (here .columns)) (sym (here .floats) ∙ l) in
+                as-row
+                ∙ rw (le-ltb maxColumns (columnList (here .columns) .count) count-fits, le-ltb inputLimit (length s) short, e)
+                (rw (covered-list (here .columns), named))
+
+            -- what the row after these tests leaves
+            module _ (words out : List ℕ) (vs : words ≡ valuesAfter (bodyDecision ported (columnsNamed w) (skipOf s) s d) v) (ts : out ≡ textAfter ported (bodyDecision ported (columnsNamed w) (skipOf s) s d) d) where
+              pub accepted-row : (used m : ℕ) → Says (Accepted used m) (bodyDecision ported (columnsNamed w) (skipOf s) s d) → Handed (wordsDecision w s v d) v d 0 used m 0 0 words out
+              accepted-row used m a =
+                  let e = a .1 .0 in
+                  rw (as-body, e) (refl, (refl, (a .1 .1, (refl, (refl, (rw e at vs, rw e at ts))))))
+
+              pub too-short : (x y : ℕ) → Says (TooShort x y) (bodyDecision ported (columnsNamed w) (skipOf s) s d) → Handed (wordsDecision w s v d) v d 8 0 0 x y words out
+              too-short x y e = rw (as-body, e) (refl, (refl, (refl, (refl, (refl, (rw e at vs, rw e at ts))))))
+
+              pub text-short : (x : ℕ) → Says (TextTooShort x) (bodyDecision ported (columnsNamed w) (skipOf s) s d) → Handed (wordsDecision w s v d) v d 9 0 x 0 0 words out
+              text-short x e = rw (as-body, e) (refl, (refl, (refl, (refl, (refl, (rw e at vs, rw e at ts))))))

@@ -1,0 +1,219 @@
+-- The row call on words and decode_row are one call: for the words of columns, vejupa_raw_decode_row hands out what decode_row answers for those columns in
+-- their places. Assumes nothing.
+use Prim.Native.Nat.{ℕ, suc, _+_, _-_, _*_, _/_, _≤_, _<_}
+use mathlib.Core.Path.{_≡_, refl, sym, ap, _∙_, subst}
+use mathlib.Core.Bool.{Bool, true, false, cond, false≢true}
+use mathlib.Core.List.{List, [], _∷_, _++_}
+use mathlib.Core.Option.{Option, some}
+use native.Mathlib.Omega.{arith}
+use borrow.Author.Tests.{le-ltb, ltb-false}
+use lib.Dec.{ltb}
+use lib.ListN.{length, take, drop, getD, replicate}
+use lib.Seq.{take-at, length-take-le, getD-take}
+use Rattle.refusal.specs.Refusal.{Told, accepted, refused, toldNumber}
+use Rattle.buffer.specs.Buffer.{overwritten}
+use Rattle.types.specs.declared.ColumnDescriptor.{ColumnDescriptor}
+use Rattle.types.specs.declared.ValuePlace.{ValuePlace}
+use Rattle.types.specs.Places.{maxColumns, filled, blankValue, columnList}
+use Rattle.rules.specs.Walk.{columnNeed, Cell, cellOf, Walk, done, short, consCell, walk, walkBody, walkRow, skipOf}
+use Rattle.rules.specs.Row.{RowTold, Decision, refuse, accept, covered, rowValues, rowDecision, answerOf, textAfter}
+use Rattle.rules.specs.Conversions.{ported, rowAnswer, rowText}
+use Rattle.rules.proofs.Walks.{isDone, piecesOf, walk-step, walk-first}
+use Rattle.rules.proofs.Demand3.{facts}
+use Rattle.rules.proofs.Progress.{values-length}
+use Rattle.rules.proofs.Accepted.{all-places}
+use Rattle.triplets.specs.Descriptors.{columnsOf}
+use Rattle.qrydsc.specs.Qrydsc.{numbered, DescriptionTold, refusedDescription, listAnswer, maxQrydsc, description}
+use Rattle.qrydsc.proofs.Lists.{length-numbered}
+use Rattle.description_words.proofs.Fitting.{description-fits}
+use Rattle.words.specs.Words.{packColumns}
+use Rattle.words.specs.Reading.{readColumns}
+use Rattle.words.specs.Values.{packValues}
+use Rattle.words.specs.ValueReading.{valueNamed}
+use Rattle.words.proofs.Columns.{AllFit, reads-columns, packed-length}
+use Rattle.words.proofs.Packed.{three, packed-at}
+use Rattle.words.proofs.Values.{InRange, reads-value}
+use Rattle.unicode.specs.Laws.{AreBytes}
+use Rattle.unicode.proofs.Bytes.{bytes-drop}
+use Rattle.row_words.specs.Rows.{valuesAfter}
+use Rattle.vejupa.proofs.RowCall.{covered-list}
+use Rattle.rules.specs.Value.{valueBytes, textsTogether}
+use Rattle.rules.proofs.Answers.{filled-together}
+use Rattle.vejupa.specs.Rows.{OnWords, decided, decisionFor, wordsDecision, rowNumbers, wordsLeft, textLeft, wordsBytes}
+use Rattle.vejupa.specs.Answers.{valueOf}
+use Rattle.vejupa.proofs.ValueBytes.{three-bytes}
+use Rattle.vejupa.proofs.ValueRanges.{cons-all, walk-range, AllInRange, values-range, at-range}
+
+-- the lent words v after an answer: of an accepted row the words of its values lie over the first
+abbrev pub valuesBy : Told → List ValuePlace → List ℕ → List ℕ
+valuesBy accepted values v = overwritten (packValues values) v
+valuesBy (refused n vs) values v = v
+
+-- refusal m's value at place k, where that is the outcome; else n of an accepted row, and 0
+abbrev pub besideAnswer : ℕ → ℕ → Told → ℕ → ℕ
+besideAnswer m k accepted n = n
+besideAnswer m k (refused r vs) n = valueOf m k r vs
+
+-- ---- an accepted row has a value for each column
+
+walk-all : (start : ℕ) (cs : List ColumnDescriptor) (at : ℕ) (s : List ℕ) → isDone (walk start cs at s) ≡ true → length (piecesOf (walk start cs at s)) ≡ length cs
+unfolding walk
+walk-all start [] at s h = refl
+walk-all start (c ∷ cs) at s h =
+    let k = columnNeed c s in
+    let e = walk-step start c cs at s k refl (walk-first start c cs at s h) in
+    let a = cons-all (cellOf (c .nullable) c at (take k s)) (walk start cs (at + k) (drop k s)) (rw e at h) in
+    ap (λ (w : Walk). length (piecesOf w)) e ∙ ap length (a .1) ∙ ap suc (walk-all start cs (at + k) (drop k s) (a .0))
+
+first-places : (cs : List ColumnDescriptor) (s d : List ℕ) (ps : List Cell) (n : ℕ) → rowDecision ported (columnList cs) s d ≡ accept ps n
+    → take (length cs) (filled blankValue (rowValues ported ps 0)) ≡ rowValues ported ps 0
+unfolding filled answerOf walkBody
+first-places cs s d ps n e =
+    let f = facts ported (columnList cs) s d (ap (λ (x : Decision). answerOf ported x .outcome) e) in
+    let same : ps ≡ piecesOf (walkRow (covered (columnList cs)) s) = let decided = f .decided in cc in
+    let all = walk-all (skipOf s) (covered (columnList cs)) (skipOf s) (drop (skipOf s) s) (f .over) in
+    let count : length (rowValues ported ps 0) ≡ length cs = values-length ported ps 0 ∙ ap length same ∙ all ∙ ap length (covered-list cs) in
+    take-at (rowValues ported ps 0) (replicate (maxColumns - length (rowValues ported ps 0)) blankValue) (length cs) count
+
+module _ (cs : List ColumnDescriptor) (fit : AllFit cs) (few : length cs ≤ maxColumns) (s v d : List ℕ) (room : 3 * length cs ≤ length v) where
+  half : length (packColumns cs) / 2 ≡ length cs
+  half = omega (arith, packed-length cs)
+
+  pub same-decision : wordsDecision (packColumns cs) s v d ≡ decided (rowDecision ported (columnList cs) s d)
+  unfolding wordsDecision
+  same-decision = rw (half, le-ltb maxColumns (length cs) few, le-ltb (length v) (3 * length cs) room, reads-columns cs fit)
+
+  told-returned : (e : Decision) → rowNumbers (decided e) .returned ≡ toldNumber (answerOf ported e .outcome)
+  unfolding answerOf
+  told-returned (refuse n vs) = refl
+  told-returned (accept ps n) = refl
+
+  told-used : (e : Decision) → rowNumbers (decided e) .used ≡ answerOf ported e .used
+  unfolding answerOf
+  told-used (refuse n vs) = refl
+  told-used (accept ps n) = refl
+
+  told-length : (e : Decision) → rowNumbers (decided e) .textLength ≡ besideAnswer 9 0 (answerOf ported e .outcome) (textsTogether (answerOf ported e .places))
+  unfolding answerOf
+  told-length (refuse n vs) = refl
+  told-length (accept ps n) = sym (filled-together ported ps)
+
+  told-expected : (e : Decision) → rowNumbers (decided e) .expected ≡ besideAnswer 8 0 (answerOf ported e .outcome) 0
+  unfolding answerOf
+  told-expected (refuse n vs) = refl
+  told-expected (accept ps n) = refl
+
+  told-actual : (e : Decision) → rowNumbers (decided e) .actual ≡ besideAnswer 8 1 (answerOf ported e .outcome) 0
+  unfolding answerOf
+  told-actual (refuse n vs) = refl
+  told-actual (accept ps n) = refl
+
+  -- the number returned is that of decode_row's outcome, and the bytes used are its; the texts' length is that of the texts that it hands out, or with refusal 9
+  -- its value; refusal 8's values are its values
+  pub same-number : rowNumbers (wordsDecision (packColumns cs) s v d) .returned ≡ toldNumber (rowAnswer (columnList cs) s d .outcome)
+  unfolding rowAnswer
+  same-number = rw same-decision (told-returned (rowDecision ported (columnList cs) s d))
+
+  pub same-used : rowNumbers (wordsDecision (packColumns cs) s v d) .used ≡ rowAnswer (columnList cs) s d .used
+  unfolding rowAnswer
+  same-used = rw same-decision (told-used (rowDecision ported (columnList cs) s d))
+
+  pub same-text-length : rowNumbers (wordsDecision (packColumns cs) s v d) .textLength ≡ besideAnswer 9 0 (rowAnswer (columnList cs) s d .outcome) (textsTogether (rowAnswer (columnList cs) s d .places))
+  unfolding rowAnswer
+  same-text-length = rw same-decision (told-length (rowDecision ported (columnList cs) s d))
+
+  pub same-expected : rowNumbers (wordsDecision (packColumns cs) s v d) .expected ≡ besideAnswer 8 0 (rowAnswer (columnList cs) s d .outcome) 0
+  unfolding rowAnswer
+  same-expected = rw same-decision (told-expected (rowDecision ported (columnList cs) s d))
+
+  pub same-actual : rowNumbers (wordsDecision (packColumns cs) s v d) .actual ≡ besideAnswer 8 1 (rowAnswer (columnList cs) s d .outcome) 0
+  unfolding rowAnswer
+  same-actual = rw same-decision (told-actual (rowDecision ported (columnList cs) s d))
+
+  -- the text buffer is left as decode_row leaves it
+  pub same-text : textLeft (wordsDecision (packColumns cs) s v d) d ≡ rowText (columnList cs) s d
+  unfolding rowText
+  same-text = rw same-decision
+
+  -- the words of values are those of the values that decode_row hands out, one for each column
+  pub same-values : wordsLeft (wordsDecision (packColumns cs) s v d) v ≡ valuesBy (rowAnswer (columnList cs) s d .outcome) (take (length cs) (rowAnswer (columnList cs) s d .places)) v
+  unfolding rowAnswer answerOf
+  same-values = rw same-decision (go (rowDecision ported (columnList cs) s d) refl)
+    where
+      go : (x : Decision) → rowDecision ported (columnList cs) s d ≡ x → valuesAfter x v ≡ valuesBy (answerOf ported x .outcome) (take (length cs) (answerOf ported x .places)) v
+      go (refuse n vs) e = refl
+      go (accept ps n) e = rw (first-places cs s d ps n e)
+
+  -- an accepted row's words, from those of value k on
+  module _ (e : rowAnswer (columnList cs) s d .outcome ≡ accepted) (k : ℕ) (h : k < length cs) where
+    places : List ValuePlace
+    places = rowAnswer (columnList cs) s d .places
+
+    many : length (take (length cs) places) ≡ length cs
+    unfolding places
+    many = length-take-le (length cs) places (omega (arith, all-places (columnList cs) s d))
+
+    from : List ℕ
+    from = drop (3 * k) (wordsLeft (wordsDecision (packColumns cs) s v d) v)
+
+    behind : List ℕ
+    behind = packValues (drop (suc k) (take (length cs) places)) ++ drop (length (packValues (take (length cs) places))) v
+
+    words-are : from ≡ three (getD places k blankValue) ++ behind
+    unfolding from behind places
+    words-are =
+        ap (drop (3 * k)) (same-values ∙ ap (λ (o : Told). valuesBy o (take (length cs) places) v) e)
+        ∙ packed-at (take (length cs) places) k blankValue (drop (length (packValues (take (length cs) places))) v) (omega (arith, many))
+        ∙ ap (λ (p : ValuePlace). three p ++ behind) (getD-take (length cs) places k blankValue h)
+
+    -- of them vejupa_raw_value_bytes shows what value_bytes shows of value k of decode_row, whatever the text buffer t
+    pub same-bytes : (t : List ℕ)
+        → wordsBytes (drop (3 * k) (wordsLeft (wordsDecision (packColumns cs) s v d) v)) s t ≡ valueBytes (getD (rowAnswer (columnList cs) s d .places) k blankValue .value) s t
+    unfolding from places
+    same-bytes t = ap (λ (w : List ℕ). wordsBytes w s t) words-are ∙ three-bytes (getD places k blankValue) behind s t
+
+    in-range : AreBytes s → InRange (getD places k blankValue .value)
+    unfolding places rowAnswer answerOf walkBody
+    in-range bytes =
+        let f = facts ported (columnList cs) s d e in
+        let ps = piecesOf (walkRow (covered (columnList cs)) s) in
+        let first = first-places cs s d ps _ (f .decided) in
+        let all : AllInRange (rowValues ported ps 0) = values-range ps 0 (walk-range (skipOf s) (covered (columnList cs)) (skipOf s) (drop (skipOf s) s) (rw (covered-list cs) fit) (bytes-drop (skipOf s) s bytes) (f .over)) in
+        let here : getD places k blankValue ≡ getD (rowValues ported ps 0) k blankValue =
+        ap (λ (x : Decision). getD (answerOf ported x .places) k blankValue) (f .decided) ∙ sym (getD-take (length cs) (filled blankValue (rowValues ported ps 0)) k blankValue h) ∙ ap (λ (l : List ValuePlace). getD l k blankValue) first in
+        subst (λ (p : ValuePlace). InRange (p .value)) (sym here) (at-range (rowValues ported ps 0) k all)
+
+    -- of a row of bytes they name value k of decode_row, and whether it is external
+    pub same-value : AreBytes s
+        → valueNamed (getD (drop (3 * k) (wordsLeft (wordsDecision (packColumns cs) s v d) v)) 0 0) (getD (drop (3 * k) (wordsLeft (wordsDecision (packColumns cs) s v d) v)) 1 0)
+        (getD (drop (3 * k) (wordsLeft (wordsDecision (packColumns cs) s v d) v)) 2 0)
+        ≡ getD (rowAnswer (columnList cs) s d .places) k blankValue
+    unfolding from places
+    same-value bytes = ap (λ (w : List ℕ). valueNamed (getD w 0 0) (getD w 1 0) (getD w 2 0)) words-are ∙ reads-value (getD places k blankValue) (in-range bytes)
+
+-- ---- from a description to a row: the words that vejupa_raw_parse_qrydsc writes are taken by vejupa_raw_decode_row as the columns that parse_qrydsc hands out, never as none
+
+module _ (s v d : List ℕ) where
+  abbrev Taken : DescriptionTold → Type 0
+  Taken r = r .outcome ≡ accepted → 3 * r .columns .count ≤ length v → wordsDecision (packColumns (covered (r .columns))) s v d ≡ decided (rowDecision ported (r .columns) s d)
+
+  listed-taken : (q : List ℕ) → AreBytes q → Taken (listAnswer (columnsOf q))
+  unfolding listAnswer columnList
+  listed-taken q h = go (ltb maxColumns (length (columnsOf q))) refl
+    where
+      go : (b : Bool) → ltb maxColumns (length (columnsOf q)) ≡ b
+          → Taken (cond b (refusedDescription 2 []) (record { outcome = accepted; columns = columnList (numbered 0 (columnsOf q)) }))
+      go true e a room = absurd (let o : _≡_ {A = ℕ} 0 1 = cc in omega arith)
+      go false e a room =
+          let cs = numbered 0 (columnsOf q) in
+          let few = ltb-false maxColumns (length (columnsOf q)) e in
+          let n = length-numbered 0 (columnsOf q) in
+          rw (covered-list cs) (same-decision cs (description-fits q h (omega arith)) (omega (arith, n, few)) s v d room)
+
+  pub described-row : (q : List ℕ) → AreBytes q → Taken (description q)
+  unfolding description
+  described-row q h = go (ltb maxQrydsc (length q)) (listed-taken q h)
+    where
+      go : (b : Bool) → Taken (listAnswer (columnsOf q)) → Taken (cond b (refusedDescription 1 []) (listAnswer (columnsOf q)))
+      go true t a room = absurd (let o : _≡_ {A = ℕ} 0 1 = cc in omega arith)
+      go false t a room = t a room

@@ -1,0 +1,58 @@
+-- What vejupa_raw_decode_row answers and leaves, by what decode_row decides for the columns that the words say, and what vejupa_raw_value_bytes shows. Assumes nothing.
+use Prim.Native.Nat.{ℕ, _*_, _/_}
+use mathlib.Core.Bool.{cond}
+use mathlib.Core.List.{List, [], _∷_}
+use mathlib.Core.Option.{Option, some, none}
+use lib.Dec.{ltb}
+use lib.ListN.{length, getD}
+use Rattle.types.specs.declared.ColumnDescriptor.{ColumnDescriptor}
+use Rattle.types.specs.Places.{maxColumns, columnList}
+use Rattle.rules.specs.Row.{Decision, refuse, accept, rowTexts, rowDecision, textAfter}
+use Rattle.rules.specs.Conversions.{ported}
+use Rattle.rules.specs.Value.{valueBytes}
+use Rattle.words.specs.Reading.{readColumns}
+use Rattle.words.specs.ValueReading.{valueNamed}
+use Rattle.row_words.specs.Rows.{valuesAfter}
+use Rattle.vejupa.specs.Answers.{tooFewNumber, noColumnNumber, valueOf}
+
+-- what is decided of a row call on lent words: an answer of the words alone (D1), or what decode_row decides
+pub data OnWords : Type 0 where
+  ofWords : ℕ → OnWords
+  decided : Decision → OnWords
+
+abbrev pub decisionFor : Option (List ColumnDescriptor) → List ℕ → List ℕ → OnWords
+decisionFor none s d = ofWords noColumnNumber
+decisionFor (some cs) s d = decided (rowDecision ported (columnList cs) s d)
+
+-- for the words w of columns, the row s, the lent words v of values and the text buffer d: refusal 3, then 101, then 102, then the other refusals
+unfoldable pub wordsDecision : List ℕ → List ℕ → List ℕ → List ℕ → OnWords
+wordsDecision w s v d =
+    cond (ltb maxColumns (length w / 2)) (decided (refuse 3 []))
+    (cond (ltb (length v) (3 * (length w / 2))) (ofWords tooFewNumber)
+    (decisionFor (readColumns w) s d))
+
+-- the numbers that the call hands out: the one returned, the bytes used, the length of the texts together (written, or needed with refusal 9), refusal 8's values
+pub record RowNumbers : Type 0 where
+  pub returned : ℕ
+  pub used : ℕ
+  pub textLength : ℕ
+  pub expected : ℕ
+  pub actual : ℕ
+
+abbrev pub rowNumbers : OnWords → RowNumbers
+rowNumbers (ofWords n) = record { returned = n; used = 0; textLength = 0; expected = 0; actual = 0 }
+rowNumbers (decided (refuse n vs)) = record { returned = n; used = 0; textLength = valueOf 9 0 n vs; expected = valueOf 8 0 n vs; actual = valueOf 8 1 n vs }
+rowNumbers (decided (accept ps n)) = record { returned = 0; used = n; textLength = length (rowTexts ported ps); expected = 0; actual = 0 }
+
+-- what is left in the lent words v of values, and in the text buffer d
+abbrev pub wordsLeft : OnWords → List ℕ → List ℕ
+wordsLeft (ofWords n) v = v
+wordsLeft (decided e) v = valuesAfter e v
+
+abbrev pub textLeft : OnWords → List ℕ → List ℕ
+textLeft (ofWords n) d = d
+textLeft (decided e) d = textAfter ported e d
+
+-- the bytes of the value that the first three of the words w name, with the row s and the text buffer d; none where the words are fewer
+unfoldable pub wordsBytes : List ℕ → List ℕ → List ℕ → List ℕ
+wordsBytes w s d = cond (ltb (length w) 3) [] (valueBytes (valueNamed (getD w 0 0) (getD w 1 0) (getD w 2 0) .value) s d)

@@ -8,9 +8,9 @@ use std::iter::FusedIterator;
 use std::slice::{self, ChunksExact};
 use std::vec;
 
-/// No row of so many bytes and columns has longer texts. Where the buffer is as long, the library need not measure the texts before it
-/// writes them.
-pub(crate) fn ample(bytes: usize, columns: usize) -> usize {
+// No row of so many bytes and columns has longer texts. Where the buffer is as long, the library need not measure the texts before it
+// writes them.
+fn ample(bytes: usize, columns: usize) -> usize {
     3 * bytes + 258 * columns
 }
 

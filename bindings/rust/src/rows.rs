@@ -1,6 +1,5 @@
 //! Rows that lie one after the other.
-use crate::row::ample;
-use crate::{Buffers, Columns, OwnedRow, Refusal, Row, MAX_INPUT};
+use crate::{Buffers, Columns, OwnedRow, Refusal, Row};
 use std::fmt;
 use std::iter::FusedIterator;
 
@@ -24,7 +23,7 @@ use std::iter::FusedIterator;
 ///   `09 76 D0 05 00 02 05 00 02` the rows `FF 00 00 07` (Null, 7) and `00 00 01 00 00 02` (1, 2) laid together come out as one row, of
 ///   1792 and 256, and a refusal.
 /// - A few columns do not carry their own end (W9 in `docs/RULES.md`), and may take bytes of the rows behind them.
-/// - A block of more than [`MAX_INPUT`] bytes is refused ([`Refusal::InputTooLong`]): hand it in by parts.
+/// - A block of more than [`MAX_INPUT`](crate::MAX_INPUT) bytes is refused ([`Refusal::InputTooLong`]): hand it in by parts.
 ///
 /// ```
 /// use vejupa::{Columns, Rows};
@@ -65,8 +64,7 @@ impl<'a> Rows<'a> {
         Rows {
             rest: data,
             columns,
-            // Each row is given all the rest: with so much room no text of it is measured before it is written.
-            buffers: Buffers::with_text(ample(data.len().min(MAX_INPUT), columns.len())),
+            buffers: Buffers::new(),
             stopped: false,
         }
     }

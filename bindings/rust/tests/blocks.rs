@@ -170,6 +170,7 @@ fn a_loop_that_stops_before_other_groups() {
     while rows.rest().starts_with(&[0xFF]) {
         let Some(row) = rows.next_row() else { break };
         refusals += usize::from(row.is_err());
+        assert!(refusals <= 1);
     }
     assert_eq!((refusals, rows.rest()), (1, &[0xFF, 0, 0][..]));
 }

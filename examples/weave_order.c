@@ -159,9 +159,10 @@ static size_t print_row(const struct vejupa_column *columns, size_t count, const
 
 /* The rows of a block. What such a loop must heed:
  * - A row may use no byte (a description without columns, say): stop then, or the loop does not end.
- * - This host sends FF 00 before each row. A group that begins otherwise is no row: stop before it. Read as rows, the 62 bytes of the query's end would come
- *   out as numbers.
- * - A host that sends rows without these two bytes is misread where the first column is Null: its indicator, FF, is taken for them. */
+ * - This host sends FF 00 before each row. A group that begins otherwise is no row: stop before it. With the one SmallInt of 06 76 D0 04 00 02 the 62 bytes of
+ *   a query's end are read as 30 rows.
+ * - Rows without these two bytes are misread where the first column is Null: its indicator, FF, is taken for them. With the two SmallInts or null of
+ *   09 76 D0 05 00 02 05 00 02 the rows FF 00 00 07 (null and 7) and 00 00 01 00 00 02 (1 and 2) come out as one, 1792 and 256. */
 static void print_rows(const struct vejupa_column *columns, size_t count, const uint8_t *block, size_t block_len) {
     size_t at = 0;
     while (at < block_len && block[at] == 0xFF) {

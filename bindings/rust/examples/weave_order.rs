@@ -70,8 +70,12 @@ fn print_row(row: Result<Row, Refusal>) {
     }
 }
 
-/// The rows of a block. The host sends FF 00 before each: a group that begins otherwise is no row. The rows end by themselves at one that
-/// is refused or uses no byte.
+/// The rows of a block. What such a loop must heed:
+/// - A row may use no byte: `Rows` ends there by itself, and after a refusal.
+/// - This host sends FF 00 before each row. A group that begins otherwise is no row: stop before it. With the one SmallInt of
+///   06 76 D0 04 00 02 the 62 bytes of a query's end are read as 30 rows.
+/// - Rows without these two bytes are misread where the first column is Null: its indicator, FF, is taken for them. With the two SmallInts or
+///   null of 09 76 D0 05 00 02 05 00 02 the rows FF 00 00 07 (null and 7) and 00 00 01 00 00 02 (1 and 2) come out as one, 1792 and 256.
 fn print_rows(columns: &Columns) {
     let mut rows = Rows::new(BLOCK, columns);
     let mut at = 0;

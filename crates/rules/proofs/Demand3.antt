@@ -107,7 +107,7 @@ module _ (L : Conversions) (columns : Columns) where
       }
 
   -- a call at the same columns within the limit comes to its walk
-  call-walked : ltb maxColumns (columns .count) ≡ false → anyDecFloat cs ≡ false → (t d : List ℕ) → length t ≤ inputLimit
+  pub call-walked : ltb maxColumns (columns .count) ≡ false → anyDecFloat cs ≡ false → (t d : List ℕ) → length t ≤ inputLimit
       → rowDecision L columns t d ≡ walkDecision L (walkRow cs t) d
   unfolding rowDecision bodyDecision
   call-walked few plain t d h = rw (few, le-ltb inputLimit (length t) h, plain)

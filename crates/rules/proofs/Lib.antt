@@ -12,3 +12,4 @@ pub mod Example
 pub mod Utf8Texts
 pub mod FixedLengths
 pub mod Shown
+pub mod ShortColumn

@@ -57,18 +57,11 @@ static const uint8_t BLOCK[] = {
     0x00, 0x00, 0x00, 0x00, 0x00, 0x00, 0xFF, 0xFF,        /* */
 };
 
-/* In the order of enum vejupa_type. */
-static const char *const TYPE_NAMES[] = {
-    "SmallInt", "Integer", "BigInt", "Real", "Double", "Decimal", "DecFloat", "Char", "VarChar", "LongVarChar",
-    "Clob", "Binary", "VarBinary", "Blob", "BlobLocator", "Date", "Time", "Timestamp", "Graphic", "VarGraphic",
-    "DbClob", "ClobLocator", "DbClobLocator", "LobBytes", "LobChar", "RowId", "Boolean", "Xml", "Null",
-};
-
 static void print_column(const struct vejupa_column *column) {
     unsigned type = vejupa_column_type(column);
     unsigned numbers = vejupa_column_type_numbers(column);
     unsigned ccsid = vejupa_column_ccsid(column);
-    printf("%u %s", vejupa_column_number(column), TYPE_NAMES[type]);
+    printf("%u %s", vejupa_column_number(column), vejupa_type_name(type));
     if (type == VEJUPA_TYPE_DECIMAL) {
         printf("(%u,%u)", vejupa_decimal_precision(column), vejupa_decimal_scale(column));
     } else if (numbers != 0) {
@@ -87,7 +80,7 @@ static void print_text(struct vejupa_bytes bytes) {
     if (bytes.length == 0) {
         printf("empty");
     }
-    printf("%.*s", (int)bytes.length, (const char *)bytes.start);
+    fwrite(bytes.start, 1, bytes.length, stdout); /* a text may hold bytes 0, which would end it for printf */
 }
 
 static void print_hex(struct vejupa_bytes bytes) {
@@ -159,13 +152,13 @@ static size_t print_row(const struct vejupa_column *columns, size_t count, const
 
 /* The rows of a block. What such a loop must heed:
  * - A row may use no byte (a description without columns, say): stop then, or the loop does not end.
- * - This host sends FF 00 before each row. A group that begins otherwise is no row: stop before it. With the one SmallInt of 06 76 D0 04 00 02 the 62 bytes of
- *   a query's end are read as 30 rows.
- * - Rows without these two bytes are misread where the first column is Null: its indicator, FF, is taken for them. With the two SmallInts or null of
- *   09 76 D0 05 00 02 05 00 02 the rows FF 00 00 07 (null and 7) and 00 00 01 00 00 02 (1 and 2) come out as one, 1792 and 256. */
+ * - This host sends FF 00 before each row. What begins otherwise is no row: stop before it. With the one SmallInt of 06 76 D0 04 00 02 the 62 bytes of a
+ *   query's end are read as 30 rows. (Where rows follow a status that is no query's end, its length is the caller's to find.)
+ * - Where a host does not send them, no row must begin FF, which is skipped with the byte behind it, be it the indicator of a Null or a number below 0. With
+ *   the two SmallInts or null of 09 76 D0 05 00 02 05 00 02 the rows FF 00 00 07 (null and 7) and 00 00 01 00 00 02 (1 and 2) come out as one, 1792 and 256. */
 static void print_rows(const struct vejupa_column *columns, size_t count, const uint8_t *block, size_t block_len) {
     size_t at = 0;
-    while (at < block_len && block[at] == 0xFF) {
+    while (block_len - at >= 2 && block[at] == 0xFF && block[at + 1] == 0x00) {
         printf("\nthe row at %zu: ", at);
         size_t used = print_row(columns, count, block + at, block_len - at);
         if (used == 0) {

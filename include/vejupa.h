@@ -7,23 +7,24 @@
  *
  * What holds for every call
  *
- * - The answer returned, where there is one, is 0 (VEJUPA_ACCEPTED) or a refusal's number; vejupa_refusal_name says it in words. On a refusal no lent
- *   array is changed. Numbers behind pointers are written always, and are 0 where nothing else is said. On acceptance what lies in an array after what
- *   was written keeps what it had.
- * - Any bytes, numbers and lengths may be passed: each call tests its own input, reads and writes within what it is lent, and ends.
- * - An array is a pointer and how many elements there are. Where there are none, the pointer may be NULL. No other pointer may be.
- * - What a call writes overlaps nothing else that it is given. What is only read may overlap.
- * - Texts are UTF-8, without a byte 0 at the end; trailing blanks stay.
+ * - A call that can refuse answers 0 (VEJUPA_ACCEPTED) or a refusal's number; vejupa_refusal_name says it in words. On a refusal no lent array is changed.
+ *   Numbers behind pointers are written always, and are 0 where nothing else is said. On acceptance what lies in an array after what was written keeps
+ *   what it had.
+ * - An array is a pointer and how many elements there are. Where there are none the pointer may be NULL; any other pointer must point at what it says.
+ * - What a call writes must not overlap anything else that it is given. What is only read may overlap.
+ * - Given these two, any bytes, numbers and lengths may be passed: each call tests its own input, reads and writes within what it is lent, and ends.
+ * - Texts are UTF-8, without a byte 0 at the end, and may hold bytes 0; trailing blanks stay. Dates and times are as the host spelled them.
  * - The library keeps nothing from call to call and allocates nothing: calls that write to different memory may run at the same time. 6,000 bytes of stack
  *   are enough for any call: less than 2,500 of its own, and the rest where the dynamic linker looks up memset at the first one.
  *
- * Rows that lie one after the other: go on by `used`, and heed three things.
+ * Rows that lie one after the other, where a host sends FF 00 before each, as all do that were recorded: decode a row while the rest begins FF 00, and go on by
+ * `used`. Heed:
  *
  * - `used` may be 0 (no columns, or only such as take no bytes): stop then, or the loop does not end.
- * - A first byte FF, with at least one byte behind it, is taken for two leading bytes that a host sends before a row (FF 00), and both are skipped. So
- *   where the first column is nullable, rows must have these two: a Null's indicator, FF, would be taken for them, and the row misread.
- * - A host that sends FF 00 before each row sends other groups too, which begin 00, as the end of a query does: stop before one, or it is read as rows.
- *   Finding the end of a block is the caller's work.
+ * - What begins otherwise is no row. A group that begins 00 is a status, as a query's end is; read as rows, it comes out as numbers. Rows may follow one
+ *   that is a warning. A lone FF is a row that is cut off. Finding the end of a block, and stepping over a status, is the caller's work.
+ * - The rest handed in has at most VEJUPA_MAX_INPUT bytes, else it is refused by 4.
+ * - Where a host does not send FF 00, a row must not begin FF: two bytes are skipped all the same. An indicator of Null does so, and so does a number below 0.
  *
  * What follows a row does not change it, where it has two bytes or more, uses at least one, and each column carries its own end (W9 of docs/RULES.md). */
 #ifndef VEJUPA_H
@@ -51,7 +52,7 @@ extern "C" {
 #define VEJUPA_DECIMAL_TOO_LONG 7      /* a packed decimal of more than 128 bytes */
 #define VEJUPA_BUFFER_TOO_SHORT 8      /* the row ends before a value does; with the bytes expected and the bytes there are */
 #define VEJUPA_TEXT_BUFFER_TOO_SHORT 9 /* the texts do not fit into the lent buffer; with the length needed */
-#define VEJUPA_TOO_FEW_WORDS 101       /* there is less room than there are columns, or values */
+#define VEJUPA_TOO_LITTLE_ROOM 101     /* there is less room than there are columns, or values */
 #define VEJUPA_NO_COLUMN 102           /* what stands for a column, or for a type, is none */
 
 /* Limits. */
@@ -94,7 +95,7 @@ enum vejupa_type {
     VEJUPA_TYPE_BIG_INT = 2,
     VEJUPA_TYPE_REAL = 3,
     VEJUPA_TYPE_DOUBLE = 4,
-    VEJUPA_TYPE_DECIMAL = 5,   /* precision and scale: vejupa_decimal_numbers */
+    VEJUPA_TYPE_DECIMAL = 5,   /* precision in the low 8 bits, scale in the high 8 */
     VEJUPA_TYPE_DEC_FLOAT = 6, /* digits, at most 255 */
     VEJUPA_TYPE_CHAR = 7,      /* length */
     VEJUPA_TYPE_VAR_CHAR = 8,  /* length */
@@ -158,8 +159,8 @@ uint32_t vejupa_raw_decode_row(const uint64_t *column_words, size_t column_words
                                size_t value_words_len, uint8_t *text, size_t text_len, size_t *used, size_t *text_length, size_t *expected,
                                size_t *actual) VEJUPA_NONNULL;
 /* *bytes is {data, 0}, or any slice, before the call too. */
-void vejupa_raw_value_bytes(const uint64_t *value_words, size_t value_words_len, const uint8_t *data, size_t data_len, const uint8_t *text, size_t text_len,
-                            struct vejupa_bytes *bytes) VEJUPA_NONNULL;
+void vejupa_raw_value_bytes(const uint64_t *value_words, size_t value_words_len, const uint8_t *data, size_t data_len, const uint8_t *text,
+                            size_t text_len, struct vejupa_bytes *bytes) VEJUPA_NONNULL;
 /* `type_word` is the low 24 bits of a column's first word. */
 uint32_t vejupa_raw_fixed_length(uint64_t type_word, uint32_t *fixed, size_t *length) VEJUPA_NONNULL;
 uint32_t vejupa_raw_decode_character_bytes(const uint8_t *data, size_t data_len, uint16_t ccsid, uint8_t *text, size_t text_len,
@@ -185,14 +186,14 @@ __attribute__((used))
 #endif
 static uint32_t (*const vejupa_version_wanted)(void) = vejupa_version_0_2_0;
 
-/* An address in place of NULL, for an array without elements. */
-static inline const void *vejupa_given(const void *p) {
+/* An address for an array without elements, which may come with NULL; of any other array its own. */
+static inline const void *vejupa_given(const void *p, size_t n) {
     static const uint64_t nothing = 0;
-    return p != NULL ? p : &nothing;
+    return n != 0 ? p : &nothing;
 }
-static inline void *vejupa_lent(void *p) {
+static inline void *vejupa_lent(void *p, size_t n) {
     static uint64_t nothing;
-    return p != NULL ? p : &nothing;
+    return n != 0 ? p : &nothing;
 }
 
 /* n, or the limit where there are more: so many are as good as any more, and the number of their words does not wrap. */
@@ -200,21 +201,22 @@ static inline size_t vejupa_at_most(size_t n, size_t limit) { return n < limit ?
 
 /* ---- The calls. */
 
-/* The columns that a description (QRYDSC) lists, in order: the first *count of `columns`, which has room for `columns_room` of them; VEJUPA_MAX_COLUMNS are
- * always enough. Answers 0, 1, 2 or 101; with 101 *count is the number of columns as well.
+/* The columns that a description (QRYDSC) lists, in order: the first *count of `columns`, which has room for `columns_room` of them. VEJUPA_MAX_COLUMNS are
+ * always enough; a call without room counts. Answers 0, 1, 2 or 101; with 101 *count is the number of columns as well.
  *
- * A damaged description is not refused: where it breaks off, or a length in it is wrong, the columns read up to there are all that there are. */
+ * A damaged description is not refused: where it breaks off, or a length in it is wrong, the columns read up to there are all that there are. Nor is one
+ * that goes on in a triplet 7F, as hosts send from the 85th column on: those columns are missing. Compare *count with the number that the query has. */
 static inline uint32_t vejupa_parse_qrydsc(const uint8_t *data, size_t data_len, struct vejupa_column *columns, size_t columns_room, size_t *count) {
-    return vejupa_raw_parse_qrydsc((const uint8_t *)vejupa_given(data), data_len, (uint64_t *)vejupa_lent(columns),
+    return vejupa_raw_parse_qrydsc((const uint8_t *)vejupa_given(data, data_len), data_len, (uint64_t *)vejupa_lent(columns, columns_room),
                                    VEJUPA_COLUMN_WORDS * vejupa_at_most(columns_room, VEJUPA_MAX_COLUMNS), count);
 }
 
-/* What the row call answers beside the values. */
+/* What the row call answers beside the values. What does not apply is 0. */
 struct vejupa_row {
-    size_t used;        /* accepted: the bytes used, from the row's first byte, the two leading ones included. It may be 0. Else 0 */
-    size_t text_length; /* accepted: the bytes of text written. With 9: the length that `text` must have; nothing is written. Else 0 */
-    size_t expected;    /* with 8: the bytes that a value needs. Else 0 */
-    size_t actual;      /* with 8: the bytes there are for it. Else 0 */
+    size_t used;        /* accepted: the bytes used, from data's first byte, the two leading ones included. It may be 0 */
+    size_t text_length; /* accepted: the bytes of text written. With 9: the length that `text` must have; nothing is written */
+    size_t expected;    /* with 8: the bytes that a value needs, */
+    size_t actual;      /* and the bytes there are for it. For an indicator both count from the row's first byte behind the two leading ones */
 };
 
 /* The values of one row, one for each column: values[k] is of columns[k]. `columns` are as vejupa_parse_qrydsc writes them or a caller's own
@@ -226,17 +228,18 @@ struct vejupa_row {
  *     3     there are more than 128 columns
  *     101   there is room for fewer values than there are columns
  *     102   a column is none (vejupa_is_column tells which)
- *     4     the row has more than 1,048,576 bytes
+ *     4     `data` has more than 1,048,576 bytes
  *     5     a column is of type DecFloat
  *     8     the row ends before a value does: row->expected and row->actual; vejupa_short_column tells which column
  *     9     `text` is too short: row->text_length is the length needed, and a second call with such a buffer is accepted
  * It is fastest where text_room is at least 3 for each byte of the row and 258 for each column, so that any texts fit. */
 static inline uint32_t vejupa_decode_row(const struct vejupa_column *columns, size_t column_count, const uint8_t *data, size_t data_len,
                                          struct vejupa_value *values, size_t values_room, uint8_t *text, size_t text_room, struct vejupa_row *row) {
-    return vejupa_raw_decode_row((const uint64_t *)vejupa_given(columns), VEJUPA_COLUMN_WORDS * vejupa_at_most(column_count, VEJUPA_MAX_COLUMNS + 1),
-                                 (const uint8_t *)vejupa_given(data), data_len, (uint64_t *)vejupa_lent(values),
-                                 VEJUPA_VALUE_WORDS * vejupa_at_most(values_room, VEJUPA_MAX_COLUMNS), (uint8_t *)vejupa_lent(text), text_room, &row->used,
-                                 &row->text_length, &row->expected, &row->actual);
+    return vejupa_raw_decode_row((const uint64_t *)vejupa_given(columns, column_count),
+                                 VEJUPA_COLUMN_WORDS * vejupa_at_most(column_count, VEJUPA_MAX_COLUMNS + 1),
+                                 (const uint8_t *)vejupa_given(data, data_len), data_len, (uint64_t *)vejupa_lent(values, values_room),
+                                 VEJUPA_VALUE_WORDS * vejupa_at_most(values_room, VEJUPA_MAX_COLUMNS), (uint8_t *)vejupa_lent(text, text_room),
+                                 text_room, &row->used, &row->text_length, &row->expected, &row->actual);
 }
 
 /* The bytes of a value: a part of `data` or of `text`, which are those of the call that gave the value. There are none for a number, a Boolean, Null, a sort
@@ -246,8 +249,8 @@ static inline uint32_t vejupa_decode_row(const struct vejupa_column *columns, si
  * in hexadecimal; a Blob's bytes are the reference's first four (all, where there are fewer, and for a LobBytes column). */
 static inline struct vejupa_bytes vejupa_value_bytes(const struct vejupa_value *value, const uint8_t *data, size_t data_len, const uint8_t *text,
                                                      size_t text_len) {
-    struct vejupa_bytes bytes = {(const uint8_t *)vejupa_given(data), 0};
-    vejupa_raw_value_bytes(value->words, VEJUPA_VALUE_WORDS, bytes.start, data_len, (const uint8_t *)vejupa_given(text), text_len, &bytes);
+    struct vejupa_bytes bytes = {(const uint8_t *)vejupa_given(data, data_len), 0};
+    vejupa_raw_value_bytes(value->words, VEJUPA_VALUE_WORDS, bytes.start, data_len, (const uint8_t *)vejupa_given(text, text_len), text_len, &bytes);
     return bytes;
 }
 
@@ -256,40 +259,45 @@ static inline struct vejupa_bytes vejupa_value_bytes(const struct vejupa_value *
  * a buffer measures; 3 data_len + 14 bytes are always enough, here and in the next three. Answers 0, 4 or 9. */
 static inline uint32_t vejupa_decode_character_bytes(const uint8_t *data, size_t data_len, uint16_t ccsid, uint8_t *text, size_t text_room,
                                                      size_t *text_length) {
-    return vejupa_raw_decode_character_bytes((const uint8_t *)vejupa_given(data), data_len, ccsid, (uint8_t *)vejupa_lent(text), text_room, text_length);
+    return vejupa_raw_decode_character_bytes((const uint8_t *)vejupa_given(data, data_len), data_len, ccsid, (uint8_t *)vejupa_lent(text, text_room),
+                                             text_room, text_length);
 }
 
 /* The text of a graphic value, by its CCSID: 1200 and 13488 are big-endian UTF-16 where the number of bytes is even; any other goes as characters. The
  * length and answers as above. */
-static inline uint32_t vejupa_decode_graphic_bytes(const uint8_t *data, size_t data_len, uint16_t ccsid, uint8_t *text, size_t text_room, size_t *text_length) {
-    return vejupa_raw_decode_graphic_bytes((const uint8_t *)vejupa_given(data), data_len, ccsid, (uint8_t *)vejupa_lent(text), text_room, text_length);
+static inline uint32_t vejupa_decode_graphic_bytes(const uint8_t *data, size_t data_len, uint16_t ccsid, uint8_t *text, size_t text_room,
+                                                   size_t *text_length) {
+    return vejupa_raw_decode_graphic_bytes((const uint8_t *)vejupa_given(data, data_len), data_len, ccsid, (uint8_t *)vejupa_lent(text, text_room),
+                                           text_room, text_length);
 }
 
 /* The text "LOB locator 0x" and the bytes in upper-case hexadecimal. The length and answers as above. */
 static inline uint32_t vejupa_format_lob_locator(const uint8_t *bytes, size_t bytes_len, uint8_t *text, size_t text_room, size_t *text_length) {
-    return vejupa_raw_format_lob_locator((const uint8_t *)vejupa_given(bytes), bytes_len, (uint8_t *)vejupa_lent(text), text_room, text_length);
+    return vejupa_raw_format_lob_locator((const uint8_t *)vejupa_given(bytes, bytes_len), bytes_len, (uint8_t *)vejupa_lent(text, text_room),
+                                         text_room, text_length);
 }
 
 /* The text "0x" and the bytes in upper-case hexadecimal. The length and answers as above. */
 static inline uint32_t vejupa_format_rowid(const uint8_t *bytes, size_t bytes_len, uint8_t *text, size_t text_room, size_t *text_length) {
-    return vejupa_raw_format_rowid((const uint8_t *)vejupa_given(bytes), bytes_len, (uint8_t *)vejupa_lent(text), text_room, text_length);
+    return vejupa_raw_format_rowid((const uint8_t *)vejupa_given(bytes, bytes_len), bytes_len, (uint8_t *)vejupa_lent(text, text_room), text_room,
+                                   text_length);
 }
 
-/* The text of a packed decimal with so many digits behind the point. The precision has no part in it. No such text is longer than 258 bytes. A nibble
- * above 9 in place of a digit gives one of the characters : ; < = > ?. The length as above. Answers 0, 6, 7 or 9. */
-static inline uint32_t vejupa_decode_packed_decimal(const uint8_t *data, size_t data_len, uint8_t precision, uint8_t scale, uint8_t *text, size_t text_room,
+/* The text of a packed decimal with so many digits behind the point. No such text is longer than 258 bytes. A nibble above 9 in place of a digit gives one of
+ * the characters : ; < = > ?. The length as above. Answers 0, 6, 7 or 9. */
+static inline uint32_t vejupa_decode_packed_decimal(const uint8_t *data, size_t data_len, uint8_t scale, uint8_t *text, size_t text_room,
                                                     size_t *text_length) {
-    return vejupa_raw_decode_packed_decimal((const uint8_t *)vejupa_given(data), data_len, precision, scale, (uint8_t *)vejupa_lent(text), text_room,
-                                            text_length);
+    return vejupa_raw_decode_packed_decimal((const uint8_t *)vejupa_given(data, data_len), data_len, 0, scale,
+                                            (uint8_t *)vejupa_lent(text, text_room), text_room, text_length);
 }
 
 /* 1 where the bytes are well-formed UTF-8 without control characters save tab, line feed and carriage return; else 0. For bytes of any number. */
 static inline int vejupa_bytes_are_likely_text(const uint8_t *bytes, size_t bytes_len) {
-    return (int)vejupa_raw_bytes_are_likely_text((const uint8_t *)vejupa_given(bytes), bytes_len);
+    return (int)vejupa_raw_bytes_are_likely_text((const uint8_t *)vejupa_given(bytes, bytes_len), bytes_len);
 }
 
-/* The byte count of a column's values, where its type alone tells it: *fixed is 1 and *length the count, else both are 0. It is not what the row call goes by.
- * Answers 0 or 102. */
+/* The byte count that a column's type alone tells, for whoever shows columns: *fixed is 1 and *length the count, else both are 0. It is not what the row call
+ * goes by: a Graphic of 4 is 8 here and may take 4 there. Answers 0 or 102. */
 static inline uint32_t vejupa_fixed_length(const struct vejupa_column *column, uint32_t *fixed, size_t *length) {
     return vejupa_raw_fixed_length(column->words[0] & 0xFFFFFF, fixed, length);
 }
@@ -307,7 +315,7 @@ static inline const char *vejupa_refusal_name(uint32_t answer) {
     case VEJUPA_DECIMAL_TOO_LONG: return "a packed decimal of more than 128 bytes";
     case VEJUPA_BUFFER_TOO_SHORT: return "the row is too short";
     case VEJUPA_TEXT_BUFFER_TOO_SHORT: return "the text buffer is too short";
-    case VEJUPA_TOO_FEW_WORDS: return "too little room for the columns or values";
+    case VEJUPA_TOO_LITTLE_ROOM: return "too little room for the columns or values";
     case VEJUPA_NO_COLUMN: return "what stands for a column or a type is none";
     default: return "no answer of this library";
     }
@@ -315,17 +323,41 @@ static inline const char *vejupa_refusal_name(uint32_t answer) {
 
 /* ---- Of columns. */
 
-/* One of enum vejupa_type. */
+/* One of enum vejupa_type; and its name, as in "VarChar". */
 static inline uint32_t vejupa_column_type(const struct vejupa_column *column) { return (uint32_t)(column->words[0] & 0xFF); }
+
+static inline const char *vejupa_type_name(uint32_t type) {
+    static const char *const names[] = {"SmallInt", "Integer",     "BigInt",  "Real",       "Double",    "Decimal",     "DecFloat",      "Char",
+                                        "VarChar",  "LongVarChar", "Clob",    "Binary",     "VarBinary", "Blob",        "BlobLocator",   "Date",
+                                        "Time",     "Timestamp",   "Graphic", "VarGraphic", "DbClob",    "ClobLocator", "DbClobLocator", "LobBytes",
+                                        "LobChar",  "RowId",       "Boolean", "Xml",        "Null"};
+    return type < sizeof names / sizeof *names ? names[type] : "no type";
+}
+
+/* Whether the type itself holds one length (of a DecFloat its digits). */
+static inline int vejupa_type_has_length(uint32_t type) {
+    switch (type) {
+    case VEJUPA_TYPE_DEC_FLOAT:
+    case VEJUPA_TYPE_CHAR:
+    case VEJUPA_TYPE_VAR_CHAR:
+    case VEJUPA_TYPE_BINARY:
+    case VEJUPA_TYPE_VAR_BINARY:
+    case VEJUPA_TYPE_GRAPHIC:
+    case VEJUPA_TYPE_VAR_GRAPHIC:
+    case VEJUPA_TYPE_LOB_BYTES:
+    case VEJUPA_TYPE_LOB_CHAR:
+    case VEJUPA_TYPE_ROW_ID: return 1;
+    default: return 0;
+    }
+}
 
 /* The numbers that the type itself holds: what the row call goes by. vejupa_parse_qrydsc makes them of length, precision and scale; in a caller's own list, and
  * where the host's description contradicts itself, the two may differ. */
 static inline uint16_t vejupa_column_type_numbers(const struct vejupa_column *column) { return (uint16_t)(column->words[0] >> 8 & 0xFFFF); }
 
-/* Precision and scale of a Decimal, out of its type's numbers; and those numbers from the two. */
+/* Of a Decimal the two numbers that its type holds. */
 static inline uint8_t vejupa_decimal_precision(const struct vejupa_column *column) { return (uint8_t)(vejupa_column_type_numbers(column) & 0xFF); }
 static inline uint8_t vejupa_decimal_scale(const struct vejupa_column *column) { return (uint8_t)(vejupa_column_type_numbers(column) >> 8); }
-static inline uint16_t vejupa_decimal_numbers(uint8_t precision, uint8_t scale) { return (uint16_t)(precision | scale << 8); }
 
 static inline uint8_t vejupa_column_drda_type(const struct vejupa_column *column) { return (uint8_t)(column->words[0] >> 24 & 0xFF); }
 static inline uint16_t vejupa_column_number(const struct vejupa_column *column) { return (uint16_t)(column->words[0] >> 32 & 0xFFFF); }
@@ -343,15 +375,29 @@ static inline uint16_t vejupa_column_length(const struct vejupa_column *column) 
 static inline uint8_t vejupa_column_precision(const struct vejupa_column *column) { return (uint8_t)(column->words[1] >> 16 & 0xFF); }
 static inline uint8_t vejupa_column_scale(const struct vejupa_column *column) { return (uint8_t)(column->words[1] >> 24 & 0xFF); }
 
-/* A caller's own column, without a reference length: its type and the type's own numbers (a length, vejupa_decimal_numbers, or 0), whether it is nullable and
- * little-endian, its length and its CCSID. Column number, DRDA type code, precision and scale are 0: the row call does not look at them. */
-static inline struct vejupa_column vejupa_make_column(enum vejupa_type type, uint16_t type_numbers, int nullable, int little_endian, uint16_t length,
-                                                      uint16_t ccsid) {
+/* A caller's own column: big-endian, without a reference length. `length` is the length that the type itself holds, where it holds one; of a Timestamp or
+ * Boolean the bytes of a value (0 stands for 26 and 1); of a Blob, Clob or DbClob 0 says that its values are references of four bytes, and any other that
+ * they come within the row. A CCSID matters for texts. A Decimal has a function of its own: here it gives what is no column, as does a type that there is
+ * none of. Column number, DRDA type code, precision and scale are 0: the row call does not look at them. */
+static inline struct vejupa_column vejupa_make_column(enum vejupa_type type, uint16_t length, int nullable, uint16_t ccsid) {
     struct vejupa_column column;
-    column.words[0] = (uint64_t)type | (uint64_t)type_numbers << 8 | (uint64_t)(nullable != 0) << 48 | (uint64_t)(little_endian != 0) << 49;
+    uint32_t named = (uint32_t)type;
+    uint64_t tag = named <= VEJUPA_TYPE_NULL && named != VEJUPA_TYPE_DECIMAL ? named : 0xFF;
+    column.words[0] = tag | (uint64_t)(vejupa_type_has_length(named) ? length : 0) << 8 | (uint64_t)(nullable != 0) << 48;
     column.words[1] = (uint64_t)length | (uint64_t)ccsid << 32;
     return column;
 }
+
+/* A Decimal of so many digits, `scale` of them behind the point. */
+static inline struct vejupa_column vejupa_make_decimal(uint8_t precision, uint8_t scale, int nullable) {
+    struct vejupa_column column;
+    column.words[0] = (uint64_t)VEJUPA_TYPE_DECIMAL | (uint64_t)precision << 8 | (uint64_t)scale << 16 | (uint64_t)(nullable != 0) << 48;
+    column.words[1] = ((uint64_t)precision + 2) / 2 | (uint64_t)precision << 16 | (uint64_t)scale << 24;
+    return column;
+}
+
+/* Its numbers' bytes come lowest first. */
+static inline void vejupa_set_little_endian(struct vejupa_column *column) { column->words[0] |= UINT64_C(1) << 49; }
 
 /* Gives it a reference length: of a Blob, Clob, DbClob or Xml whose value is a reference of so many bytes. */
 static inline void vejupa_set_reference_length(struct vejupa_column *column, uint16_t length) {
@@ -366,7 +412,8 @@ static inline int vejupa_is_column(const struct vejupa_column *column) {
     return vejupa_decode_row(column, 1, NULL, 0, &value, 1, NULL, 0, &row) != VEJUPA_NO_COLUMN;
 }
 
-/* Where the row call answers 8: which column it is whose value, or indicator, is not there. Found by calls with fewer columns; `values` is written. */
+/* Where the row call answers 8, with its arguments: which column it is whose value, or indicator, is not there. Found by calls with fewer columns; `values` is
+ * written. */
 static inline size_t vejupa_short_column(const struct vejupa_column *columns, size_t column_count, const uint8_t *data, size_t data_len,
                                          struct vejupa_value *values, size_t values_room) {
     size_t fit = 0, lacking = column_count; /* the first `fit` columns are there, the first `lacking` are not */
@@ -384,7 +431,7 @@ static inline size_t vejupa_short_column(const struct vejupa_column *columns, si
 
 /* ---- Of values. */
 
-/* One of enum vejupa_sort. */
+/* One of enum vejupa_sort. What the next ones say of other sorts than those named means nothing. */
 static inline uint32_t vejupa_value_sort(const struct vejupa_value *value) { return (uint32_t)(value->words[0] & 0xFF); }
 
 static inline int vejupa_value_is_null(const struct vejupa_value *value) { return vejupa_value_sort(value) == VEJUPA_SORT_NULL; }

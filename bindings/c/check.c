@@ -35,7 +35,7 @@ static void fields_of_a_column(void) {
     const struct vejupa_column little = {{UINT64_C(0x0002000000000000), 0}};
     CHECK(vejupa_column_type(&column) == VEJUPA_TYPE_CHAR);
     CHECK(vejupa_column_type_numbers(&column) == 0x1234);
-    CHECK(vejupa_decimal_precision(&column) == 0x34 && vejupa_decimal_scale(&column) == 0x12 && vejupa_decimal_numbers(0x34, 0x12) == 0x1234);
+    CHECK(vejupa_decimal_precision(&column) == 0x34 && vejupa_decimal_scale(&column) == 0x12);
     CHECK(vejupa_column_drda_type(&column) == 0xC9);
     CHECK(vejupa_column_number(&column) == 0xFA);
     CHECK(vejupa_column_nullable(&column) && !vejupa_column_nullable(&little));
@@ -52,9 +52,11 @@ static void fields_of_a_column(void) {
 static void own_columns(void) {
     static const uint8_t data[] = {0x00, 0x12, 0x34, 0x5C, 0x00, 0x00, 0x00, 0x07};
     struct vejupa_column own[2];
-    own[0] = vejupa_make_column(VEJUPA_TYPE_DECIMAL, vejupa_decimal_numbers(5, 2), 1, 0, 3, 0);
-    own[1] = vejupa_make_column(VEJUPA_TYPE_CLOB, 0, 0, 1, 0x8004, 1208);
+    own[0] = vejupa_make_decimal(5, 2, 1);
+    own[1] = vejupa_make_column(VEJUPA_TYPE_CLOB, 0x8004, 0, 1208);
+    vejupa_set_little_endian(&own[1]);
     CHECK(vejupa_column_type(&own[0]) == VEJUPA_TYPE_DECIMAL && vejupa_column_type_numbers(&own[0]) == 0x205);
+    CHECK(vejupa_column_length(&own[0]) == 3 && vejupa_column_precision(&own[0]) == 5 && vejupa_column_scale(&own[0]) == 2);
     CHECK(vejupa_column_nullable(&own[0]) && !vejupa_column_little_endian(&own[0]) && vejupa_column_little_endian(&own[1]));
     CHECK(!vejupa_column_nullable(&own[1]) && vejupa_column_length(&own[1]) == 0x8004 && vejupa_column_ccsid(&own[1]) == 1208);
     CHECK(!vejupa_column_has_reference_length(&own[1]));
@@ -72,14 +74,17 @@ static void no_columns(void) {
     struct vejupa_column column;
     uint32_t type;
     for (type = VEJUPA_TYPE_SMALL_INT; type <= VEJUPA_TYPE_NULL; type++) {
-        column = vejupa_make_column((enum vejupa_type)type, 0, 1, 1, 0xFFFF, 0xFFFF);
-        CHECK(vejupa_is_column(&column));
+        column = vejupa_make_column((enum vejupa_type)type, 0xFF, 1, 0xFFFF);
+        CHECK(vejupa_is_column(&column) == (type != VEJUPA_TYPE_DECIMAL));
+        CHECK(vejupa_column_type_numbers(&column) == (vejupa_type_has_length(type) ? 0xFF : 0) && vejupa_column_length(&column) == 0xFF);
         column.words[0] |= UINT64_C(1) << 51;
         CHECK(!vejupa_is_column(&column));
     }
-    column = vejupa_make_column(VEJUPA_TYPE_INTEGER, 4, 0, 0, 4, 0);
+    column = vejupa_make_column((enum vejupa_type)(VEJUPA_TYPE_NULL + 1), 0, 0, 0);
     CHECK(!vejupa_is_column(&column));
-    column.words[0] = VEJUPA_TYPE_NULL + 1;
+    column = vejupa_make_column(VEJUPA_TYPE_INTEGER, 4, 0, 0);
+    CHECK(vejupa_is_column(&column));
+    column.words[0] |= 4 << 8;
     CHECK(!vejupa_is_column(&column));
 }
 
@@ -149,10 +154,10 @@ static void descriptions(void) {
     }
     CHECK(vejupa_parse_qrydsc(large, VEJUPA_MAX_QRYDSC + 1, columns, 0, &count) == VEJUPA_QRYDSC_TOO_LONG && count == 0);
     CHECK(vejupa_parse_qrydsc(integers, sizeof integers, columns, LENGTH(columns), &count) == VEJUPA_TOO_MANY_COLUMNS && count == 0);
-    CHECK(vejupa_parse_qrydsc(integers, 10, columns, 1, &count) == VEJUPA_TOO_FEW_WORDS && count == 2);
-    CHECK(vejupa_raw_parse_qrydsc(integers, 10, columns->words, 3, &count) == VEJUPA_TOO_FEW_WORDS && count == 2);
+    CHECK(vejupa_parse_qrydsc(integers, 10, columns, 1, &count) == VEJUPA_TOO_LITTLE_ROOM && count == 2);
+    CHECK(vejupa_raw_parse_qrydsc(integers, 10, columns->words, 3, &count) == VEJUPA_TOO_LITTLE_ROOM && count == 2);
     CHECK(columns[0].words[0] == 0 && columns[0].words[1] == 0);
-    CHECK(vejupa_parse_qrydsc(integers, 10, NULL, 0, &count) == VEJUPA_TOO_FEW_WORDS && count == 2);
+    CHECK(vejupa_parse_qrydsc(integers, 10, NULL, 0, &count) == VEJUPA_TOO_LITTLE_ROOM && count == 2);
     CHECK(vejupa_parse_qrydsc(NULL, 0, NULL, 0, &count) == VEJUPA_ACCEPTED && count == 0);
     CHECK(vejupa_parse_qrydsc(integers, 10, columns, SIZE_MAX, &count) == VEJUPA_ACCEPTED && count == 2);
     CHECK(vejupa_parse_qrydsc(integers, 640, columns, 128, &count) == VEJUPA_ACCEPTED && count == 128);
@@ -173,9 +178,9 @@ static void rows(void) {
     CHECK(vejupa_value_sort(&values[0]) == VEJUPA_SORT_INTEGER && vejupa_value_integer(&values[0]) == 10);
     CHECK(decode(129, ten, 4, 0) == VEJUPA_COUNT_TOO_LARGE && numbers(0, 0, 0, 0));
     CHECK(decode(SIZE_MAX / 2 + 1, ten, 4, 0) == VEJUPA_COUNT_TOO_LARGE && decode(SIZE_MAX, ten, 4, 0) == VEJUPA_COUNT_TOO_LARGE);
-    CHECK(vejupa_decode_row(columns, 2, ten, 4, values, 1, text, 0, &row) == VEJUPA_TOO_FEW_WORDS && numbers(0, 0, 0, 0));
+    CHECK(vejupa_decode_row(columns, 2, ten, 4, values, 1, text, 0, &row) == VEJUPA_TOO_LITTLE_ROOM && numbers(0, 0, 0, 0));
     CHECK(vejupa_raw_decode_row(columns->words, 4, ten, 4, values->words, 5, text, 0, &row.used, &row.text_length, &row.expected, &row.actual) ==
-              VEJUPA_TOO_FEW_WORDS &&
+              VEJUPA_TOO_LITTLE_ROOM &&
           numbers(0, 0, 0, 0));
     CHECK(vejupa_raw_decode_row(columns->words, 3, ten, 4, values->words, 6, text, 0, &row.used, &row.text_length, &row.expected, &row.actual) ==
               VEJUPA_NO_COLUMN &&
@@ -202,10 +207,12 @@ static void rows(void) {
     CHECK(vejupa_decode_row(columns, 2, data, sizeof data, values, SIZE_MAX, text, sizeof text, &row) == VEJUPA_ACCEPTED && numbers(7, 6, 0, 0));
 }
 
-/* What a loop over rows must heed: a row of no bytes; a query's end that is read as rows; rows without their two leading bytes. */
+/* What a loop over rows must heed: a row of no bytes; a query's end that is read as rows; rows without their two leading bytes; a row that is cut off behind
+ * its first byte. */
 static void rows_one_after_the_other(void) {
     static const uint8_t small_ints[] = {0x06, 0x76, 0xD0, 0x04, 0x00, 0x02};
     static const uint8_t nullable_pairs[] = {0x09, 0x76, 0xD0, 0x05, 0x00, 0x02, 0x05, 0x00, 0x02};
+    static const uint8_t minus_one[] = {0xFF, 0xFF, 0x00, 0x01};
     static const uint8_t bare[] = {0xFF, 0x00, 0x00, 0x07, 0x00, 0x00, 0x01, 0x00, 0x00, 0x02};
     static const uint8_t query_end[] = {0x00, 0x00, 0x00, 0x00, 0x64, '0',  '2',  '0',  '0',  '0',  'C',  'S',  'S',  '1',  '0',  '1',  '4',  '0',  0x00, 0x00, 0x00,
                                         0x00, 0x00, 0x00, 0x00, 0x00, 0x00, 0x00, 0x00, 0x00, 0x04, 0x00, 0x00, 0x00, 0x00, 0x00, 0x00, 0x00, 0x00, 0x00, 0x00, 0x00,
@@ -222,6 +229,9 @@ static void rows_one_after_the_other(void) {
     CHECK(vejupa_parse_qrydsc(nullable_pairs, sizeof nullable_pairs, columns, 2, &count) == VEJUPA_ACCEPTED);
     CHECK(decode(count, bare, sizeof bare, 0) == VEJUPA_ACCEPTED && row.used == 8);
     CHECK(vejupa_value_integer(&values[0]) == 1792 && vejupa_value_integer(&values[1]) == 256);
+    CHECK(decode(1, bare, 1, 0) == VEJUPA_ACCEPTED && row.used == 1 && vejupa_value_is_null(&values[0]));
+    CHECK(vejupa_parse_qrydsc(small_ints, sizeof small_ints, columns, 1, &count) == VEJUPA_ACCEPTED);
+    CHECK(decode(count, minus_one, sizeof minus_one, 0) == VEJUPA_ACCEPTED && row.used == 4 && vejupa_value_integer(&values[0]) == 1);
 }
 
 static int is_text(size_t len, const char *expected) { return len == strlen(expected) && memcmp(text, expected, len) == 0; }
@@ -240,19 +250,19 @@ static void texts(void) {
     CHECK(vejupa_format_lob_locator(NULL, 0, NULL, 0, &len) == VEJUPA_TEXT_BUFFER_TOO_SHORT && len == 14);
     CHECK(vejupa_format_rowid(packed, 2, text, sizeof text, &len) == VEJUPA_ACCEPTED && is_text(len, "0x005C"));
     CHECK(vejupa_format_rowid(NULL, 0, NULL, 0, &len) == VEJUPA_TEXT_BUFFER_TOO_SHORT && len == 2);
-    CHECK(vejupa_decode_packed_decimal(packed, 2, 3, 2, text, sizeof text, &len) == VEJUPA_ACCEPTED && is_text(len, "0.05"));
-    CHECK(vejupa_decode_packed_decimal(no_digits, 4, 7, 0, text, sizeof text, &len) == VEJUPA_ACCEPTED && is_text(len, ":;<=>?0"));
-    CHECK(vejupa_decode_packed_decimal(NULL, 0, 3, 2, NULL, 0, &len) == VEJUPA_DECIMAL_EMPTY && len == 0);
-    CHECK(vejupa_decode_packed_decimal(large, VEJUPA_MAX_DECIMAL + 1, 3, 2, text, sizeof text, &len) == VEJUPA_DECIMAL_TOO_LONG);
+    CHECK(vejupa_decode_packed_decimal(packed, 2, 2, text, sizeof text, &len) == VEJUPA_ACCEPTED && is_text(len, "0.05"));
+    CHECK(vejupa_decode_packed_decimal(no_digits, 4, 0, text, sizeof text, &len) == VEJUPA_ACCEPTED && is_text(len, ":;<=>?0"));
+    CHECK(vejupa_decode_packed_decimal(NULL, 0, 2, NULL, 0, &len) == VEJUPA_DECIMAL_EMPTY && len == 0);
+    CHECK(vejupa_decode_packed_decimal(large, VEJUPA_MAX_DECIMAL + 1, 2, text, sizeof text, &len) == VEJUPA_DECIMAL_TOO_LONG);
     CHECK(vejupa_bytes_are_likely_text(NULL, 0) == 1 && vejupa_bytes_are_likely_text(packed, 2) == 0);
 }
 
 static void fixed_lengths(void) {
-    struct vejupa_column column = vejupa_make_column(VEJUPA_TYPE_CHAR, 9, 1, 1, 8, 37);
+    struct vejupa_column column = vejupa_make_column(VEJUPA_TYPE_CHAR, 9, 1, 37);
     uint32_t fixed;
     size_t length;
     CHECK(vejupa_fixed_length(&column, &fixed, &length) == VEJUPA_ACCEPTED && fixed == 1 && length == 9);
-    column = vejupa_make_column(VEJUPA_TYPE_XML, 0, 0, 0, 8, 37);
+    column = vejupa_make_column(VEJUPA_TYPE_XML, 8, 0, 37);
     CHECK(vejupa_fixed_length(&column, &fixed, &length) == VEJUPA_ACCEPTED && fixed == 0 && length == 0);
     column.words[0] = VEJUPA_TYPE_NULL + 1;
     CHECK(vejupa_fixed_length(&column, &fixed, &length) == VEJUPA_NO_COLUMN && fixed == 0 && length == 0);
@@ -268,6 +278,12 @@ static void names(void) {
         }
     }
     CHECK(strcmp(vejupa_refusal_name(10), vejupa_refusal_name(UINT32_MAX)) == 0);
+    for (i = 0; i <= VEJUPA_TYPE_NULL + 1; i++) {
+        for (j = 0; j < i; j++) {
+            CHECK(strcmp(vejupa_type_name((uint32_t)i), vejupa_type_name((uint32_t)j)) != 0);
+        }
+    }
+    CHECK(strcmp(vejupa_type_name(VEJUPA_TYPE_CHAR), "Char") == 0 && strcmp(vejupa_type_name(VEJUPA_TYPE_NULL), "Null") == 0);
 }
 
 /* The archive's number is that of the header's version. */

@@ -77,7 +77,7 @@ static void description(struct slice data, struct slice row_data) {
     struct vejupa_column *columns = exactly(0);
     size_t count;
     uint32_t refusal = vejupa_parse_qrydsc(data.start, data.length, columns, 0, &count);
-    if (refusal == VEJUPA_TOO_FEW_WORDS) {
+    if (refusal == VEJUPA_TOO_LITTLE_ROOM) {
         free(columns);
         columns = exactly(count * sizeof *columns);
         refusal = vejupa_parse_qrydsc(data.start, data.length, columns, count, &count);
@@ -95,7 +95,7 @@ static uint32_t convert(char kind, unsigned number, struct slice data, uint8_t *
     if (kind == 'G') {
         return vejupa_decode_graphic_bytes(data.start, data.length, (uint16_t)number, text, text_room, text_length);
     }
-    return vejupa_decode_packed_decimal(data.start, data.length, 31, (uint8_t)number, text, text_room, text_length);
+    return vejupa_decode_packed_decimal(data.start, data.length, (uint8_t)number, text, text_room, text_length);
 }
 
 static void text_of(char kind, unsigned number, struct slice data) {

@@ -27,7 +27,7 @@ static struct vejupa_row row;
 static void nothing(void) {}
 static void characters(void) { (void)vejupa_decode_character_bytes(data, data_len, ccsid, text, text_room, &text_length); }
 static void graphics(void) { (void)vejupa_decode_graphic_bytes(data, data_len, ccsid, text, text_room, &text_length); }
-static void decimal(void) { (void)vejupa_decode_packed_decimal(data, 128, 31, 2, text, text_room, &text_length); }
+static void decimal(void) { (void)vejupa_decode_packed_decimal(data, 128, 2, text, text_room, &text_length); }
 static void likely(void) { (void)vejupa_bytes_are_likely_text(data, data_len); }
 static void description(void) { (void)vejupa_parse_qrydsc(data, data_len, columns, VEJUPA_MAX_COLUMNS, &count); }
 static void decode(void) { (void)vejupa_decode_row(columns, 1, data, data_len, values, VEJUPA_MAX_COLUMNS, text, text_room, &row); }
@@ -67,7 +67,7 @@ static void calls(size_t n) {
     call(likely);
     for (k = 0; k < sizeof ccsids / sizeof *ccsids; k++) {
         ccsid = ccsids[k];
-        columns[0] = vejupa_make_column(k % 2 == 0 ? VEJUPA_TYPE_CHAR : VEJUPA_TYPE_GRAPHIC, (uint16_t)n, 0, 0, (uint16_t)n, ccsid);
+        columns[0] = vejupa_make_column(k % 2 == 0 ? VEJUPA_TYPE_CHAR : VEJUPA_TYPE_GRAPHIC, (uint16_t)n, 0, ccsid);
         for (turn = 0; turn < 3; turn++) {
             text_room = turn == 0 ? 0 : turn == 1 ? text_length : sizeof text;
             call(decimal);

@@ -34,16 +34,17 @@ fn main() {
     println!("cargo:warning={archive_name} is older than {newest}: {COMMAND}");
 }
 
-/// What the archive is made from, where it lies beside this crate: crates.txt, and the sources of each crate. cargo is told to look at them
+/// What the archive is made from, where it lies beside this crate: the sources of the crates that it rests on. cargo is told to look at them
 /// again, by folder, so that a new file counts as well.
 fn sources(root: &Path) -> Vec<PathBuf> {
-    let Ok(crates) = fs::read_dir(root.join("crates")) else {
+    let list = root.join("crates.txt");
+    let Ok(text) = fs::read_to_string(&list) else {
         return Vec::new();
     };
-    let list = root.join("crates.txt");
     println!("cargo:rerun-if-changed={}", list.display());
-    let mut sources = vec![list];
-    for folder in crates.flatten().map(|entry| entry.path().join("src")) {
+    let mut sources = Vec::new();
+    for name in rests_on(&text) {
+        let folder = root.join("crates").join(name).join("src");
         let Ok(files) = fs::read_dir(&folder) else {
             continue;
         };
@@ -52,6 +53,24 @@ fn sources(root: &Path) -> Vec<PathBuf> {
         sources.extend(files.filter(|file| file.extension().is_some_and(|name| name == "rt")));
     }
     sources
+}
+
+/// `vejupa` and every crate that it rests on, by crates.txt: a line `NAME: NAME NAME ..` for each.
+fn rests_on(text: &str) -> Vec<&str> {
+    let mut names = vec!["vejupa"];
+    let mut at = 0;
+    while let Some(name) = names.get(at).copied() {
+        let line = text
+            .lines()
+            .find_map(|line| line.strip_prefix(name)?.strip_prefix(':'));
+        for below in line.unwrap_or_default().split_whitespace() {
+            if !names.contains(&below) {
+                names.push(below);
+            }
+        }
+        at += 1;
+    }
+    names
 }
 
 /// When a file was last changed; None where there is no such file.

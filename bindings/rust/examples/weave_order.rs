@@ -72,14 +72,15 @@ fn print_row(row: Result<Row, Refusal>) {
 
 /// The rows of a block. What such a loop must heed:
 /// - A row may use no byte: `Rows` ends there by itself, and after a refusal.
-/// - This host sends FF 00 before each row. A group that begins otherwise is no row: stop before it. With the one SmallInt of
-///   06 76 D0 04 00 02 the 62 bytes of a query's end are read as 30 rows.
-/// - Rows without these two bytes are misread where the first column is Null: its indicator, FF, is taken for them. With the two SmallInts or
-///   null of 09 76 D0 05 00 02 05 00 02 the rows FF 00 00 07 (null and 7) and 00 00 01 00 00 02 (1 and 2) come out as one, 1792 and 256.
+/// - This host sends FF 00 before each row. What begins otherwise is no row: stop before it. With the one SmallInt of 06 76 D0 04 00 02 the
+///   62 bytes of a query's end are read as 30 rows. (Where rows follow a status that is no query's end, its length is the caller's to find.)
+/// - Where a host does not send them, no row must begin FF, which is skipped with the byte behind it, be it the indicator of a Null or a
+///   number below 0. With the two SmallInts or null of 09 76 D0 05 00 02 05 00 02 the rows FF 00 00 07 (null and 7) and 00 00 01 00 00 02
+///   (1 and 2) come out as one, 1792 and 256.
 fn print_rows(columns: &Columns) {
     let mut rows = Rows::new(BLOCK, columns);
     let mut at = 0;
-    while rows.rest().starts_with(&[0xFF]) {
+    while rows.rest().starts_with(&[0xFF, 0x00]) {
         let Some(row) = rows.next_row() else { break };
         print!("\nthe row at {at}: ");
         print_row(row);

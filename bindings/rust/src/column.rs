@@ -1,6 +1,6 @@
 //! Columns, one by one and as the list of words that the row call takes.
 use crate::raw::{self, ACCEPTED, COLUMN_WORDS};
-use crate::{ByteOrder, Db2Type, Refusal, MAX_COLUMNS};
+use crate::{decode_row_into, Buffers, ByteOrder, Db2Type, OwnedRow, Refusal, Row, MAX_COLUMNS};
 use std::fmt;
 use std::iter::FusedIterator;
 use std::ops::Range;
@@ -50,6 +50,10 @@ pub struct Column {
 
 impl Column {
     /// A column of a type and nothing else: not null, big-endian, CCSID 0, no reference, every other number 0.
+    ///
+    /// Say more where it matters. A text of CCSID 0 is guessed, as that of every CCSID that the library does not name: give it one. A Blob,
+    /// Clob or DbClob of length 0 is a reference of four bytes: where its values come within the row, give it a length. A Timestamp of
+    /// length 0 has 26 bytes.
     #[must_use]
     pub const fn new(db2_type: Db2Type) -> Column {
         Column {
@@ -139,8 +143,8 @@ impl Column {
 
 /// The columns that a description (QRYDSC) lists, in order.
 ///
-/// A description that is damaged or cut off is not refused: what comes out are the columns before the damage. How many a query has, its
-/// caller may know otherwise.
+/// A description that is damaged or cut off is not refused: what comes out are the columns before the damage. Nor is one that goes on in a
+/// triplet 7F, as hosts send from the 85th column on: those columns are missing. How many a query has, its caller may know otherwise.
 ///
 /// # Errors
 /// [`Refusal::QrydscTooLong`] and [`Refusal::TooManyColumns`].
@@ -169,7 +173,7 @@ pub fn parse_qrydsc(data: &[u8]) -> Result<Vec<Column>, Refusal> {
 /// }
 ///
 /// // A list of one's own.
-/// let own: Columns = [Column::new(Db2Type::SmallInt), Column::new(Db2Type::Date)].into_iter().collect();
+/// let own = Columns::from([Column::new(Db2Type::SmallInt), Column::new(Db2Type::Date)]);
 /// assert_eq!(own.len(), 2);
 /// # Ok::<(), vejupa::Refusal>(())
 /// ```
@@ -216,6 +220,14 @@ impl Columns {
         }
     }
 
+    /// The values of a row, with texts and bytes of their own: [`decode_row`](crate::decode_row) by these columns.
+    ///
+    /// # Errors
+    /// As [`decode_row`](crate::decode_row).
+    pub fn decode_row(&self, data: &[u8]) -> Result<OwnedRow, Refusal> {
+        decode_row_into(data, self, &mut Buffers::new()).map(Row::into_owned)
+    }
+
     /// The words, two a column, as [`raw::decode_row`] takes them.
     pub fn words(&self) -> &[u64] {
         &self.words
@@ -238,6 +250,25 @@ impl fmt::Debug for Columns {
 impl From<&[Column]> for Columns {
     fn from(columns: &[Column]) -> Columns {
         columns.iter().copied().collect()
+    }
+}
+
+impl From<Vec<Column>> for Columns {
+    fn from(columns: Vec<Column>) -> Columns {
+        columns.as_slice().into()
+    }
+}
+
+impl<const N: usize> From<[Column; N]> for Columns {
+    fn from(columns: [Column; N]) -> Columns {
+        columns.as_slice().into()
+    }
+}
+
+impl Extend<Column> for Columns {
+    fn extend<I: IntoIterator<Item = Column>>(&mut self, columns: I) {
+        self.words
+            .extend(columns.into_iter().flat_map(|c| c.words()));
     }
 }
 
@@ -272,6 +303,7 @@ impl IntoIterator for Columns {
 
 /// The columns of a borrowed list, in order.
 #[derive(Clone)]
+#[must_use = "iterators do nothing unless they are used"]
 pub struct ColumnsIter<'a> {
     words: ChunksExact<'a, u64>,
 }
@@ -311,6 +343,7 @@ impl fmt::Debug for ColumnsIter<'_> {
 
 /// The columns of a list, in order.
 #[derive(Clone)]
+#[must_use = "iterators do nothing unless they are used"]
 pub struct ColumnsIntoIter {
     columns: Columns,
     left: Range<usize>,

@@ -81,13 +81,13 @@ impl Refusal {
 impl fmt::Display for Refusal {
     fn fmt(&self, f: &mut fmt::Formatter<'_>) -> fmt::Result {
         match self {
-            Refusal::QrydscTooLong => f.pad("refusal 1: the description has more than 65,536 bytes"),
-            Refusal::TooManyColumns => f.pad("refusal 2: the description has more than 128 columns"),
-            Refusal::CountTooLarge => f.pad("refusal 3: more than 128 columns"),
-            Refusal::InputTooLong => f.pad("refusal 4: more than 1,048,576 bytes"),
-            Refusal::DecFloatColumn => f.pad("refusal 5: a column of type DecFloat is not decoded"),
-            Refusal::DecimalEmpty => f.pad("refusal 6: a packed decimal of no bytes"),
-            Refusal::DecimalTooLong => f.pad("refusal 7: a packed decimal of more than 128 bytes"),
+            Refusal::QrydscTooLong => pad(f, format_args!("refusal 1: the description has more than 65,536 bytes")),
+            Refusal::TooManyColumns => pad(f, format_args!("refusal 2: the description has more than 128 columns")),
+            Refusal::CountTooLarge => pad(f, format_args!("refusal 3: more than 128 columns")),
+            Refusal::InputTooLong => pad(f, format_args!("refusal 4: more than 1,048,576 bytes")),
+            Refusal::DecFloatColumn => pad(f, format_args!("refusal 5: a column of type DecFloat is not decoded")),
+            Refusal::DecimalEmpty => pad(f, format_args!("refusal 6: a packed decimal of no bytes")),
+            Refusal::DecimalTooLong => pad(f, format_args!("refusal 7: a packed decimal of more than 128 bytes")),
             Refusal::BufferTooShort {
                 column,
                 expected,

@@ -22,8 +22,8 @@ const ROOM: usize = 65_536;
 const UTF8: &str = "the library's texts are UTF-8";
 const PLACES: &str = "every place of an accepted row fits";
 
-/// Room for a row's values and texts, to be used for one row after another. It grows where a row needs more and never shrinks, so that
-/// after the widest row no call allocates.
+/// Room for a row's values and texts, to be used for one row after another. It never shrinks. It grows to what any texts of an input as long
+/// may need, though not beyond 65,536 bytes before a row asks for more: once it is wide enough, no call allocates.
 #[derive(Clone, Default)]
 pub struct Buffers {
     values: Vec<u64>,
@@ -138,8 +138,11 @@ pub struct Row<'a> {
     used: usize,
 }
 
-/// The values of a row, with texts and bytes of their own. Where there are many rows, [`decode_row_into`] saves what this allocates, and
-/// [`Rows`](crate::Rows) goes through rows that lie one after the other.
+/// The values of a row, with texts and bytes of their own; [`Columns::decode_row`] is the same for columns in that form. Where there are many
+/// rows, [`decode_row_into`] saves what this allocates, and [`Rows`](crate::Rows) goes through rows that lie one after the other.
+///
+/// Where the input has two bytes or more and begins with FF, these two are skipped, whatever the second is: hosts send FF 00 before a row. So
+/// a row without them must not begin FF, be it the indicator of a Null or a number below 0. Bytes behind the row are not looked at.
 ///
 /// # Errors
 /// [`Refusal::CountTooLarge`], [`Refusal::InputTooLong`], [`Refusal::DecFloatColumn`] and [`Refusal::BufferTooShort`].
@@ -153,11 +156,10 @@ pub struct Row<'a> {
 /// # Ok::<(), vejupa::Refusal>(())
 /// ```
 pub fn decode_row(data: &[u8], columns: &[Column]) -> Result<OwnedRow, Refusal> {
-    let mut buffers = Buffers::new();
-    decode_row_into(data, &Columns::from(columns), &mut buffers).map(Row::into_owned)
+    Columns::from(columns).decode_row(data)
 }
 
-/// The values of a row, in lent buffers: the form for many rows.
+/// The values of a row, in lent buffers: the form for many rows. What [`decode_row`] says of a first byte FF holds here too.
 ///
 /// # Errors
 /// As [`decode_row`].
@@ -169,7 +171,7 @@ pub fn decode_row(data: &[u8], columns: &[Column]) -> Result<OwnedRow, Refusal> 
 /// let mut sum = 0;
 /// for bytes in [[0x2A, 0, 0, 0], [0x01, 0, 0, 0]] {
 ///     let row = decode_row_into(&bytes, &columns, &mut buffers)?;
-///     sum += row.value(0).as_i64().unwrap_or(0);
+///     sum += row.value(0).as_i64().expect("an Integer that is not null");
 /// }
 /// assert_eq!(sum, 43);
 /// # Ok::<(), vejupa::Refusal>(())
@@ -327,6 +329,7 @@ impl<'a> IntoIterator for &Row<'a> {
 
 /// The values of a row, in the columns' order.
 #[derive(Clone)]
+#[must_use = "iterators do nothing unless they are used"]
 pub struct Values<'a> {
     words: ChunksExact<'a, u64>,
     data: &'a [u8],
@@ -370,7 +373,7 @@ impl fmt::Debug for Values<'_> {
 }
 
 /// A decoded row with texts and bytes of its own.
-#[derive(Debug, Clone, PartialEq)]
+#[derive(Debug, Clone, PartialEq, Default)]
 #[non_exhaustive]
 pub struct OwnedRow {
     /// The values, as many as columns.
@@ -379,6 +382,13 @@ pub struct OwnedRow {
     pub external_columns: Vec<usize>,
     /// How many bytes of the input the row takes, counted from its first one. The next row of a block begins there.
     pub used: usize,
+}
+
+impl OwnedRow {
+    /// Whether the value of column k refers to data outside of the row.
+    pub fn is_external(&self, k: usize) -> bool {
+        self.external_columns.contains(&k)
+    }
 }
 
 impl From<Row<'_>> for OwnedRow {

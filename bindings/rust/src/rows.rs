@@ -13,13 +13,14 @@ use std::iter::FusedIterator;
 /// # Where the rows end
 ///
 /// Every row is read from the first byte that no row before it used, whatever stands there: to find the end of the rows is the caller's
-/// work.
+/// work. As an iterator it is for bytes that are rows and nothing else. A host's block is not: go on while the rest begins FF 00, as below.
 ///
-/// - A host that sends FF 00 before each row also sends groups that are no rows. They begin with 00, as the query end does. Stop before a
-///   group that does not begin with FF, as below. Otherwise it is read as rows: with the columns of `06 76 D0 04 00 02` the 62 bytes of a
-///   query end come out as SmallInts.
+/// - A host that sends FF 00 before each row also sends groups that are no rows. Those that begin 00 are a status, as the query end is; with the
+///   columns of `06 76 D0 04 00 02` its 62 bytes are read as 30 rows. Rows may follow a status that is a warning: its length is the caller's to
+///   find.
+/// - A lone FF at the end of a block is a row that is cut off: by itself it would be read as a Null. Put the next block behind it.
 /// - Rows without these two bytes can only be read one after the other where none begins with FF. The row call takes a first byte FF, with
-///   the byte after it, for those two, also where it is the indicator of a first column that is Null. With the columns of
+///   the byte after it, for those two, be it the indicator of a first column that is Null or a number below 0. With the columns of
 ///   `09 76 D0 05 00 02 05 00 02` the rows `FF 00 00 07` (Null, 7) and `00 00 01 00 00 02` (1, 2) laid together come out as one row, of
 ///   1792 and 256, and a refusal.
 /// - A few columns do not carry their own end (W9 in `docs/RULES.md`), and may take bytes of the rows behind them.
@@ -32,16 +33,16 @@ use std::iter::FusedIterator;
 /// let block = [0xFF, 0x00, 0x00, 0x07, 0xFF, 0x00, 0x00, 0x08, 0x00, 0x64, 0x00, 0x00, 0x00];
 /// let mut rows = Rows::new(&block, &columns);
 /// let mut sum = 0;
-/// while rows.rest().starts_with(&[0xFF]) {
+/// while rows.rest().starts_with(&[0xFF, 0x00]) {
 ///     let Some(row) = rows.next_row() else { break };
-///     sum += row?.value(0).as_i64().unwrap_or(0);
+///     sum += row?.value(0).as_i64().expect("a SmallInt that is not null");
 /// }
 /// assert_eq!(sum, 15);
 /// assert_eq!(rows.rest(), [0x00, 0x64, 0x00, 0x00, 0x00]);
 /// # Ok::<(), vejupa::Refusal>(())
 /// ```
 ///
-/// Where the block holds rows alone:
+/// Where the bytes are rows alone:
 ///
 /// ```
 /// use vejupa::{Columns, OwnedRow, Refusal, Rows};
@@ -51,22 +52,33 @@ use std::iter::FusedIterator;
 /// # Ok::<(), Refusal>(())
 /// ```
 #[derive(Clone)]
-pub struct Rows<'a> {
+#[must_use = "iterators do nothing unless they are used"]
+pub struct Rows<'a, 'c> {
     rest: &'a [u8],
-    columns: &'a Columns,
+    columns: &'c Columns,
     buffers: Buffers,
     stopped: bool,
 }
 
-impl<'a> Rows<'a> {
+impl<'a, 'c> Rows<'a, 'c> {
     /// The rows of a block, by their columns.
-    pub fn new(data: &'a [u8], columns: &'a Columns) -> Rows<'a> {
+    pub fn new(data: &'a [u8], columns: &'c Columns) -> Rows<'a, 'c> {
+        Rows::with_buffers(data, columns, Buffers::new())
+    }
+
+    /// The same, with buffers that were used before; [`Rows::into_buffers`] gives them back.
+    pub fn with_buffers(data: &'a [u8], columns: &'c Columns, buffers: Buffers) -> Rows<'a, 'c> {
         Rows {
             rest: data,
             columns,
-            buffers: Buffers::new(),
+            buffers,
             stopped: false,
         }
+    }
+
+    /// The buffers, for the next block.
+    pub fn into_buffers(self) -> Buffers {
+        self.buffers
     }
 
     /// The next row, in buffers that the one after it uses again. None where the rows have ended.
@@ -101,7 +113,7 @@ impl<'a> Rows<'a> {
     }
 }
 
-impl Iterator for Rows<'_> {
+impl Iterator for Rows<'_, '_> {
     type Item = Result<OwnedRow, Refusal>;
 
     fn next(&mut self) -> Option<Result<OwnedRow, Refusal>> {
@@ -109,10 +121,10 @@ impl Iterator for Rows<'_> {
     }
 }
 
-impl FusedIterator for Rows<'_> {}
+impl FusedIterator for Rows<'_, '_> {}
 
 /// How much is not read yet, and whether the rows have ended.
-impl fmt::Debug for Rows<'_> {
+impl fmt::Debug for Rows<'_, '_> {
     fn fmt(&self, f: &mut fmt::Formatter<'_>) -> fmt::Result {
         f.debug_struct("Rows")
             .field("columns", &self.columns.len())

@@ -1,12 +1,23 @@
 //! What the `Display` and `Debug` of several types share.
-use std::fmt;
+use std::fmt::{self, Write};
 
-/// Writes a text of several parts with the width, alignment and precision that are asked for. Without them nothing is allocated.
+/// Writes a text with the width and alignment that are asked for, and all of it: a precision is for floats, and cuts nothing else. Without a
+/// width nothing is allocated.
 pub(crate) fn pad(f: &mut fmt::Formatter<'_>, text: fmt::Arguments<'_>) -> fmt::Result {
-    if f.width().is_none() && f.precision().is_none() {
+    let Some(width) = f.width() else {
         return f.write_fmt(text);
-    }
-    f.pad(&text.to_string())
+    };
+    let text = text.to_string();
+    let lacking = width.saturating_sub(text.chars().count());
+    let before = match f.align() {
+        Some(fmt::Alignment::Right) => lacking,
+        Some(fmt::Alignment::Center) => lacking / 2,
+        _ => 0,
+    };
+    let fill = f.fill();
+    (0..before).try_for_each(|_| f.write_char(fill))?;
+    f.write_str(&text)?;
+    (before..lacking).try_for_each(|_| f.write_char(fill))
 }
 
 /// Bytes in upper-case hexadecimal: `8B1A` by `Display`, `X'8B1A'` by `Debug`, which shows the first bytes of many and says how many

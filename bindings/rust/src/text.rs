@@ -5,6 +5,9 @@ use crate::Refusal;
 // More than the bytes given, for what most texts need. A text that needs still more takes a second call.
 const SPARE: usize = 16;
 
+// The precision has no part in a decimal's text.
+const NO_PRECISION: u8 = 0;
+
 // That is proved. Asked again here, it needs no `unsafe`.
 const UTF8: &str = "the library's texts are UTF-8";
 
@@ -149,18 +152,19 @@ pub fn format_rowid_into<'t>(bytes: &[u8], text: &'t mut [u8]) -> Result<&'t str
     written(raw::format_rowid(bytes, text), text)
 }
 
-/// The text of a packed decimal with `scale` digits behind the point. The precision has no part in it.
+/// The text of a packed decimal with `scale` digits behind the point. A nibble above 9 in place of a digit gives one of the characters
+/// `:;<=>?`.
 ///
 /// # Errors
 /// [`Refusal::DecimalEmpty`] and [`Refusal::DecimalTooLong`].
 ///
 /// ```
-/// assert_eq!(vejupa::decode_packed_decimal(&[0x12, 0x34, 0x5D], 5, 2)?, "-123.45");
+/// assert_eq!(vejupa::decode_packed_decimal(&[0x12, 0x34, 0x5D], 2)?, "-123.45");
 /// # Ok::<(), vejupa::Refusal>(())
 /// ```
-pub fn decode_packed_decimal(data: &[u8], precision: u8, scale: u8) -> Result<String, Refusal> {
+pub fn decode_packed_decimal(data: &[u8], scale: u8) -> Result<String, Refusal> {
     owned(2 * data.len() + usize::from(scale) + SPARE, |text| {
-        raw::decode_packed_decimal(data, precision, scale, text)
+        raw::decode_packed_decimal(data, NO_PRECISION, scale, text)
     })
 }
 
@@ -170,12 +174,11 @@ pub fn decode_packed_decimal(data: &[u8], precision: u8, scale: u8) -> Result<St
 /// The same, and [`Refusal::TextBufferTooShort`].
 pub fn decode_packed_decimal_into<'t>(
     data: &[u8],
-    precision: u8,
     scale: u8,
     text: &'t mut [u8],
 ) -> Result<&'t str, Refusal> {
     written(
-        raw::decode_packed_decimal(data, precision, scale, text),
+        raw::decode_packed_decimal(data, NO_PRECISION, scale, text),
         text,
     )
 }

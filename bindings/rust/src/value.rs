@@ -9,6 +9,9 @@ use std::fmt;
 /// Texts are UTF-8 whatever the host's code page; what is malformed there is U+FFFD here. Where the value is external
 /// ([`Row::is_external`](crate::Row::is_external)), a Clob, Xml or Blob is a reference to data that come outside of the row, and not the
 /// data.
+///
+/// `==` compares the variant too: `SmallInt(7)` is not `Integer(7)`, nor `Char("a")` a `VarChar("a")`. Which variant a column gives goes by its
+/// type: a host may send a CHAR as a VarChar.
 #[derive(Clone, Copy, PartialEq)]
 #[non_exhaustive]
 pub enum Value<'a> {
@@ -53,8 +56,9 @@ pub enum Value<'a> {
 }
 
 impl<'a> Value<'a> {
-    /// The value of three words, whose place is in the row or in the texts; None where there is no such sort, or the place does not fit.
-    pub(crate) fn from_words(
+    /// The value of three words, as [`raw::decode_row`](crate::raw::decode_row) writes them, with the row and the texts that its place is in; None
+    /// where there is no such sort, or the place does not fit.
+    pub fn from_words(
         words: [u64; VALUE_WORDS],
         data: &'a [u8],
         text: &'a str,
@@ -197,8 +201,8 @@ impl<'a> Value<'a> {
     }
 }
 
-/// Numbers in decimal, texts as they are, bytes in hexadecimal, `null`; with the width, alignment and precision asked for, where a
-/// Decimal goes as a number and keeps all its digits.
+/// Numbers in decimal, texts as they are, bytes in hexadecimal, `null`; with the width and alignment asked for, where a Decimal goes as a
+/// number. A precision is for floats alone: nothing else is cut.
 ///
 /// ```
 /// use vejupa::Value;
@@ -207,13 +211,13 @@ impl<'a> Value<'a> {
 impl fmt::Display for Value<'_> {
     fn fmt(&self, f: &mut fmt::Formatter<'_>) -> fmt::Result {
         match self {
-            Value::Null => f.pad("null"),
+            Value::Null => pad(f, format_args!("null")),
             Value::SmallInt(n) => n.fmt(f),
             Value::Integer(n) => n.fmt(f),
             Value::BigInt(n) => n.fmt(f),
             Value::Real(x) => x.fmt(f),
             Value::Double(x) => x.fmt(f),
-            Value::Boolean(b) => b.fmt(f),
+            Value::Boolean(b) => pad(f, format_args!("{b}")),
             Value::Decimal(number) => match number.strip_prefix('-') {
                 Some(digits) => f.pad_integral(false, "", digits),
                 None => f.pad_integral(true, "", number),
@@ -226,7 +230,7 @@ impl fmt::Display for Value<'_> {
             | Value::Date(s)
             | Value::Time(s)
             | Value::Timestamp(s)
-            | Value::Xml(s) => f.pad(s),
+            | Value::Xml(s) => pad(f, format_args!("{s}")),
         }
     }
 }
@@ -258,10 +262,11 @@ impl fmt::Debug for Value<'_> {
 }
 
 /// A column's value with texts and bytes of its own. What [`Value`] says of the variants holds here too.
-#[derive(Clone, PartialEq)]
+#[derive(Clone, PartialEq, Default)]
 #[non_exhaustive]
 pub enum OwnedValue {
     /// No value.
+    #[default]
     Null,
     /// A signed number of 16 bits.
     SmallInt(i16),

@@ -117,13 +117,25 @@ fn an_archive_that_is_missing() {
 #[test]
 fn an_archive_older_than_its_sources() {
     let repository = Repository::new("old");
-    let files = [
+    // The archive's own crate, one that it rests on, and one below that; and what is no source of it: a program, the list, a proof.
+    repository.write(
         "crates.txt",
+        b"text:\nrow: text\nvejupa: row\nshow_row: row\n",
+    );
+    let sources = [
+        "crates/vejupa/src/lib.rt",
         "crates/row/src/lib.rt",
         "crates/text/src/lib.rt",
     ];
-    for file in files {
+    let others = [
+        "crates.txt",
+        "crates/show_row/src/main.rt",
+        "crates/row/proofs/Proof.antt",
+    ];
+    for file in sources.iter().chain(&others[1..]) {
         repository.write(file, b"");
+    }
+    for file in sources.iter().chain(&others) {
         repository.date(file, 1000);
     }
     repository.write("target/staticlib/libvejupa.a", &archive());
@@ -133,11 +145,12 @@ fn an_archive_older_than_its_sources() {
         assert!(succeeds, "{said}");
         said
     };
-    // A proof is no source.
-    repository.write("crates/row/proofs/Proof.antt", b"");
-    let said = check();
-    assert!(!said.contains("warning"), "{said}");
-    for file in files {
+    for file in others {
+        repository.date(file, 0);
+        let said = check();
+        assert!(!said.contains("warning"), "{said}");
+    }
+    for file in sources {
         repository.date(file, 0);
         let said = check();
         assert!(said.contains("libvejupa.a is older than"), "{said}");

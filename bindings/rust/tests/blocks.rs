@@ -2,7 +2,7 @@
 mod common;
 
 use common::{all_sorts, VALUES};
-use vejupa::{Column, Columns, Db2Type, OwnedRow, Refusal, Rows, Value};
+use vejupa::{Buffers, Column, Columns, Db2Type, OwnedRow, Refusal, Rows, Value};
 
 /// One SmallInt a row.
 const SMALL_INT: &[u8] = &[0x06, 0x76, 0xD0, 0x04, 0x00, 0x02];
@@ -220,4 +220,45 @@ fn a_leading_null_read_as_the_two_leading_bytes() {
     assert_eq!(numbers(&rows[0]), [None, Some(7)]);
     assert_eq!(numbers(&rows[1]), [Some(1), Some(2)]);
     assert_eq!(rows.len(), 2);
+}
+
+/// A row that is cut off behind its first byte is read as a Null: the loop waits for FF 00.
+#[test]
+fn a_lone_ff_is_not_taken_for_a_row() {
+    let columns = Columns::from([Column::new(Db2Type::SmallInt).with_nullable(true)]);
+    assert_eq!(columns.decode_row(&[0xFF]).unwrap().values, [Value::Null]);
+    let whole = [0xFF, 0x00, 0x00, 0x00, 0x07, 0xFF, 0x00, 0x00, 0x00, 0x08];
+    for cut in 0..=whole.len() {
+        let mut left = whole[..cut].to_vec();
+        let mut found = Vec::new();
+        for more in [&whole[cut..], &[]] {
+            let mut rows = Rows::new(&left, &columns);
+            while rows.rest().starts_with(&[0xFF, 0x00]) {
+                match rows.next_row() {
+                    Some(Ok(row)) => found.push(row.value(0).as_i64()),
+                    Some(Err(refusal)) => assert_eq!(refusal.number(), 8),
+                    None => break,
+                }
+            }
+            left = [rows.rest(), more].concat();
+        }
+        assert_eq!(found, [Some(7), Some(8)], "cut at {cut}");
+        assert!(left.is_empty());
+    }
+}
+
+/// The buffers of one block serve the next, and what is left outlives the columns.
+#[test]
+fn buffers_and_rest_go_on() {
+    let block = [0x00, 0x07, 0x00];
+    let rest = {
+        let columns = Columns::from([Column::new(Db2Type::SmallInt)]);
+        let mut rows = Rows::with_buffers(&block, &columns, Buffers::with_text(9_000));
+        assert_eq!(rows.next_row().unwrap().unwrap().value(0).as_i64(), Some(7));
+        let rest = rows.rest();
+        let buffers = rows.into_buffers();
+        assert!(format!("{buffers:?}").contains("9000"), "{buffers:?}");
+        rest
+    };
+    assert_eq!(rest, [0x00]);
 }

@@ -3,7 +3,9 @@ mod common;
 
 use common::walked_both_ways;
 use vejupa::raw::{self, DescriptionAnswer, LengthAnswer, TOO_FEW_WORDS};
-use vejupa::{decode_row, parse_qrydsc, ByteOrder, Column, Columns, Db2Type, Refusal, Value};
+use vejupa::{
+    decode_row, parse_qrydsc, ByteOrder, Column, Columns, Db2Type, OwnedRow, Refusal, Value,
+};
 
 /// One of each type.
 const TYPES: [Db2Type; 29] = [
@@ -254,4 +256,62 @@ fn fixed_lengths() {
         None,
     ];
     assert_eq!(TYPES.map(Db2Type::fixed_length), expected);
+}
+
+#[test]
+fn lists_from_what_holds_columns() {
+    let columns = [
+        Column::new(Db2Type::SmallInt),
+        Column::new(Db2Type::Char(2)).with_ccsid(37),
+    ];
+    let mut list = Columns::from(columns);
+    assert_eq!(list, Columns::from(columns.to_vec()));
+    assert_eq!(list, Columns::from(&columns[..]));
+    assert_eq!(list, columns.into_iter().collect());
+    list.extend([Column::new(Db2Type::Clob)]);
+    assert_eq!(list.len(), 3);
+    let data = [0x00, 0x07, 0xC1, 0xC2, 0x00, 0x00, 0x00, 0x05];
+    let row = list.decode_row(&data).unwrap();
+    assert_eq!(
+        row,
+        decode_row(&data, &list.iter().collect::<Vec<_>>()).unwrap()
+    );
+    let values = [
+        Value::SmallInt(7),
+        Value::Char("AB"),
+        Value::Clob("LOB locator 0x00000005"),
+    ];
+    assert_eq!(row.values, values);
+    assert_eq!(
+        [0, 1, 2, 3].map(|k| row.is_external(k)),
+        [false, false, true, false]
+    );
+    assert!(OwnedRow::default().values.is_empty());
+}
+
+/// The values of the raw call's words are those of the row.
+#[test]
+fn values_from_words() {
+    let list = Columns::from([
+        Column::new(Db2Type::SmallInt),
+        Column::new(Db2Type::Char(2)).with_ccsid(37),
+    ]);
+    let data = [0x00, 0x07, 0xC1, 0xC2];
+    let (mut words, mut text) = ([0; 6], [0; 2]);
+    assert_eq!(
+        raw::decode_row(list.words(), &data, &mut words, &mut text).number,
+        raw::ACCEPTED
+    );
+    let text = std::str::from_utf8(&text).unwrap();
+    let value = |k: usize| {
+        Value::from_words(
+            [words[3 * k], words[3 * k + 1], words[3 * k + 2]],
+            &data,
+            text,
+        )
+    };
+    assert_eq!(value(0), Some(Value::SmallInt(7)));
+    assert_eq!(value(1), Some(Value::Char("AB")));
+    assert_eq!(Value::from_words([9, 1, 2], &data, text), None);
+    assert_eq!(Value::from_words([20, 0, 0], &data, text), None);
 }

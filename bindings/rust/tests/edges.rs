@@ -153,7 +153,7 @@ fn decimals() {
         ('H', &[0x0D], 0, "-0"),
         ('I', &[0x12, 0x3B], 0, "123"),
     ] {
-        let answer = decode_packed_decimal(data, 31, scale);
+        let answer = decode_packed_decimal(data, scale);
         assert_eq!(answer.as_deref(), Ok(text), "{letter}");
     }
 }

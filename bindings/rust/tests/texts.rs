@@ -32,7 +32,7 @@ fn lent_buffers() {
         short
     );
     assert_eq!(
-        decode_packed_decimal_into(&[0x12, 0x3C], 3, 1, &mut text),
+        decode_packed_decimal_into(&[0x12, 0x3C], 1, &mut text),
         short
     );
     assert_eq!(text, [0; 3]);
@@ -57,9 +57,9 @@ fn refusals() {
     assert_eq!(format_lob_locator(&long), Err(Refusal::InputTooLong));
     assert_eq!(format_rowid(&long), Err(Refusal::InputTooLong));
     assert!(bytes_are_likely_text(&long));
-    assert_eq!(decode_packed_decimal(&[], 5, 2), Err(Refusal::DecimalEmpty));
+    assert_eq!(decode_packed_decimal(&[], 2), Err(Refusal::DecimalEmpty));
     assert_eq!(
-        decode_packed_decimal(&[0; vejupa::MAX_DECIMAL + 1], 5, 2),
+        decode_packed_decimal(&[0; vejupa::MAX_DECIMAL + 1], 2),
         Err(Refusal::DecimalTooLong)
     );
 }

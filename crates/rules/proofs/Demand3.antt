@@ -8,7 +8,7 @@ use lib.ListN.{length, getD, take, drop, length-append}
 use lib.Seq.{take-at, take-take, length-take-le}
 use lib.Dec.{ltb}
 use borrow.Author.Tests.{le-ltb, ltb-false}
-use Rattle.refusal.specs.Refusal.{accepted, inputLimit}
+use Rattle.refusal.specs.Refusal.{Told, accepted, refused, inputLimit}
 use Rattle.buffer.specs.Buffer.{overwritten}
 use Rattle.types.specs.declared.ColumnDescriptor.{ColumnDescriptor}
 use Rattle.types.specs.declared.Columns.{Columns}
@@ -24,22 +24,26 @@ use Rattle.rules.proofs.Walks.{isDone, usedOf, piecesOf}
 use Rattle.rules.proofs.Rows.{row-used, row-cuts, row-begins, row-shorter}
 use Rattle.rules.proofs.Answers.{AllPlaced, row-placed, places-within, filled-together, value-same}
 
--- ---- what acceptance shows
+-- ---- what an outcome shows
+
+refused-not : (n : ℕ) (vs : List ℕ) → refused n vs ≡ accepted → ⊥
+refused-not n vs e = let o : _≡_ {A = ℕ} 0 1 = cc in omega arith
 
 module _ (L : Conversions) where
-  -- a test that refuses was false
-  past : (b : Bool) (n : ℕ) (vs : List ℕ) (x : Decision) → answerOf L (cond b (refuse n vs) x) .outcome ≡ accepted → (b ≡ false) × (cond b (refuse n vs) x ≡ x)
+  -- a test that refuses by another outcome was false
+  past : (o : Told) (b : Bool) (n : ℕ) (vs : List ℕ) (x : Decision) → (refused n vs ≡ o → ⊥) → answerOf L (cond b (refuse n vs) x) .outcome ≡ o
+      → (b ≡ false) × (cond b (refuse n vs) x ≡ x)
   unfolding answerOf
-  past true n vs x e = absurd (let o : _≡_ {A = ℕ} 0 1 = cc in omega arith)
-  past false n vs x e = (refl, refl)
+  past o true n vs x other e = absurd (other e)
+  past o false n vs x other e = (refl, refl)
 
   walked-accepted : (w : Walk) (d : List ℕ) → answerOf L (walkDecision L w d) .outcome ≡ accepted
       → (isDone w ≡ true) × (length (rowTexts L (piecesOf w)) ≤ length d) × (walkDecision L w d ≡ accept (piecesOf w) (usedOf w))
   unfolding walkDecision answerOf
   walked-accepted (done ps n) d e =
-      let r = past (ltb (length d) (length (rowTexts L ps))) 9 (length (rowTexts L ps) ∷ []) (accept ps n) e in
+      let r = past accepted (ltb (length d) (length (rowTexts L ps))) 9 (length (rowTexts L ps) ∷ []) (accept ps n) (refused-not 9 (length (rowTexts L ps) ∷ [])) e in
       (refl, ltb-false (length d) (length (rowTexts L ps)) (r .0), r .1)
-  walked-accepted (short x y) d e = absurd (let o : _≡_ {A = ℕ} 0 1 = cc in omega arith)
+  walked-accepted (short x y) d e = absurd (refused-not 8 (x ∷ y ∷ []) e)
 
   walked-done : (w : Walk) (d : List ℕ) → isDone w ≡ true → length (rowTexts L (piecesOf w)) ≤ length d → walkDecision L w d ≡ accept (piecesOf w) (usedOf w)
   unfolding walkDecision
@@ -75,6 +79,26 @@ module _ (L : Conversions) (columns : Columns) where
   abbrev cs : List ColumnDescriptor
   cs = covered columns
 
+  -- all that an outcome shows of the tests before the walk, where it is none of their refusals
+  pub record Tested (s d : List ℕ) : Type 0 where
+    pub few : ltb maxColumns (columns .count) ≡ false
+    pub fits : length s ≤ inputLimit
+    pub plain : anyDecFloat (covered columns) ≡ false
+    pub walked : rowDecision L columns s d ≡ walkDecision L (walkRow (covered columns) s) d
+
+  pub tested : (o : Told) (s d : List ℕ) → ((n : ℕ) → n < 8 → refused n [] ≡ o → ⊥) → answerWith L columns s d .outcome ≡ o → Tested s d
+  unfolding rowDecision bodyDecision
+  tested o s d other e =
+      let end = walkDecision L (walkRow cs s) d in
+      let third = cond (anyDecFloat cs) (refuse 5 []) end in
+      let second = cond (ltb inputLimit (length s)) (refuse 4 []) third in
+      let a = past L o (ltb maxColumns (columns .count)) 3 [] second (other 3 (omega arith)) e in
+      let e₂ = sym (ap (λ (x : Decision). answerOf L x .outcome) (a .1)) ∙ e in
+      let b = past L o (ltb inputLimit (length s)) 4 [] third (other 4 (omega arith)) e₂ in
+      let e₃ = sym (ap (λ (x : Decision). answerOf L x .outcome) (b .1)) ∙ e₂ in
+      let c = past L o (anyDecFloat cs) 5 [] end (other 5 (omega arith)) e₃ in
+      record { few = a .0; fits = ltb-false inputLimit (length s) (b .0); plain = c .0; walked = a .1 ∙ b .1 ∙ c .1 }
+
   -- all that an accepted call shows of its columns, its input and its text buffer
   pub record Facts (s d : List ℕ) : Type 0 where
     pub few : ltb maxColumns (columns .count) ≡ false
@@ -85,26 +109,10 @@ module _ (L : Conversions) (columns : Columns) where
     pub decided : rowDecision L columns s d ≡ accept (piecesOf (walkRow (covered columns) s)) (usedOf (walkRow (covered columns) s))
 
   pub facts : (s d : List ℕ) → answerWith L columns s d .outcome ≡ accepted → Facts s d
-  unfolding rowDecision bodyDecision
   facts s d e =
-      let end = walkDecision L (walkRow cs s) d in
-      let third = cond (anyDecFloat cs) (refuse 5 []) end in
-      let second = cond (ltb inputLimit (length s)) (refuse 4 []) third in
-      let a = past L (ltb maxColumns (columns .count)) 3 [] second e in
-      let e₂ = sym (ap (λ (x : Decision). answerOf L x .outcome) (a .1)) ∙ e in
-      let b = past L (ltb inputLimit (length s)) 4 [] third e₂ in
-      let e₃ = sym (ap (λ (x : Decision). answerOf L x .outcome) (b .1)) ∙ e₂ in
-      let c = past L (anyDecFloat cs) 5 [] end e₃ in
-      let e₄ = sym (ap (λ (x : Decision). answerOf L x .outcome) (c .1)) ∙ e₃ in
-      let w = walked-accepted L (walkRow cs s) d e₄ in
-      record {
-        few = a .0;
-        fits = ltb-false inputLimit (length s) (b .0);
-        plain = c .0;
-        over = w .0;
-        room = w .1;
-        decided = a .1 ∙ b .1 ∙ c .1 ∙ w .2;
-      }
+      let t = tested accepted s d (λ n h. refused-not n []) e in
+      let w = walked-accepted L (walkRow cs s) d (sym (ap (λ (x : Decision). answerOf L x .outcome) (t .walked)) ∙ e) in
+      record { few = t .few; fits = t .fits; plain = t .plain; over = w .0; room = w .1; decided = t .walked ∙ w .2 }
 
   -- a call at the same columns within the limit comes to its walk
   pub call-walked : ltb maxColumns (columns .count) ≡ false → anyDecFloat cs ≡ false → (t d : List ℕ) → length t ≤ inputLimit

@@ -1,6 +1,6 @@
 -- Which column a row is too short in (specs/ShortColumn.antt): for every choice of the conversions, and so of the row call. Assumes nothing.
 use Prim.Native.Nat.{ℕ, zero, suc, _+_, _-_, _≤_, _<_}
-use mathlib.Core.Path.{_≡_, refl, sym, ap, _∙_}
+use mathlib.Core.Path.{_≡_, refl, sym, ap, _∙_, subst}
 use mathlib.Core.Bool.{Bool, true, false, cond, _||_, true≢false}
 use mathlib.Core.List.{List, [], _∷_}
 use native.Mathlib.Omega.{arith}
@@ -8,7 +8,7 @@ use lib.ListN.{length, getD, take, drop, length-take}
 use lib.Seq.{take-take}
 use lib.Dec.{leb, ltb}
 use borrow.Author.Tests.{le-ltb, ltb-false}
-use Rattle.refusal.specs.Refusal.{Told, accepted, refused, toldNumber, inputLimit}
+use Rattle.refusal.specs.Refusal.{Told, accepted, refused, toldNumber}
 use Rattle.types.specs.declared.ColumnDescriptor.{ColumnDescriptor}
 use Rattle.types.specs.declared.Columns.{Columns}
 use Rattle.types.specs.Names.{isDecFloat}
@@ -16,11 +16,11 @@ use Rattle.types.specs.Places.{maxColumns}
 use Rattle.rules.specs.Extent.{extentOf}
 use Rattle.rules.specs.Meaning.{Conversions}
 use Rattle.rules.specs.Walk.{columnNeed, Cell, cellOf, Walk, done, short, consCell, cellShort, walk, walkBody, walkRow, skipOf}
-use Rattle.rules.specs.Row.{RowTold, Decision, refuse, accept, covered, anyDecFloat, rowTexts, walkDecision, bodyDecision, rowDecision, answerOf, refusedRow, answerWith}
+use Rattle.rules.specs.Row.{RowTold, Decision, refuse, accept, covered, anyDecFloat, rowTexts, walkDecision, rowDecision, answerOf, refusedRow, answerWith}
 use Rattle.rules.specs.Conversions.{ported, rowAnswer}
 use Rattle.rules.specs.ShortColumn.{firstColumns, Lacking, ShortColumn}
 use Rattle.rules.proofs.Walks.{isDone, cons-done}
-use Rattle.rules.proofs.Demand3.{call-walked}
+use Rattle.rules.proofs.Demand3.{Tested, tested, call-walked}
 
 -- ---- the walk
 
@@ -91,13 +91,6 @@ none-before (suc j) (c ∷ cs) h = go (isDecFloat c) h (none-before j cs)
     go false k f = f k
 
 module _ (L : Conversions) where
-  -- a test that refuses by another number was false
-  past : (b : Bool) (n : ℕ) (x : Decision) (vs : List ℕ) → (n ≡ 8 → ⊥) → answerOf L (cond b (refuse n []) x) .outcome ≡ refused 8 vs
-      → (b ≡ false) × (answerOf L x .outcome ≡ refused 8 vs)
-  unfolding answerOf
-  past true n x vs o e = absurd (o (ap toldNumber e))
-  past false n x vs o e = (refl, e)
-
   -- a walk that is done is not too short
   not-short : (w : Walk) (d vs : List ℕ) → isDone w ≡ true → answerOf L (walkDecision L w d) .outcome ≡ refused 8 vs → ⊥
   unfolding walkDecision answerOf
@@ -113,54 +106,44 @@ module _ (L : Conversions) where
   valuesOf (refused n vs) = vs
 
   -- and one that is not done is too short by its own numbers
-  is-short : (w : Walk) (d : List ℕ) (x y : ℕ) → answerOf L (walkDecision L w d) .outcome ≡ refused 8 (x ∷ y ∷ []) → w ≡ short x y
+  is-short : (w : Walk) (d vs : List ℕ) → answerOf L (walkDecision L w d) .outcome ≡ refused 8 vs → (x : ℕ) × (y : ℕ) × (w ≡ short x y) × (x ∷ y ∷ [] ≡ vs)
   unfolding walkDecision answerOf
-  is-short (done ps n) d x y e = absurd (not-short (done ps n) d (x ∷ y ∷ []) refl e)
-  is-short (short a b) d x y e =
-      let p : a ≡ x = ap (λ (t : Told). getD (valuesOf t) 0 0) e in
-      let q : b ≡ y = ap (λ (t : Told). getD (valuesOf t) 1 0) e in
-      rw (p, q)
+  is-short (done ps n) d vs e = absurd (not-short (done ps n) d vs refl e)
+  is-short (short x y) d vs e = (x, y, refl, ap valuesOf e)
 
-  short-column-at : (columns : Columns) (s d : List ℕ) (x y : ℕ) → answerWith L columns s d ≡ refusedRow 8 (x ∷ y ∷ []) → (k : ℕ) × Lacking (answerWith L) columns s x y k
-  unfolding rowDecision bodyDecision walkBody walkDecision answerOf
-  short-column-at columns s d x y e =
-      let vs = x ∷ y ∷ [] in
-      let cs = covered columns in
-      let end = walkDecision L (walkRow cs s) d in
-      let third = cond (anyDecFloat cs) (refuse 5 []) end in
-      let second = cond (ltb inputLimit (length s)) (refuse 4 []) third in
-      let a = past (ltb maxColumns (columns .count)) 3 second vs (λ z. omega (arith, z)) (ap (λ (r : RowTold). r .outcome) e) in
-      let b = past (ltb inputLimit (length s)) 4 third vs (λ z. omega (arith, z)) (a .1) in
-      let c = past (anyDecFloat cs) 5 end vs (λ z. omega (arith, z)) (b .1) in
-      let w = is-short (walkRow cs s) d x y (c .1) in
-      let r = walk-stops (skipOf s) cs (skipOf s) (drop (skipOf s) s) x y w in
-      let k = r .0 in
-      let f = r .1 in
-      let among : k < columns .count = omega (arith, f .within, length-take (columns .count) (columns .columns)) in
-      (k, record { covers = among; without = without′ (a .0) (b .0) (c .0) k f among; with-it = with′ (a .0) (b .0) (c .0) k f })
-    where
-      same : (j : ℕ) → j ≤ columns .count → covered (firstColumns j columns) ≡ take j (covered columns)
-      same j h = sym (take-take j (columns .count) (columns .columns) h)
+  module _ (columns : Columns) (s d : List ℕ) (t : Tested L columns s d) where
+    -- a call with the first j columns passes the same tests, and comes to its own walk
+    called : (j : ℕ) (e : List ℕ) → j ≤ columns .count → rowDecision L (firstColumns j columns) s e ≡ walkDecision L (walkRow (take j (covered columns)) s) e
+    called j e h =
+        let same : covered (firstColumns j columns) ≡ take j (covered columns) = sym (take-take j (columns .count) (columns .columns) h) in
+        let few = ltb-false maxColumns (columns .count) (t .few) in
+        let plain : anyDecFloat (covered (firstColumns j columns)) ≡ false = rw same (none-before j (covered columns) (t .plain)) in
+        call-walked L (firstColumns j columns) (le-ltb maxColumns j (omega arith)) plain s e (t .fits) ∙ ap (λ (l : List ColumnDescriptor). walkDecision L (walkRow l s) e) same
 
-      called : ltb maxColumns (columns .count) ≡ false → ltb inputLimit (length s) ≡ false → anyDecFloat (covered columns) ≡ false → (j : ℕ) (t : List ℕ) → j ≤ columns .count
-          → rowDecision L (firstColumns j columns) s t ≡ walkDecision L (walkRow (take j (covered columns)) s) t
-      called a b c j t h =
-          let few = ltb-false maxColumns (columns .count) a in
-          let plain : anyDecFloat (covered (firstColumns j columns)) ≡ false = rw (same j h) (none-before j (covered columns) c) in
-          call-walked L (firstColumns j columns) (le-ltb maxColumns j (omega arith)) plain s t (ltb-false inputLimit (length s) b)
-          ∙ ap (λ (l : List ColumnDescriptor). walkDecision L (walkRow l s) t) (same j h)
+    module _ (x y k : ℕ) (f : Stops (skipOf s) (covered columns) (skipOf s) (drop (skipOf s) s) x y k) where
+      among : k < columns .count
+      among = omega (arith, f .within, length-take (columns .count) (columns .columns))
 
-      without′ : ltb maxColumns (columns .count) ≡ false → ltb inputLimit (length s) ≡ false → anyDecFloat (covered columns) ≡ false → (k : ℕ)
-          → Stops (skipOf s) (covered columns) (skipOf s) (drop (skipOf s) s) x y k → k < columns .count
-          → (j : ℕ) (t vs : List ℕ) → j ≤ k → answerWith L (firstColumns j columns) s t .outcome ≡ refused 8 vs → ⊥
-      without′ a b c k f among j t vs h o =
-          not-short (walkRow (take j (covered columns)) s) t vs (f .before j h)
-          (sym (ap (λ (x : Decision). answerOf L x .outcome) (called a b c j t (omega arith))) ∙ o)
+      without′ : (j : ℕ) (e vs : List ℕ) → j ≤ k → answerWith L (firstColumns j columns) s e .outcome ≡ refused 8 vs → ⊥
+      unfolding walkBody
+      without′ j e vs h o =
+          let few = among in
+          not-short (walkRow (take j (covered columns)) s) e vs (f .before j h) (sym (ap (λ (z : Decision). answerOf L z .outcome) (called j e (omega arith))) ∙ o)
 
-      with′ : ltb maxColumns (columns .count) ≡ false → ltb inputLimit (length s) ≡ false → anyDecFloat (covered columns) ≡ false → (k : ℕ)
-          → Stops (skipOf s) (covered columns) (skipOf s) (drop (skipOf s) s) x y k
-          → (j : ℕ) (t : List ℕ) → k < j → j ≤ columns .count → answerWith L (firstColumns j columns) s t ≡ refusedRow 8 (x ∷ y ∷ [])
-      with′ a b c k f j t h l = ap (answerOf L) (called a b c j t l ∙ ap (λ (w : Walk). walkDecision L w t) (f .from j h))
+      with′ : (j : ℕ) (e : List ℕ) → k < j → j ≤ columns .count → answerWith L (firstColumns j columns) s e ≡ refusedRow 8 (x ∷ y ∷ [])
+      unfolding walkBody walkDecision answerOf
+      with′ j e h l = ap (answerOf L) (called j e l ∙ ap (λ (w : Walk). walkDecision L w e) (f .from j h))
+
+      lacking : Lacking (answerWith L) columns s (x ∷ y ∷ []) k
+      lacking = record { covers = among; without = without′; with-it = with′ }
+
+  short-column-at : ShortColumn (answerWith L)
+  unfolding walkBody
+  short-column-at columns s d vs o =
+      let t = tested L columns (refused 8 vs) s d (λ n h z. omega (arith, h, ap toldNumber z)) o in
+      let w = is-short (walkRow (covered columns) s) d vs (sym (ap (λ (z : Decision). answerOf L z .outcome) (t .walked)) ∙ o) in
+      let r = walk-stops (skipOf s) (covered columns) (skipOf s) (drop (skipOf s) s) (w .0) (w .1) (w .2) in
+      (r .0, subst (λ (us : List ℕ). Lacking (answerWith L) columns s us (r .0)) (w .3) (lacking columns s d t (w .0) (w .1) (r .0) (r .1)))
 
 -- for every choice of the conversions
 pub short-column-with : (L : Conversions) → ShortColumn (answerWith L)

@@ -2,7 +2,7 @@
 -- proofs/ShortColumn.antt proves it of the row call. Assumes nothing.
 use Prim.Native.Nat.{ℕ, _≤_, _<_}
 use mathlib.Core.Path.{_≡_}
-use mathlib.Core.List.{List, [], _∷_}
+use mathlib.Core.List.{List}
 use Rattle.refusal.specs.Refusal.{refused}
 use Rattle.types.specs.declared.Columns.{Columns}
 use Rattle.rules.specs.Row.{RowTold, refusedRow}
@@ -12,15 +12,13 @@ abbrev pub firstColumns : ℕ → Columns → Columns
 firstColumns j columns = record { columns = columns .columns; count = j }
 
 module _ (answer : Columns → List ℕ → List ℕ → RowTold) where
-  -- column k of the row s lacks bytes: the columns before it, alone, are not too short, and however many of them are called with it are, by the same two numbers;
+  -- column k of the row s lacks bytes: the columns before it, alone, are not too short, and however many of them are called with it are, by the same two numbers vs;
   -- whatever the text buffers
-  pub record Lacking (columns : Columns) (s : List ℕ) (expected actual : ℕ) (k : ℕ) : Type 0 where
+  pub record Lacking (columns : Columns) (s vs : List ℕ) (k : ℕ) : Type 0 where
     pub covers : k < columns .count
-    pub without : (j : ℕ) (e vs : List ℕ) → j ≤ k → answer (firstColumns j columns) s e .outcome ≡ refused 8 vs → ⊥
-    pub with-it : (j : ℕ) (e : List ℕ) → k < j → j ≤ columns .count → answer (firstColumns j columns) s e ≡ refusedRow 8 (expected ∷ actual ∷ [])
+    pub without : (j : ℕ) (e us : List ℕ) → j ≤ k → answer (firstColumns j columns) s e .outcome ≡ refused 8 us → ⊥
+    pub with-it : (j : ℕ) (e : List ℕ) → k < j → j ≤ columns .count → answer (firstColumns j columns) s e ≡ refusedRow 8 vs
 
   -- of every row that is too short
   abbrev pub ShortColumn : Type 0
-  ShortColumn =
-      (columns : Columns) (s d : List ℕ) (expected actual : ℕ) → answer columns s d ≡ refusedRow 8 (expected ∷ actual ∷ [])
-      → (k : ℕ) × Lacking columns s expected actual k
+  ShortColumn = (columns : Columns) (s d vs : List ℕ) → answer columns s d .outcome ≡ refused 8 vs → (k : ℕ) × Lacking columns s vs k

@@ -5,3 +5,4 @@ mod RowCall
 pub mod ValueBytes
 pub mod ValueRanges
 pub mod RowForms
+pub mod ShortWords

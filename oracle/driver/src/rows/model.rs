@@ -2,7 +2,7 @@
 //! the run is asked to say; with one it is a wrong library, whose fault shows only on some rows, as a real one would.
 //! The conversions of single texts are the Rust's: `crate::faults` has faults of those.
 use super::faults::Fault;
-use super::port_side::Library;
+use super::port_side::{plain as refused, Library};
 use super::{LARGEST_NUMBER, ROW_LIMIT};
 use crate::descriptions::COLUMN_LIMIT;
 use db2_proto::fdoca::exposed;
@@ -70,16 +70,6 @@ fn all_zero(bytes: &[u8]) -> bool {
 
 fn low15(number: u16) -> usize {
     usize::from(number & 0x7FFF)
-}
-
-fn refused(number: u32) -> Decoded {
-    Decoded {
-        number,
-        used: 0,
-        text_length: 0,
-        expected: 0,
-        actual: 0,
-    }
 }
 
 fn too_short(expected: usize, actual: usize) -> Decoded {

@@ -47,7 +47,7 @@ pub struct PortSide<L> {
 }
 
 /// An answer whose other numbers are all 0.
-fn plain(number: u32) -> Decoded {
+pub fn plain(number: u32) -> Decoded {
     Decoded {
         number,
         used: 0,

@@ -1,0 +1,99 @@
+-- Which column a row is too short in, by the row call on words: calls with the words of fewer columns tell it, as calls of decode_row with fewer columns do (rules,
+-- ShortColumn). Assumes nothing.
+use Prim.Native.Nat.{ℕ, zero, suc, _-_, _*_, _≤_, _<_}
+use mathlib.Core.Path.{_≡_, refl, sym, ap, _∙_}
+use mathlib.Core.Bool.{cond}
+use mathlib.Core.List.{List, [], _∷_}
+use native.Mathlib.Omega.{arith}
+use lib.Dec.{ltb}
+use lib.ListN.{length, take, replicate}
+use lib.Seq.{take-nil, take-append-le, length-take-le}
+use Rattle.refusal.specs.Refusal.{Told, accepted, refused, toldNumber, inputLimit}
+use Rattle.types.specs.declared.ColumnDescriptor.{ColumnDescriptor}
+use Rattle.types.specs.Places.{maxColumns, filled, blankColumn, columnList}
+use Rattle.rules.specs.Walk.{skipOf}
+use Rattle.rules.specs.Row.{RowTold, Decision, refuse, covered, anyDecFloat, bodyDecision, rowDecision, answerOf}
+use Rattle.rules.specs.Conversions.{ported, rowAnswer}
+use Rattle.rules.specs.ShortColumn.{firstColumns, Lacking}
+use Rattle.rules.proofs.ShortColumn.{short-column}
+use Rattle.words.specs.Words.{firstWord, secondWord, packColumns}
+use Rattle.words.proofs.Columns.{AllFit}
+use Rattle.vejupa.specs.Rows.{wordsDecision, rowNumbers}
+use Rattle.vejupa.proofs.RowCall.{covered-list}
+use Rattle.vejupa.proofs.RowForms.{same-number}
+
+-- ---- the words of the first columns
+
+first-words : (j : ℕ) (cs : List ColumnDescriptor) → take (2 * j) (packColumns cs) ≡ packColumns (take j cs)
+unfolding packColumns
+first-words zero cs = refl
+first-words (suc j) [] = take-nil (2 * suc j)
+first-words (suc j) (c ∷ cs) =
+    let e : 2 * suc j ≡ suc (suc (2 * j)) = omega arith in
+    ap (λ (n : ℕ). take n (firstWord c ∷ secondWord c ∷ packColumns cs)) e ∙ ap (λ (w : List ℕ). firstWord c ∷ secondWord c ∷ w) (first-words j cs)
+
+first-fit : (j : ℕ) (cs : List ColumnDescriptor) → AllFit cs → AllFit (take j cs)
+first-fit zero cs h = tt
+first-fit (suc j) [] h = tt
+first-fit (suc j) (c ∷ cs) h = (h .0, first-fit j cs (h .1))
+
+-- a row call goes by the count, and by the columns that it covers
+abbrev decisionBy : ℕ → List ColumnDescriptor → List ℕ → List ℕ → Decision
+decisionBy n cs s d =
+    cond (ltb maxColumns n) (refuse 3 [])
+    (cond (ltb inputLimit (length s)) (refuse 4 [])
+    (cond (anyDecFloat cs) (refuse 5 [])
+    (bodyDecision ported cs (skipOf s) s d)))
+
+-- so the list of the first j columns, and the list with the count j, are one
+first-decision : (j : ℕ) (cs : List ColumnDescriptor) (s d : List ℕ) → j ≤ length cs
+    → rowDecision ported (columnList (take j cs)) s d ≡ rowDecision ported (firstColumns j (columnList cs)) s d
+unfolding rowDecision columnList filled
+first-decision j cs s d h =
+    let n : length (take j cs) ≡ j = length-take-le j cs h in
+    let a : covered (columnList (take j cs)) ≡ take j cs = covered-list (take j cs) in
+    let b : covered (firstColumns j (columnList cs)) ≡ take j cs = take-append-le j cs (replicate (maxColumns - length cs) blankColumn) h in
+    ap (λ (m : ℕ). decisionBy m (covered (columnList (take j cs))) s d) n ∙ ap (λ (l : List ColumnDescriptor). decisionBy j l s d) (a ∙ sym b)
+
+is-8 : (o : Told) → toldNumber o ≡ 8 → (vs : List ℕ) × (o ≡ refused 8 vs)
+is-8 accepted h = absurd (omega (arith, h))
+is-8 (refused n vs) h = (vs, ap (λ (m : ℕ). refused m vs) h)
+
+-- ---- the calls with fewer words
+
+module _ (cs : List ColumnDescriptor) (fit : AllFit cs) (few : length cs ≤ maxColumns) (s v : List ℕ) (room : 3 * length cs ≤ length v) where
+  -- the number that the call with the words of the first j columns returns, in the text buffer d
+  abbrev pub returnedBy : ℕ → List ℕ → ℕ
+  returnedBy j d = rowNumbers (wordsDecision (take (2 * j) (packColumns cs)) s v d) .returned
+
+  -- column k lacks bytes: so many words are too short exactly where its own are among them
+  pub record LackingWords (k : ℕ) : Type 0 where
+    pub covers : k < length cs
+    pub without : (j : ℕ) (d : List ℕ) → j ≤ k → returnedBy j d ≡ 8 → ⊥
+    pub with-it : (j : ℕ) (d : List ℕ) → k < j → j ≤ length cs → returnedBy j d ≡ 8
+
+  same-returned : (j : ℕ) (d : List ℕ) → j ≤ length cs → returnedBy j d ≡ toldNumber (rowAnswer (firstColumns j (columnList cs)) s d .outcome)
+  unfolding rowAnswer
+  same-returned j d h =
+      let n = length-take-le j cs h in
+      ap (λ (w : List ℕ). rowNumbers (wordsDecision w s v d) .returned) (first-words j cs)
+      ∙ same-number (take j cs) (first-fit j cs fit) (omega (arith, n)) s v d (omega (arith, n, room))
+      ∙ ap (λ (e : Decision). toldNumber (answerOf ported e .outcome)) (first-decision j cs s d h)
+
+  pub short-words : (d : List ℕ) → rowNumbers (wordsDecision (packColumns cs) s v d) .returned ≡ 8 → (k : ℕ) × LackingWords k
+  unfolding columnList
+  short-words d h =
+      let o = is-8 (rowAnswer (columnList cs) s d .outcome) (sym (same-number cs fit few s v d room) ∙ h) in
+      let r = short-column (columnList cs) s d (o .0) (o .1) in
+      let k = r .0 in
+      let f = r .1 in
+      (k, record { covers = f .covers; without = without′ k f; with-it = with′ (o .0) k f })
+    where
+      without′ : (k : ℕ) {vs : List ℕ} → Lacking rowAnswer (columnList cs) s vs k → (j : ℕ) (e : List ℕ) → j ≤ k → returnedBy j e ≡ 8 → ⊥
+      without′ k f j e l z =
+          let below = f .covers in
+          let o = is-8 (rowAnswer (firstColumns j (columnList cs)) s e .outcome) (sym (same-returned j e (omega arith)) ∙ z) in
+          f .without j e (o .0) l (o .1)
+
+      with′ : (vs : List ℕ) (k : ℕ) → Lacking rowAnswer (columnList cs) s vs k → (j : ℕ) (e : List ℕ) → k < j → j ≤ length cs → returnedBy j e ≡ 8
+      with′ vs k f j e l m = same-returned j e m ∙ ap (λ (a : RowTold). toldNumber (a .outcome)) (f .with-it j e l m)

@@ -36,6 +36,10 @@
 
 #ifdef __cplusplus
 extern "C" {
+#if defined(__GNUC__)
+#pragma GCC diagnostic push
+#pragma GCC diagnostic ignored "-Wold-style-cast" /* C has no other */
+#endif
 #endif
 
 /* The version of these calls. CHANGELOG.md says what changed. */
@@ -469,6 +473,9 @@ static inline int vejupa_value_is_text(const struct vejupa_value *value) {
 }
 
 #ifdef __cplusplus
+#if defined(__GNUC__)
+#pragma GCC diagnostic pop
+#endif
 }
 #endif
 

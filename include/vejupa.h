@@ -14,8 +14,8 @@
  * - What a call writes must not overlap anything else that it is given. What is only read may overlap.
  * - Given these two, any bytes, numbers and lengths may be passed: each call tests its own input, reads and writes within what it is lent, and ends.
  * - Texts are UTF-8, without a byte 0 at the end, and may hold bytes 0; trailing blanks stay. Dates and times are as the host spelled them.
- * - The library keeps nothing from call to call and allocates nothing: calls that write to different memory may run at the same time. 6,000 bytes of stack
- *   are enough for any call: less than 2,500 of its own, and the rest where the dynamic linker looks up memset at the first one.
+ * - The library keeps nothing from call to call and allocates nothing: calls that write to different memory may run at the same time. A call takes less than
+ *   2,500 bytes of stack of its own; where the dynamic linker looks up memset at the first one, that took some 3,500 more.
  *
  * Rows that lie one after the other, where a host sends FF 00 before each, as all do that were recorded: decode a row while the rest begins FF 00, and go on by
  * `used`. Heed:
@@ -150,8 +150,9 @@ enum vejupa_sort {
 };
 
 /* The library's own symbols, for other languages that can call C; a C program calls what follows them. Columns and values are counted in words here: a name
- * that ends in _words_len says how many words there are, two a column, three a value. An odd word of columns is 102. No pointer is null, also where there
- * are no elements: any address will do that is aligned for the type. What each promises stands beside it in crates/vejupa/src/lib.rt. */
+ * that ends in _words_len says how many words there are, two a column, three a value. An odd number of column words is 102, where neither 3 nor 101
+ * applies. No pointer is null, also where there are no elements: any address will do that is aligned for the type. What each promises stands beside it in
+ * crates/vejupa/src/lib.rt. */
 #if defined(__GNUC__)
 #define VEJUPA_NONNULL __attribute__((nonnull))
 #else
@@ -355,8 +356,8 @@ static inline int vejupa_type_has_length(uint32_t type) {
     }
 }
 
-/* The numbers that the type itself holds: what the row call goes by. vejupa_parse_qrydsc makes them of length, precision and scale; in a caller's own list, and
- * where the host's description contradicts itself, the two may differ. */
+/* The numbers that the type itself holds: what the row call goes by. vejupa_parse_qrydsc makes them of length, precision and scale, so that they are the same,
+ * but for a DecFloat's digits; in a caller's own list they may differ. */
 static inline uint16_t vejupa_column_type_numbers(const struct vejupa_column *column) { return (uint16_t)(column->words[0] >> 8 & 0xFFFF); }
 
 /* Of a Decimal the two numbers that its type holds. */
@@ -373,16 +374,17 @@ static inline uint16_t vejupa_column_ccsid(const struct vejupa_column *column) {
 /* 0 where there is none; 0 is a width as well. */
 static inline uint16_t vejupa_column_reference_length(const struct vejupa_column *column) { return (uint16_t)(column->words[1] >> 48 & 0xFFFF); }
 
-/* Length (bit 8000 included), precision and scale as the description says them: to show, and not what the row call goes by, save for the lengths named there. A
- * field that a description lacks is 0. */
+/* Length (bit 8000 included), precision and scale as the description says them: to show, and not what the row call goes by, save for the lengths that
+ * vejupa_decode_row names. A field that a description lacks is 0. */
 static inline uint16_t vejupa_column_length(const struct vejupa_column *column) { return (uint16_t)(column->words[1] & 0xFFFF); }
 static inline uint8_t vejupa_column_precision(const struct vejupa_column *column) { return (uint8_t)(column->words[1] >> 16 & 0xFF); }
 static inline uint8_t vejupa_column_scale(const struct vejupa_column *column) { return (uint8_t)(column->words[1] >> 24 & 0xFF); }
 
 /* A caller's own column: big-endian, without a reference length. `length` is the length that the type itself holds, where it holds one; of a Timestamp or
  * Boolean the bytes of a value (0 stands for 26 and 1); of a Blob, Clob or DbClob 0 says that its values are references of four bytes, and any other that
- * they come within the row. A CCSID matters for texts. A Decimal has a function of its own: here it gives what is no column, as does a type that there is
- * none of. Column number, DRDA type code, precision and scale are 0: the row call does not look at them. */
+ * they come within the row; for both, nine bytes of which the first is 02 are a reference. A CCSID matters for texts. A Decimal has a function of its own:
+ * here it gives what is no column, as does a type that there is none of. Column number, DRDA type code, precision and scale are 0: the row call does not
+ * look at them. */
 static inline struct vejupa_column vejupa_make_column(enum vejupa_type type, uint16_t length, int nullable, uint16_t ccsid) {
     struct vejupa_column column;
     uint32_t named = (uint32_t)type;

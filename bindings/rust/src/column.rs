@@ -49,10 +49,10 @@ pub struct Column {
 }
 
 impl Column {
-    /// A column of a type and nothing else: not null, big-endian, CCSID 0, no reference, every other number 0.
+    /// A column of a type and nothing else: not nullable, big-endian, CCSID 0, no reference, every other number 0.
     ///
     /// Say more where it matters. A text of CCSID 0 is guessed, as that of every CCSID that the library does not name: give it one. A Blob,
-    /// Clob or DbClob of length 0 is a reference of four bytes: where its values come within the row, give it a length. A Timestamp of
+    /// Clob or DbClob of length 0 is a reference, of four bytes or of nine that begin 02: where its values come within the row, give it a length. A Timestamp of
     /// length 0 has 26 bytes.
     #[must_use]
     pub const fn new(db2_type: Db2Type) -> Column {

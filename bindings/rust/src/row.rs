@@ -55,7 +55,7 @@ impl Buffers {
         }
     }
 
-    /// Decodes a row. The second turn, with the length that the first asked for, is the last.
+    /// Decodes a row. The second turn, with at least the length that the first asked for, is the last.
     pub(crate) fn fill(&mut self, data: &[u8], columns: &Columns) -> Result<Filled, Refusal> {
         let words = VALUE_WORDS * columns.len();
         if self.values.len() < words {
@@ -142,7 +142,8 @@ pub struct Row<'a> {
 /// rows, [`decode_row_into`] saves what this allocates, and [`Rows`](crate::Rows) goes through rows that lie one after the other.
 ///
 /// Where the input has two bytes or more and begins with FF, these two are skipped, whatever the second is: hosts send FF 00 before a row. So
-/// a row without them must not begin FF, be it the indicator of a Null or a number below 0. Bytes behind the row are not looked at.
+/// a row without them must not begin FF, be it the indicator of a Null or a number below 0. Bytes behind the row do not change it, save for the few columns that do not
+/// carry their own end (W9 in `docs/RULES.md`); they count for [`MAX_INPUT`](crate::MAX_INPUT).
 ///
 /// # Errors
 /// [`Refusal::CountTooLarge`], [`Refusal::InputTooLong`], [`Refusal::DecFloatColumn`] and [`Refusal::BufferTooShort`].

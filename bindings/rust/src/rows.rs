@@ -18,7 +18,8 @@ use std::iter::FusedIterator;
 /// - A host that sends FF 00 before each row also sends groups that are no rows. Those that begin 00 are a status, as the query end is; with the
 ///   columns of `06 76 D0 04 00 02` its 62 bytes are read as 30 rows. Rows may follow a status that is a warning: its length is the caller's to
 ///   find.
-/// - A lone FF at the end of a block is a row that is cut off: by itself it would be read as a Null. Put the next block behind it.
+/// - A lone FF at the end of a block is a row that is cut off: by itself it would be read as a Null where the first column may be
+///   null. Put the next block behind it.
 /// - Rows without these two bytes can only be read one after the other where none begins with FF. The row call takes a first byte FF, with
 ///   the byte after it, for those two, be it the indicator of a first column that is Null or a number below 0. With the columns of
 ///   `09 76 D0 05 00 02 05 00 02` the rows `FF 00 00 07` (Null, 7) and `00 00 01 00 00 02` (1, 2) laid together come out as one row, of

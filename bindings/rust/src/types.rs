@@ -172,7 +172,7 @@ impl Db2Type {
     }
 }
 
-/// As in SQL, near enough: `Char(8)`, `Decimal(5,2)`, `Integer`.
+/// The name, with its numbers in brackets: `Char(8)`, `Decimal(5,2)`, `Integer`.
 impl fmt::Display for Db2Type {
     fn fmt(&self, f: &mut fmt::Formatter<'_>) -> fmt::Result {
         match self {

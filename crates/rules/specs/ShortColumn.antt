@@ -12,8 +12,8 @@ abbrev pub firstColumns : ℕ → Columns → Columns
 firstColumns j columns = record { columns = columns .columns; count = j }
 
 module _ (answer : Columns → List ℕ → List ℕ → RowTold) where
-  -- column k of the row s lacks bytes: the columns before it, alone, are not too short, and however many of them are called with it are, by the same two numbers vs;
-  -- whatever the text buffers
+  -- column k of the row s lacks bytes: the first j columns are not too short where k is not among them, and where it is they are, by the same two numbers vs; whatever
+  -- the text buffers
   pub record Lacking (columns : Columns) (s vs : List ℕ) (k : ℕ) : Type 0 where
     pub covers : k < columns .count
     pub without : (j : ℕ) (e us : List ℕ) → j ≤ k → answer (firstColumns j columns) s e .outcome ≡ refused 8 us → ⊥

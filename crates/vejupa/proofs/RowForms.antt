@@ -40,7 +40,7 @@ use Rattle.vejupa.proofs.RowCall.{covered-list}
 use Rattle.rules.specs.Value.{valueBytes, textsTogether}
 use Rattle.rules.proofs.Answers.{filled-together}
 use Rattle.vejupa.specs.Rows.{OnWords, decided, decisionFor, wordsDecision, rowNumbers, wordsLeft, textLeft, wordsBytes}
-use Rattle.vejupa.specs.Answers.{valueOf}
+use Rattle.vejupa.specs.Answers.{valueWith}
 use Rattle.vejupa.proofs.ValueBytes.{three-bytes}
 use Rattle.vejupa.proofs.ValueRanges.{cons-all, walk-range, AllInRange, values-range, at-range}
 
@@ -52,7 +52,7 @@ valuesBy (refused n vs) values v = v
 -- refusal m's value at place k, where that is the outcome; else n of an accepted row, and 0
 abbrev pub besideAnswer : ℕ → ℕ → Told → ℕ → ℕ
 besideAnswer m k accepted n = n
-besideAnswer m k (refused r vs) n = valueOf m k r vs
+besideAnswer m k (refused r vs) n = valueWith m k r vs
 
 -- ---- an accepted row has a value for each column
 

@@ -61,39 +61,40 @@ is-8 (refused n vs) h = (vs, ap (λ (m : ℕ). refused m vs) h)
 
 -- ---- the calls with fewer words
 
-module _ (cs : List ColumnDescriptor) (fit : AllFit cs) (few : length cs ≤ maxColumns) (s v : List ℕ) (room : 3 * length cs ≤ length v) where
-  -- the number that the call with the words of the first j columns returns, in the text buffer d
-  abbrev pub returnedBy : ℕ → List ℕ → ℕ
-  returnedBy j d = rowNumbers (wordsDecision (take (2 * j) (packColumns cs)) s v d) .returned
+module _ (cs : List ColumnDescriptor) (fit : AllFit cs) (few : length cs ≤ maxColumns) (s : List ℕ) where
+  -- the number that the call with the words of the first j columns returns, with the lent words v and the text buffer d
+  abbrev pub returnedBy : ℕ → List ℕ → List ℕ → ℕ
+  returnedBy j v d = rowNumbers (wordsDecision (take (2 * j) (packColumns cs)) s v d) .returned
 
-  -- column k lacks bytes: so many words are too short exactly where its own are among them
+  -- column k lacks bytes: the words of so many columns are too short exactly where its own are among them, whatever the lent words and the text buffers hold
   pub record LackingWords (k : ℕ) : Type 0 where
     pub covers : k < length cs
-    pub without : (j : ℕ) (d : List ℕ) → j ≤ k → returnedBy j d ≡ 8 → ⊥
-    pub with-it : (j : ℕ) (d : List ℕ) → k < j → j ≤ length cs → returnedBy j d ≡ 8
+    pub without : (j : ℕ) (v d : List ℕ) → 3 * length cs ≤ length v → j ≤ k → returnedBy j v d ≡ 8 → ⊥
+    pub with-it : (j : ℕ) (v d : List ℕ) → 3 * length cs ≤ length v → k < j → j ≤ length cs → returnedBy j v d ≡ 8
 
-  same-returned : (j : ℕ) (d : List ℕ) → j ≤ length cs → returnedBy j d ≡ toldNumber (rowAnswer (firstColumns j (columnList cs)) s d .outcome)
+  same-returned : (j : ℕ) (v d : List ℕ) → 3 * length cs ≤ length v → j ≤ length cs → returnedBy j v d ≡ toldNumber (rowAnswer (firstColumns j (columnList cs)) s d .outcome)
   unfolding rowAnswer
-  same-returned j d h =
+  same-returned j v d room h =
       let n = length-take-le j cs h in
       ap (λ (w : List ℕ). rowNumbers (wordsDecision w s v d) .returned) (first-words j cs)
       ∙ same-number (take j cs) (first-fit j cs fit) (omega (arith, n)) s v d (omega (arith, n, room))
       ∙ ap (λ (e : Decision). toldNumber (answerOf ported e .outcome)) (first-decision j cs s d h)
 
-  pub short-words : (d : List ℕ) → rowNumbers (wordsDecision (packColumns cs) s v d) .returned ≡ 8 → (k : ℕ) × LackingWords k
+  lacking-words : (vs : List ℕ) (k : ℕ) → Lacking rowAnswer (columnList cs) s vs k → LackingWords k
   unfolding columnList
-  short-words d h =
+  lacking-words vs k f = record { covers = f .covers; without = without′; with-it = with′ }
+    where
+      without′ : (j : ℕ) (v d : List ℕ) → 3 * length cs ≤ length v → j ≤ k → returnedBy j v d ≡ 8 → ⊥
+      without′ j v d room l z =
+          let below = f .covers in
+          let o = is-8 (rowAnswer (firstColumns j (columnList cs)) s d .outcome) (sym (same-returned j v d room (omega arith)) ∙ z) in
+          f .without j d (o .0) l (o .1)
+
+      with′ : (j : ℕ) (v d : List ℕ) → 3 * length cs ≤ length v → k < j → j ≤ length cs → returnedBy j v d ≡ 8
+      with′ j v d room l m = same-returned j v d room m ∙ ap (λ (a : RowTold). toldNumber (a .outcome)) (f .with-it j d l m)
+
+  pub short-words : (v d : List ℕ) → 3 * length cs ≤ length v → rowNumbers (wordsDecision (packColumns cs) s v d) .returned ≡ 8 → (k : ℕ) × LackingWords k
+  short-words v d room h =
       let o = is-8 (rowAnswer (columnList cs) s d .outcome) (sym (same-number cs fit few s v d room) ∙ h) in
       let r = short-column (columnList cs) s d (o .0) (o .1) in
-      let k = r .0 in
-      let f = r .1 in
-      (k, record { covers = f .covers; without = without′ k f; with-it = with′ (o .0) k f })
-    where
-      without′ : (k : ℕ) {vs : List ℕ} → Lacking rowAnswer (columnList cs) s vs k → (j : ℕ) (e : List ℕ) → j ≤ k → returnedBy j e ≡ 8 → ⊥
-      without′ k f j e l z =
-          let below = f .covers in
-          let o = is-8 (rowAnswer (firstColumns j (columnList cs)) s e .outcome) (sym (same-returned j e (omega arith)) ∙ z) in
-          f .without j e (o .0) l (o .1)
-
-      with′ : (vs : List ℕ) (k : ℕ) → Lacking rowAnswer (columnList cs) s vs k → (j : ℕ) (e : List ℕ) → k < j → j ≤ length cs → returnedBy j e ≡ 8
-      with′ vs k f j e l m = same-returned j e m ∙ ap (λ (a : RowTold). toldNumber (a .outcome)) (f .with-it j e l m)
+      (r .0, lacking-words (o .0) (r .0) (r .1))

@@ -14,9 +14,9 @@ tooFewNumber = 101
 abbrev pub noColumnNumber : ℕ
 noColumnNumber = 102
 
--- the value at place k that refusal m comes with, where refusal n with the values vs is that refusal; else 0
-abbrev pub valueOf : ℕ → ℕ → ℕ → List ℕ → ℕ
-valueOf m k n vs = cond (eqb n m) (getD vs k 0) 0
+-- of refusal n with the values vs the value at place k, where n is m; else 0
+abbrev pub valueWith : ℕ → ℕ → ℕ → List ℕ → ℕ
+valueWith m k n vs = cond (eqb n m) (getD vs k 0) 0
 
 -- of a text answer the length of its text: the bytes written; with refusal 9 the length needed; with another refusal 0
 abbrev pub lengthBy : Told → ℕ → ℕ

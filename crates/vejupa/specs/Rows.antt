@@ -13,7 +13,7 @@ use Rattle.rules.specs.Value.{valueBytes}
 use Rattle.words.specs.Reading.{readColumns}
 use Rattle.words.specs.ValueReading.{valueNamed}
 use Rattle.row_words.specs.Rows.{valuesAfter}
-use Rattle.vejupa.specs.Answers.{tooFewNumber, noColumnNumber, valueOf}
+use Rattle.vejupa.specs.Answers.{tooFewNumber, noColumnNumber, valueWith}
 
 -- what is decided of a row call on lent words: an answer of the words alone (D1), or what decode_row decides
 pub data OnWords : Type 0 where
@@ -41,7 +41,7 @@ pub record RowNumbers : Type 0 where
 
 abbrev pub rowNumbers : OnWords → RowNumbers
 rowNumbers (ofWords n) = record { returned = n; used = 0; textLength = 0; expected = 0; actual = 0 }
-rowNumbers (decided (refuse n vs)) = record { returned = n; used = 0; textLength = valueOf 9 0 n vs; expected = valueOf 8 0 n vs; actual = valueOf 8 1 n vs }
+rowNumbers (decided (refuse n vs)) = record { returned = n; used = 0; textLength = valueWith 9 0 n vs; expected = valueWith 8 0 n vs; actual = valueWith 8 1 n vs }
 rowNumbers (decided (accept ps n)) = record { returned = 0; used = n; textLength = length (rowTexts ported ps); expected = 0; actual = 0 }
 
 -- what is left in the lent words v of values, and in the text buffer d

@@ -188,6 +188,7 @@ pub fn decode_row_into<'a>(
 
 impl<'a> Row<'a> {
     /// How many values there are: as many as columns.
+    #[inline]
     pub fn len(&self) -> usize {
         self.words.len() / VALUE_WORDS
     }
@@ -202,16 +203,19 @@ impl<'a> Row<'a> {
     /// # Panics
     /// Where there is no such column.
     #[track_caller]
+    #[inline]
     pub fn value(&self, k: usize) -> Value<'a> {
         value(self.words_of(k), self.data, self.text)
     }
 
     /// The value of column k, where there is one.
+    #[inline]
     pub fn get(&self, k: usize) -> Option<Value<'a>> {
         self.find(k).map(|words| value(words, self.data, self.text))
     }
 
     /// The values in the columns' order.
+    #[inline]
     pub fn values(&self) -> Values<'a> {
         Values {
             words: self.words.chunks_exact(VALUE_WORDS),
@@ -235,6 +239,7 @@ impl<'a> Row<'a> {
     /// # Panics
     /// Where there is no such column.
     #[track_caller]
+    #[inline]
     pub fn is_external(&self, k: usize) -> bool {
         is_external(self.words_of(k))
     }
@@ -246,11 +251,13 @@ impl<'a> Row<'a> {
     }
 
     /// How many bytes of the input the row takes, counted from its first one. The next row of a block begins there.
+    #[inline]
     pub fn used(&self) -> usize {
         self.used
     }
 
     /// The texts of all values, one after the other.
+    #[inline]
     pub fn text(&self) -> &'a str {
         self.text
     }
@@ -269,12 +276,14 @@ impl<'a> Row<'a> {
         }
     }
 
+    #[inline]
     fn find(&self, k: usize) -> Option<&'a [u64; VALUE_WORDS]> {
         let at = k.checked_mul(VALUE_WORDS)?;
         self.words.get(at..)?.first_chunk()
     }
 
     #[track_caller]
+    #[inline]
     fn words_of(&self, k: usize) -> &'a [u64; VALUE_WORDS] {
         match self.find(k) {
             Some(words) => words,
@@ -283,10 +292,12 @@ impl<'a> Row<'a> {
     }
 }
 
+#[inline]
 fn value<'a>(words: &[u64], data: &'a [u8], text: &'a str) -> Value<'a> {
     Value::from_words([words[0], words[1], words[2]], data, text).expect(PLACES)
 }
 
+#[inline]
 fn is_external(words: &[u64]) -> bool {
     words[0] >> 8 & 1 == 1
 }
@@ -340,22 +351,26 @@ pub struct Values<'a> {
 impl<'a> Iterator for Values<'a> {
     type Item = Value<'a>;
 
+    #[inline]
     fn next(&mut self) -> Option<Value<'a>> {
         let words = self.words.next()?;
         Some(value(words, self.data, self.text))
     }
 
+    #[inline]
     fn nth(&mut self, n: usize) -> Option<Value<'a>> {
         let words = self.words.nth(n)?;
         Some(value(words, self.data, self.text))
     }
 
+    #[inline]
     fn size_hint(&self) -> (usize, Option<usize>) {
         self.words.size_hint()
     }
 }
 
 impl DoubleEndedIterator for Values<'_> {
+    #[inline]
     fn next_back(&mut self) -> Option<Self::Item> {
         let words = self.words.next_back()?;
         Some(value(words, self.data, self.text))

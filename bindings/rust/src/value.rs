@@ -58,6 +58,7 @@ pub enum Value<'a> {
 impl<'a> Value<'a> {
     /// The value of three words, as [`raw::decode_row`](crate::raw::decode_row) writes them, with the row and the texts that its place is in; None
     /// where there is no such sort, or the place does not fit.
+    #[inline]
     pub fn from_words(
         words: [u64; VALUE_WORDS],
         data: &'a [u8],
@@ -118,11 +119,13 @@ impl<'a> Value<'a> {
     }
 
     /// Whether it is Null.
+    #[inline]
     pub fn is_null(self) -> bool {
         matches!(self, Value::Null)
     }
 
     /// The truth of a Boolean.
+    #[inline]
     pub fn as_bool(self) -> Option<bool> {
         match self {
             Value::Boolean(b) => Some(b),
@@ -131,6 +134,7 @@ impl<'a> Value<'a> {
     }
 
     /// The number of a SmallInt, Integer or BigInt.
+    #[inline]
     pub fn as_i64(self) -> Option<i64> {
         match self {
             Value::SmallInt(n) => Some(n.into()),
@@ -141,6 +145,7 @@ impl<'a> Value<'a> {
     }
 
     /// The number of a Real, Double, SmallInt, Integer or BigInt. A BigInt that no `f64` holds is rounded to the nearest one.
+    #[inline]
     pub fn as_f64(self) -> Option<f64> {
         match self {
             Value::Real(x) => Some(x.into()),
@@ -153,6 +158,7 @@ impl<'a> Value<'a> {
     }
 
     /// The text of a Decimal, Char, VarChar, Clob, RowId, Date, Time, Timestamp or Xml.
+    #[inline]
     pub fn as_str(self) -> Option<&'a str> {
         match self {
             Value::Decimal(s)
@@ -169,6 +175,7 @@ impl<'a> Value<'a> {
     }
 
     /// The bytes of a Binary or Blob, and those of a text.
+    #[inline]
     pub fn as_bytes(self) -> Option<&'a [u8]> {
         match self {
             Value::Binary(b) | Value::Blob(b) => Some(b),

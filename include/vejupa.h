@@ -437,8 +437,14 @@ static inline size_t vejupa_short_column(const struct vejupa_column *columns, si
 
 /* ---- Of values. */
 
-/* One of enum vejupa_sort. What the next ones say of other sorts than those named means nothing. */
+/* One of enum vejupa_sort; and its name, as in "VarChar". What the functions after these say of other sorts than those named means nothing. */
 static inline uint32_t vejupa_value_sort(const struct vejupa_value *value) { return (uint32_t)(value->words[0] & 0xFF); }
+
+static inline const char *vejupa_sort_name(uint32_t sort) {
+    static const char *const names[] = {"Null",    "SmallInt", "Integer", "BigInt", "Real",  "RealNan", "Double", "DoubleNan", "Decimal", "Char",
+                                        "VarChar", "Binary",   "Blob",    "Clob",   "RowId", "Date",    "Time",   "Timestamp", "Boolean", "Xml"};
+    return sort < sizeof names / sizeof *names ? names[sort] : "no sort";
+}
 
 static inline int vejupa_value_is_null(const struct vejupa_value *value) { return vejupa_value_sort(value) == VEJUPA_SORT_NULL; }
 

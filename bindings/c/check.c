@@ -284,6 +284,12 @@ static void names(void) {
         }
     }
     CHECK(strcmp(vejupa_type_name(VEJUPA_TYPE_CHAR), "Char") == 0 && strcmp(vejupa_type_name(VEJUPA_TYPE_NULL), "Null") == 0);
+    for (i = 0; i <= VEJUPA_SORT_XML + 1; i++) {
+        for (j = 0; j < i; j++) {
+            CHECK(strcmp(vejupa_sort_name((uint32_t)i), vejupa_sort_name((uint32_t)j)) != 0);
+        }
+    }
+    CHECK(strcmp(vejupa_sort_name(VEJUPA_SORT_DECIMAL), "Decimal") == 0 && strcmp(vejupa_sort_name(VEJUPA_SORT_XML), "Xml") == 0);
 }
 
 /* The archive's number is that of the header's version. */

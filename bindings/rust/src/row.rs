@@ -321,6 +321,27 @@ impl fmt::Debug for Row<'_> {
     }
 }
 
+/// The same values, the same external columns, as many bytes used; wherever the bytes lie.
+impl PartialEq for Row<'_> {
+    fn eq(&self, other: &Row<'_>) -> bool {
+        self.used == other.used
+            && self.values().eq(other.values())
+            && self.external_columns().eq(other.external_columns())
+    }
+}
+
+impl PartialEq<OwnedRow> for Row<'_> {
+    fn eq(&self, other: &OwnedRow) -> bool {
+        self.used == other.used
+            && self
+                .values()
+                .eq(other.values.iter().map(OwnedValue::as_value))
+            && self
+                .external_columns()
+                .eq(other.external_columns.iter().copied())
+    }
+}
+
 impl<'a> IntoIterator for Row<'a> {
     type Item = Value<'a>;
     type IntoIter = Values<'a>;

@@ -385,3 +385,26 @@ fn a_refusal_changes_no_buffer() {
     assert_eq!(answer, expected);
     assert_eq!((values[66], text[needed]), (7, 7));
 }
+
+/// Rows are compared by what they hold, wherever it lies.
+#[test]
+fn rows_are_compared() {
+    let columns = Columns::from([
+        Column::new(Db2Type::Char(2)).with_ccsid(37),
+        Column::new(Db2Type::Clob),
+    ]);
+    let data = [0xC1, 0xC2, 0x00, 0x00, 0x00, 0x07];
+    let other = [0xC1, 0xC2, 0x00, 0x00, 0x00, 0x08];
+    let (mut one, mut two, mut three) = (Buffers::new(), Buffers::new(), Buffers::new());
+    let row = decode_row_into(&data, &columns, &mut one).unwrap();
+    let longer = [&data[..], &[0x01]].concat();
+    assert_eq!(row, decode_row_into(&longer, &columns, &mut two).unwrap());
+    assert_eq!(row, row.into_owned());
+    let other = decode_row_into(&other, &columns, &mut three).unwrap();
+    assert_ne!(row, other);
+    let marked = [&[0xFF, 0x00], &data[..]].concat();
+    assert_ne!(row, columns.decode_row(&marked).unwrap());
+    let mut owned = row.into_owned();
+    owned.external_columns.clear();
+    assert_ne!(row, owned);
+}

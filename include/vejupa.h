@@ -17,8 +17,8 @@
  * - The library keeps nothing from call to call and allocates nothing: calls that write to different memory may run at the same time. A call takes less than
  *   2,500 bytes of stack of its own; where the dynamic linker looks up memset at the first one, that took some 3,500 more.
  *
- * Rows that lie one after the other, where a host sends FF 00 before each, as all do that were recorded: decode a row while the rest begins FF 00, and go on by
- * `used`. Heed:
+ * Rows that lie one after the other, where a host sends FF 00 before each, as the one does whose bytes were recorded (Apache Derby's server): decode a row
+ * while the rest begins FF 00, and go on by `used`. Heed:
  *
  * - `used` may be 0 (no columns, or only such as take no bytes): stop then, or the loop does not end.
  * - What begins otherwise is no row. A group that begins 00 is a status, as a query's end is; read as rows, it comes out as numbers. Rows may follow one
@@ -210,7 +210,8 @@ static inline size_t vejupa_at_most(size_t n, size_t limit) { return n < limit ?
  * always enough; a call without room counts. Answers 0, 1, 2 or 101; with 101 *count is the number of columns as well.
  *
  * A damaged description is not refused: where it breaks off, or a length in it is wrong, the columns read up to there are all that there are. Nor is one
- * that goes on in a triplet 7F, as hosts send from the 85th column on: those columns are missing. Compare *count with the number that the query has. */
+ * that goes on in a triplet 7F, as Apache Derby's server sends from the 85th column on: those columns are missing. Compare *count with the number that
+ * the query has. */
 static inline uint32_t vejupa_parse_qrydsc(const uint8_t *data, size_t data_len, struct vejupa_column *columns, size_t columns_room, size_t *count) {
     return vejupa_raw_parse_qrydsc((const uint8_t *)vejupa_given(data, data_len), data_len, (uint64_t *)vejupa_lent(columns, columns_room),
                                    VEJUPA_COLUMN_WORDS * vejupa_at_most(columns_room, VEJUPA_MAX_COLUMNS), count);

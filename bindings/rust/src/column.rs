@@ -144,7 +144,7 @@ impl Column {
 /// The columns that a description (QRYDSC) lists, in order.
 ///
 /// A description that is damaged or cut off is not refused: what comes out are the columns before the damage. Nor is one that goes on in a
-/// triplet 7F, as hosts send from the 85th column on: those columns are missing. How many a query has, its caller may know otherwise.
+/// triplet 7F, as Apache Derby's server sends from the 85th column on: those columns are missing. How many a query has, its caller may know otherwise.
 ///
 /// # Errors
 /// [`Refusal::QrydscTooLong`] and [`Refusal::TooManyColumns`].

@@ -141,7 +141,7 @@ pub struct Row<'a> {
 /// The values of a row, with texts and bytes of their own; [`Columns::decode_row`] is the same for columns in that form. Where there are many
 /// rows, [`decode_row_into`] saves what this allocates, and [`Rows`](crate::Rows) goes through rows that lie one after the other.
 ///
-/// Where the input has two bytes or more and begins with FF, these two are skipped, whatever the second is: hosts send FF 00 before a row. So
+/// Where the input has two bytes or more and begins with FF, these two are skipped, whatever the second is: a host may send FF 00 before a row. So
 /// a row without them must not begin FF, be it the indicator of a Null or a number below 0. Bytes behind the row do not change it, save for the few columns that do not
 /// carry their own end (W9 in `docs/RULES.md`); they count for [`MAX_INPUT`](crate::MAX_INPUT).
 ///

@@ -28,6 +28,15 @@ pub fn decimal_at(line: &[u8], at: usize, n: u64) -> usize {
     text_at(line, at, &digits[..count])
 }
 
+// How many characters were replaced, behind a space, where a line counts them. Else nothing stands there for them.
+pub fn replaced_at(line: &[u8], at: usize, counted: bool, replaced: usize) -> usize {
+    if counted {
+        let digits = text_at(line, at, b" ");
+        return decimal_at(line, digits, replaced as u64);
+    }
+    at
+}
+
 // A signed number, by its 64 bits in two's complement.
 pub fn signed_at(line: &[u8], at: usize, bits: u64) -> usize {
     if bits < 0x8000_0000_0000_0000 {

@@ -3,6 +3,7 @@ use crate::place::NOWHERE;
 use crate::place::bytes_at;
 use crate::place::decimal_at;
 use crate::place::hex_at;
+use crate::place::replaced_at;
 use crate::place::signed_at;
 use crate::place::text_at;
 use row::value_bytes;
@@ -157,9 +158,11 @@ fn externals_at(line: &[u8], at: usize, answer: RowAnswer, count: usize) -> usiz
     p
 }
 
-// OK <used> <external> <text> <value>*n, for an accepted row of so many columns; the texts are all of `text`.
+// OK <used> <external> <text> <value>*n, for an accepted row of so many columns; the texts are all of `text`. Where they are
+// counted, the characters replaced stand behind <text>.
 fn accepted_at<'a>(
     line: &[u8],
+    counted: bool,
     answer: RowAnswer,
     count: usize,
     row: &'a [u8],
@@ -172,6 +175,7 @@ fn accepted_at<'a>(
     p = externals_at(line, p, answer, count);
     p = text_at(line, p, b" ");
     p = decimal_at(line, p, text.len() as u64);
+    p = replaced_at(line, p, counted, answer.replaced);
     values_at(line, p, answer, count, row, text, out)
 }
 
@@ -189,10 +193,11 @@ fn refused_at(line: &[u8], answer: RowAnswer) -> usize {
     decimal_at(line, p, outcome.second_value() as u64)
 }
 
-// Whether a line is the answer of the row call, made with so many columns; where it is accepted, `text` holds the texts and nothing else. `out`
-// is room for the bytes of a value.
+// Whether a line is the answer of the row call, made with so many columns; where it is accepted, `text` holds the texts and nothing else; where it is
+// refused, no character counts as replaced. `out` is room for the bytes of a value.
 pub fn is_answer<'a>(
     line: &[u8],
+    counted: bool,
     answer: RowAnswer,
     count: usize,
     row: &'a [u8],
@@ -201,7 +206,10 @@ pub fn is_answer<'a>(
 ) -> bool {
     let outcome = answer.outcome;
     if outcome.number() == 0 {
-        return accepted_at(line, answer, count, row, text, out) == line.len();
+        return accepted_at(line, counted, answer, count, row, text, out) == line.len();
+    }
+    if answer.replaced != 0 {
+        return false;
     }
     refused_at(line, answer) == line.len()
 }

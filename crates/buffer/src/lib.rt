@@ -7,10 +7,18 @@ ghost use lib.ListN.{length};
 ghost use Rattle.refusal.specs.Refusal.{refusalNumber, refusalValues};
 ghost use Rattle.buffer.specs.Buffer.{overwritten, toldText, refusedText};
 
-// What a call that writes one text answers. After a refusal no byte was written.
+// What a call that writes one text answers: how many bytes were written, and how many U+FFFD were put in for what was malformed. After a refusal no
+// byte was written, and both are 0.
 pub struct TextAnswer {
     pub outcome: Outcome,
     pub written: usize,
+    pub replaced: usize,
+}
+
+// What was written: how long the text is, and how many U+FFFD were put in for what was malformed.
+pub struct Written {
+    pub len: usize,
+    pub replaced: usize,
 }
 
 pub fn refused(r: Refusal) -> TextAnswer
@@ -19,6 +27,7 @@ pub fn refused(r: Refusal) -> TextAnswer
     TextAnswer {
         outcome: Outcome::Refused(r),
         written: 0,
+        replaced: 0,
     }
 }
 

@@ -1,5 +1,5 @@
-// Inner. For the benchmark alone: the calls by value, each of which hands one number of its answer to C, so that the answer has to be made. It promises
-// nothing that the calls themselves do not.
+// Inner. For the benchmark and the comparison with the Rust: the calls by value, each of which hands one number of its answer to C, so that the answer
+// has to be made. It promises nothing that the calls themselves do not.
 use types::MAX_COLUMNS;
 use words::value_words;
 ghost use mathlib.Core.Path.{_≡_};
@@ -62,4 +62,16 @@ pub extern "C" fn by_value_decode_row(
         i += 1;
     }
     number
+}
+
+// How many characters were replaced in a row's texts: the comparison with the Rust holds it to a second opinion.
+#[no_mangle]
+pub extern "C" fn by_value_replaced(described: &[u8], row: &[u8], text: &mut [u8]) -> u64
+    ensures number { λ r. ⌜ r ≡ rowAnswer (description (now (described .entry)) .columns) (now (row .entry)) (now (text .entry)) .replaced ⌝ }
+    ensures text { λ _. ⌜ now (text .exit) ≡ rowText (description (now (described .entry)) .columns) (now (row .entry)) (now (text .entry)) ⌝ }
+{
+    let d = qrydsc::parse_qrydsc(described);
+    let columns = d.columns;
+    let answer = row::decode_row(row, columns, text);
+    answer.replaced as u64
 }

@@ -1,8 +1,8 @@
 // Program. Runs the cases A to P of docs/RULES.md, "At the edges", and prints a line for each: its letter, and `same` where the whole outcome is the
 // one in the table, else `differs`. The outcomes are proved in the crate `edges`; here the compiled calls are run on the same bytes: the description's
-// outcome, the row call's outcome with its values, all 128 value places with their flags, the bytes used, every byte of the text buffer, and the bytes
-// of each column's value. What a case is given, and what is expected of it, is written again below: each call of `one`, `two`, `too_short` and
-// `packed_decimal` requires that it is a row of the proved table, and is proved to meet that.
+// outcome, the row call's outcome with its values, all 128 value places with their flags, the bytes used, the characters replaced (none in any case), every
+// byte of the text buffer, and the bytes of each column's value. What a case is given, and what is expected of it, is written again below: each call of
+// `one`, `two`, `too_short` and `packed_decimal` requires that it is a row of the proved table, and is proved to meet that.
 use check::same;
 use refusal::BUFFER_TOO_SHORT;
 use refusal::Outcome;
@@ -200,6 +200,9 @@ fn is_accepted_row(
     if answer.used != used {
         return false;
     }
+    if answer.replaced != 0 {
+        return false;
+    }
     if !has_values(answer, first, second) {
         return false;
     }
@@ -244,7 +247,7 @@ fn are_two(
     has_bytes(d, row, answer.places[1], bytes)
 }
 
-// A description of one column and a row that is too short for it: all places are blank, no byte is used or written.
+// A description of one column and a row that is too short for it: all places are blank, no byte is used or written, no character replaced.
 fn is_short(description: &[u8], row: &[u8], expected: usize, actual: usize) -> bool {
     let d = decode(description, row);
     let parsed = d.description;
@@ -262,6 +265,9 @@ fn is_short(description: &[u8], row: &[u8], expected: usize, actual: usize) -> b
         return false;
     }
     if answer.used != 0 {
+        return false;
+    }
+    if answer.replaced != 0 {
         return false;
     }
     if !has_values(answer, blank, blank) {
@@ -282,6 +288,9 @@ fn is_decimal(data: &[u8], scale: u8, want: &[u8]) -> bool {
         return false;
     }
     if a.written != want.len() {
+        return false;
+    }
+    if a.replaced != 0 {
         return false;
     }
     has_text(text, want)

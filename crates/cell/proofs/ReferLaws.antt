@@ -12,6 +12,7 @@ use Rattle.types.specs.declared.Db2Type.the-variants as type
 use Rattle.types.specs.declared.ReferenceLength.{ReferenceLength}
 use Rattle.types.specs.declared.ReferenceLength.the-variants.{Absent, Width}
 use Rattle.types.specs.declared.ColumnDescriptor.{ColumnDescriptor}
+use Rattle.buffer.specs.Buffer.{Converted, unreplaced}
 use Rattle.conversion.specs.Conversion.{locatorText}
 use Rattle.conversion.proofs.PlainText.{locator-length}
 use Rattle.rules.specs.declared.Extent.the-variants.{Fixed}
@@ -26,7 +27,7 @@ use Rattle.cell.proofs.ItemLaws.{need-by, fixed-there, absent-there, ab
 
 -- ---- which items are an empty LOB
 
-locator-some : (k : TextSort) (s : List ℕ) → isEmptyLob (Item.text k (locatorText s)) ≡ false
+locator-some : (k : TextSort) (s : List ℕ) → isEmptyLob (Item.text k (unreplaced (locatorText s))) ≡ false
 unfolding isEmptyLob
 locator-some k s = go (isLobText k) (eqb (length (locatorText s)) 0) (ne-eqb (length (locatorText s)) 0 (λ e. omega (arith, e, locator-length s)))
   where
@@ -40,7 +41,7 @@ lob-none blobs = refl
 lob-none clobs = refl
 lob-none xmls = refl
 
-none : isEmptyLob (Item.text TextSort.clob []) ≡ true
+none : isEmptyLob (Item.text TextSort.clob (unreplaced [])) ≡ true
 unfolding lobEmpty
 none = lob-none clobs
 
@@ -104,13 +105,13 @@ lob-refers Absent located k s h = go (isReference s) (allZero (drop 1 s)) locate
     go false z true = rw some refl
     go false z false = no-refer (isEmptyLob (lobInline ported k s))
 
-header-refers : (n : ℕ) (t s : List ℕ)
+header-refers : (n : ℕ) (t : Converted) (s : List ℕ)
     → (not (isEmptyLob (varyingItem ported n t s)) && (bit8000 n || false)) ≡ (bit8000 n && not (isEmptyHeader (headerBytes s)))
 unfolding varyingItem headerItem
 header-refers n t s = go (bit8000 n) (isEmptyHeader (headerBytes s))
   where
     go : (b z : Bool)
-        → (not (isEmptyLob (cond b (cond z (Item.text TextSort.clob []) (Item.text TextSort.clob (locatorText (headerBytes s)))) (Item.text TextSort.varChar t))) && (b || false))
+        → (not (isEmptyLob (cond b (cond z (Item.text TextSort.clob (unreplaced [])) (Item.text TextSort.clob (unreplaced (locatorText (headerBytes s))))) (Item.text TextSort.varChar t))) && (b || false))
         ≡ (b && not z)
     go true true = rw none refl
     go true false = rw (locator-some TextSort.clob (headerBytes s)) refl
@@ -128,7 +129,7 @@ lob-char-refers : (n ccsid : ℕ) (s : List ℕ) → (not (isEmptyLob (lobCharIt
 unfolding lobCharItem
 lob-char-refers n ccsid s = go (isShortReference n s) (Item.text TextSort.clob (ported .characters ccsid s))
   where
-    go : (t : Bool) (i : Item) → (not (isEmptyLob (cond t (Item.text TextSort.clob (locatorText s)) i)) && t) ≡ t
+    go : (t : Bool) (i : Item) → (not (isEmptyLob (cond t (Item.text TextSort.clob (unreplaced (locatorText s))) i)) && t) ≡ t
     go true i = rw (locator-some TextSort.clob s) refl
     go false i = no-refer (isEmptyLob i)
 

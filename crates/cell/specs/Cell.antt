@@ -6,8 +6,8 @@ use mathlib.Core.List.{List, [], _∷_}
 use lib.ListN.{length, take, drop}
 use Rattle.numbers.specs.Number.{Number as RowNumber, numberValue}
 use Rattle.packed.specs.Packed.{decimalText, mostBytes}
-use Rattle.unicode.specs.Unicode.{utf8Text}
-use Rattle.conversion.specs.Conversion.{characterText, graphicText, locatorText, rowIdText}
+use Rattle.buffer.specs.Buffer.{Converted, unreplaced}
+use Rattle.conversion.specs.Conversion.{fromCharacters, fromGraphics, fromUtf8, locatorText, rowIdText}
 use Rattle.types.specs.Names.{namedIn}
 use Rattle.types.specs.declared.Db2Type.{Db2Type}
 use Rattle.types.specs.declared.Db2Type.the-variants as type
@@ -56,17 +56,17 @@ lobOf kinds.Xmls = meaning.Lob.xmls
 abbrev pub isNumber : Db2Type → Bool
 isNumber t = namedIn (type.SmallInt ∷ type.Integer ∷ type.BigInt ∷ type.Real ∷ type.Double ∷ []) t
 
--- the text of bytes, by their encoding and as they are to be read
-abbrev pub encodedText : Encoding → List ℕ → List ℕ
-encodedText (Characters ccsid) s = characterText ccsid s
-encodedText (Graphics ccsid) s = graphicText ccsid s
-encodedText Utf8 s = utf8Text s
-encodedText Locator s = locatorText s
-encodedText RowId s = rowIdText s
+-- what is made of bytes, by their encoding and as they are to be read
+abbrev pub decoded : Encoding → List ℕ → Converted
+decoded (Characters ccsid) s = fromCharacters ccsid s
+decoded (Graphics ccsid) s = fromGraphics ccsid s
+decoded Utf8 s = fromUtf8 s
+decoded Locator s = unreplaced (locatorText s)
+decoded RowId s = unreplaced (rowIdText s)
 
-abbrev pub textBy : Reading → List ℕ → List ℕ
-textBy (By encoding) s = encodedText encoding s
-textBy (Packed scale) s = decimalText scale s
+abbrev pub readBy : Reading → List ℕ → Converted
+readBy (By encoding) s = decoded encoding s
+readBy (Packed scale) s = unreplaced (decimalText scale s)
 
 -- the bytes are as many as the reading takes: a packed decimal has one at least, and no more than one called alone may have
 abbrev pub Readable : Reading → ℕ → Type 0
@@ -78,7 +78,7 @@ abbrev pub Holds : CellItem → List ℕ → meaning.Item → Type 0
 Holds Nothing s i = i ≡ meaning.Item.nothing
 Holds (Boolean b) s i = i ≡ meaning.Item.boolean b
 Holds (Part k from len) s i = (i ≡ meaning.Item.part (byteSort k) from len) × (from + len ≤ length s)
-Holds (Text k reading from len) s i = (i ≡ meaning.Item.text (textSort k) (textBy reading (take len (drop from s)))) × ((from + len ≤ length s) × Readable reading len)
+Holds (Text k reading from len) s i = (i ≡ meaning.Item.text (textSort k) (readBy reading (take len (drop from s)))) × ((from + len ≤ length s) × Readable reading len)
 
 -- the item of any `count` bytes that are a value of the type t; in a column of this CCSID
 abbrev pub Means : CellItem → Db2Type → ℕ → Type 0

@@ -35,10 +35,11 @@ ghost use Rattle.rules.specs.Meaning.{Item, Lob, lobEmpty, lobReference, lobInl
 ghost use Rattle.rules.specs.Extent.{need, extentOf};
 ghost use Rattle.types.specs.declared.ReferenceLength.{ReferenceLength};
 ghost use Rattle.rules.specs.Conversions.{ported};
-ghost use Rattle.conversion.specs.Conversion.{characterText};
+ghost use Rattle.buffer.specs.Buffer.{unreplaced};
+ghost use Rattle.conversion.specs.Conversion.{fromCharacters};
 ghost use Rattle.packed.specs.Packed.{mostBytes};
 ghost use Rattle.types.specs.declared.Db2Type.{Db2Type};
-ghost use Rattle.cell.specs.Cell.{byteSort, textSort, lobOf, encodedText, Holds, Means, MeansBy, isNumber, OtherIs, ValueIs};
+ghost use Rattle.cell.specs.Cell.{byteSort, textSort, lobOf, decoded, Holds, Means, MeansBy, isNumber, OtherIs, ValueIs};
 
 // The sorts of value that are a part of the row, and those that are a text.
 pub enum ByteSort {
@@ -120,7 +121,7 @@ pub enum ColumnValue {
 // The text, or the part, that all bytes from a place on are.
 fn text_from(sort: TextSort, encoding: Encoding, bytes: &[u8], from: usize) -> CellItem
     requires { ⌜ from ≤ length (now bytes) ⌝ }
-    ensures { λ r. ⌜ Holds r (now (bytes .entry)) (Item.text (textSort sort) (encodedText encoding (drop from (now (bytes .entry))))) ⌝ }
+    ensures { λ r. ⌜ Holds r (now (bytes .entry)) (Item.text (textSort sort) (decoded encoding (drop from (now (bytes .entry))))) ⌝ }
 {
     CellItem::Text {
         sort,
@@ -144,7 +145,7 @@ fn part_from(sort: ByteSort, bytes: &[u8], from: usize) -> CellItem
 // A text of a value's bytes, all from a place on, by the CCSID.
 fn characters(sort: TextSort, ccsid: u16, from: usize, count: usize) -> CellItem
     requires { ⌜ from ≤ count ⌝ }
-    ensures { λ r. ⌜ ((s : List ℕ) → length s ≡ count → Holds r s (Item.text (textSort sort) (characterText ccsid (drop from s)))) ⌝ }
+    ensures { λ r. ⌜ ((s : List ℕ) → length s ≡ count → Holds r s (Item.text (textSort sort) (fromCharacters ccsid (drop from s)))) ⌝ }
 {
     CellItem::Text {
         sort,
@@ -201,7 +202,7 @@ pub fn timestamp_item(ccsid: u16, count: usize) -> CellItem
 
 // An empty text, whatever the bytes.
 fn empty_text(sort: TextSort) -> CellItem
-    ensures { λ r. ⌜ ((s : List ℕ) → Holds r s (Item.text (textSort sort) [])) ⌝ }
+    ensures { λ r. ⌜ ((s : List ℕ) → Holds r s (Item.text (textSort sort) (unreplaced []))) ⌝ }
 {
     CellItem::Text {
         sort,

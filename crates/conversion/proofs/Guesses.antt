@@ -9,12 +9,12 @@ use lib.ListN.{length, take, drop}
 use lib.Seq.{length-take-le}
 use Rattle.unicode.specs.Ascii.{allAscii}
 use Rattle.unicode.specs.Laws.{AreBytes}
-use Rattle.buffer.specs.Buffer.{overwritten}
+use Rattle.buffer.specs.Buffer.{Converted, unreplaced, overwritten}
 use Rattle.buffer.proofs.Writing.{Writing}
 use Rattle.codepage.proofs.Bound.{ebcdic-least}
-use Rattle.conversion.specs.declared.Conversion.the-variants.{Ebcdic037}
-use Rattle.conversion.specs.Picked.{textIn}
-use Rattle.conversion.specs.Guess.{guessText}
+use Rattle.conversion.specs.declared.Conversion.the-variants.{Plain, Ebcdic037}
+use Rattle.conversion.specs.Picked.{textIn, replacedIn, convertedIn}
+use Rattle.conversion.specs.Guess.{guess, guessText}
 
 -- where a part is not ASCII, the whole is not
 later : (x p q : Bool) → (p ≡ false → q ≡ false) → cond x p false ≡ false → cond x q false ≡ false
@@ -51,6 +51,15 @@ module _ (s : List ℕ) where
       go : (x : Bool) → allAscii s ≡ x → length s ≤ length (guessText s)
       go true e = rw (as-ascii e) (omega arith)
       go false e = rw (as-ebcdic e) (ebcdic-least s h)
+
+-- nothing is replaced
+pub guess-unreplaced : (s : List ℕ) → convertedIn (guess s) s ≡ unreplaced (guessText s)
+unfolding guessText textIn replacedIn
+guess-unreplaced s = go (allAscii s)
+  where
+    go : (x : Bool) → convertedIn (cond x Plain Ebcdic037) s ≡ unreplaced (textIn (cond x Plain Ebcdic037) s)
+    go true = refl
+    go false = refl
 
 -- the first i bytes of s were copied
 pub copied : {s d out : List ℕ} {i : ℕ} → Writing s d (drop i s) out i → out ≡ overwritten (take i s) d

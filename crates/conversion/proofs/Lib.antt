@@ -4,3 +4,5 @@ pub mod Picks
 pub mod Arms
 pub mod Utf8Texts
 pub mod Guesses
+pub mod Replaced
+pub mod Counts

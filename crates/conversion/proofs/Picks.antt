@@ -1,4 +1,4 @@
--- The text by the conversion that is picked is the text that the CCSID asks for. Assumes nothing.
+-- What the conversion that is picked makes of bytes is what the CCSID asks for: the text, and the number of U+FFFD put in. Assumes nothing.
 use Prim.Native.Nat.{ℕ}
 use mathlib.Core.Bool.{Bool, true, false, cond}
 use mathlib.Core.List.{List}
@@ -6,40 +6,72 @@ use mathlib.Core.Path.{_≡_, refl, ap, _∙_}
 use lib.Dec.{eqb}
 use lib.ListN.{length}
 use Rattle.unicode.specs.Ascii.{allAscii}
+use Rattle.buffer.specs.Buffer.{Converted, unreplaced}
 use Rattle.conversion.specs.declared.Conversion.{Conversion}
 use Rattle.conversion.specs.declared.Conversion.the-variants.{Plain, Utf8, Latin1, Ebcdic037, Utf16, Locator, RowId}
-use Rattle.conversion.specs.Conversion.{isUtf16, characterText, graphicText, locatorText, rowIdText}
-use Rattle.conversion.specs.Picked.{textIn, characterConversion, graphicConversion}
+use Rattle.conversion.specs.Conversion.{isUtf16, characterText, graphicText, fromCharacters, fromGraphics, fromUtf8, locatorText, rowIdText}
+use Rattle.conversion.specs.Picked.{textIn, replacedIn, convertedIn, characterConversion, graphicConversion}
 
--- a test picks the text as it picks the conversion
-tested : (s : List ℕ) (b : Bool) (p q : Conversion) {t u : List ℕ} → textIn p s ≡ t → textIn q s ≡ u → textIn (cond b p q) s ≡ cond b t u
-tested s true p q e f = e
-tested s false p q e f = f
+-- what holds of both conversions holds of the one that a test picks
+tested : {A : Type 0} (f : Conversion → A) (b : Bool) (p q : Conversion) {x y : A} → f p ≡ x → f q ≡ y → f (cond b p q) ≡ cond b x y
+tested f true p q e h = e
+tested f false p q e h = h
 
-pub characters-picked : (ccsid : ℕ) (s : List ℕ) → textIn (characterConversion ccsid s) s ≡ characterText ccsid s
+alike : {A : Type 0} (f : Conversion → A) (b : Bool) (p q : Conversion) {x : A} → f p ≡ x → f q ≡ x → f (cond b p q) ≡ x
+alike f true p q e h = e
+alike f false p q e h = h
+
+characters-text : (ccsid : ℕ) (s : List ℕ) → textIn (characterConversion ccsid s) s ≡ characterText ccsid s
 unfolding textIn characterConversion characterText
-characters-picked ccsid s =
-    tested s (eqb ccsid 1208) Utf8 _ refl
-    (tested s (eqb ccsid 819) Latin1 _ refl
-    (tested s (eqb ccsid 37) Ebcdic037 _ refl
-    (tested s (eqb ccsid 500) Ebcdic037 _ refl
-    (tested s (allAscii s) Plain Ebcdic037 refl refl))))
+characters-text ccsid s =
+    let f : Conversion → List ℕ = λ p. textIn p s in
+    tested f (eqb ccsid 1208) Utf8 _ refl
+    (tested f (eqb ccsid 819) Latin1 _ refl
+    (tested f (eqb ccsid 37) Ebcdic037 _ refl
+    (tested f (eqb ccsid 500) Ebcdic037 _ refl
+    (tested f (allAscii s) Plain Ebcdic037 refl refl))))
 
-pub graphics-picked : (ccsid : ℕ) (s : List ℕ) → textIn (graphicConversion ccsid s) s ≡ graphicText ccsid s
-unfolding textIn graphicConversion graphicText
-graphics-picked ccsid s = tested s (isUtf16 ccsid (length s)) Utf16 _ refl (characters-picked ccsid s)
+characters-replaced : (ccsid : ℕ) (s : List ℕ) → replacedIn (characterConversion ccsid s) s ≡ fromCharacters ccsid s .replaced
+unfolding replacedIn characterConversion
+characters-replaced ccsid s =
+    let f : Conversion → ℕ = λ p. replacedIn p s in
+    tested f (eqb ccsid 1208) Utf8 _ refl
+    (alike f (eqb ccsid 819) Latin1 _ refl
+    (alike f (eqb ccsid 37) Ebcdic037 _ refl
+    (alike f (eqb ccsid 500) Ebcdic037 _ refl
+    (alike f (allAscii s) Plain Ebcdic037 refl refl))))
 
-pub locator-picked : (s : List ℕ) → textIn Locator s ≡ locatorText s
-unfolding textIn
+converted : {t u : List ℕ} {m n : ℕ} → t ≡ u → m ≡ n → _≡_ {A = Converted} (record { textBytes = t; replaced = m }) (record { textBytes = u; replaced = n })
+converted e h = rw (e, h)
+
+characters-picked : (ccsid : ℕ) (s : List ℕ) → convertedIn (characterConversion ccsid s) s ≡ fromCharacters ccsid s
+characters-picked ccsid s = converted (characters-text ccsid s) (characters-replaced ccsid s)
+
+graphics-picked : (ccsid : ℕ) (s : List ℕ) → convertedIn (graphicConversion ccsid s) s ≡ fromGraphics ccsid s
+unfolding textIn replacedIn graphicConversion graphicText
+graphics-picked ccsid s =
+    converted (tested (λ p. textIn p s) (isUtf16 ccsid (length s)) Utf16 _ refl (characters-text ccsid s))
+    (tested (λ p. replacedIn p s) (isUtf16 ccsid (length s)) Utf16 _ refl (characters-replaced ccsid s))
+
+pub utf8-picked : (s : List ℕ) → convertedIn Utf8 s ≡ fromUtf8 s
+unfolding textIn replacedIn
+utf8-picked s = refl
+
+pub locator-picked : (s : List ℕ) → convertedIn Locator s ≡ unreplaced (locatorText s)
+unfolding textIn replacedIn
 locator-picked s = refl
 
-pub row-id-picked : (s : List ℕ) → textIn RowId s ≡ rowIdText s
-unfolding textIn
+pub row-id-picked : (s : List ℕ) → convertedIn RowId s ≡ unreplaced (rowIdText s)
+unfolding textIn replacedIn
 row-id-picked s = refl
 
--- the same where p is what was picked
-pub characters-by : (ccsid : ℕ) (s : List ℕ) {p : Conversion} → p ≡ characterConversion ccsid s → textIn p s ≡ characterText ccsid s
-characters-by ccsid s e = ap (λ (p : Conversion). textIn p s) e ∙ characters-picked ccsid s
+pub plain-picked : (s : List ℕ) → convertedIn Plain s ≡ unreplaced s
+unfolding textIn replacedIn
+plain-picked s = refl
 
-pub graphics-by : (ccsid : ℕ) (s : List ℕ) {p : Conversion} → p ≡ graphicConversion ccsid s → textIn p s ≡ graphicText ccsid s
-graphics-by ccsid s e = ap (λ (p : Conversion). textIn p s) e ∙ graphics-picked ccsid s
+-- the same where p is what was picked
+pub characters-by : (ccsid : ℕ) (s : List ℕ) {p : Conversion} → p ≡ characterConversion ccsid s → convertedIn p s ≡ fromCharacters ccsid s
+characters-by ccsid s e = ap (λ (p : Conversion). convertedIn p s) e ∙ characters-picked ccsid s
+
+pub graphics-by : (ccsid : ℕ) (s : List ℕ) {p : Conversion} → p ≡ graphicConversion ccsid s → convertedIn p s ≡ fromGraphics ccsid s
+graphics-by ccsid s e = ap (λ (p : Conversion). convertedIn p s) e ∙ graphics-picked ccsid s

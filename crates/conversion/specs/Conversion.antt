@@ -1,10 +1,11 @@
--- The text of bytes by CCSID: T1 and T3 to T8. Assumes nothing.
+-- The text of bytes by CCSID, and how many U+FFFD are put in for what is malformed: T1, T3 to T8, N4a. Assumes nothing.
 use Prim.Native.Nat.{ℕ, _%_}
 use mathlib.Core.Bool.{Bool, true, false, cond}
 use mathlib.Core.List.{List, [], _∷_, _++_}
 use lib.Dec.{eqb}
 use lib.ListN.{length}
-use Rattle.unicode.specs.Unicode.{utf8Text, utf16Text}
+use Rattle.unicode.specs.Unicode.{replacements, utf8Pieces, utf8Text, utf16Pieces, utf16Text}
+use Rattle.buffer.specs.Buffer.{Converted}
 use Rattle.unicode.specs.Ascii.{allAscii}
 use Rattle.codepage.specs.CodePage.{byteText, codePoint819, codePoint037}
 use Rattle.conversion.specs.Hex.{hexText}
@@ -24,6 +25,17 @@ isUtf16 ccsid count = cond (cond (eqb ccsid 1200) true (eqb ccsid 13488)) (eqb (
 
 unfoldable pub graphicText : ℕ → List ℕ → List ℕ
 graphicText ccsid s = cond (isUtf16 ccsid (length s)) (utf16Text s) (characterText ccsid s)
+
+-- N4a: with the text, one U+FFFD for each malformed part of UTF-8 and for each unpaired surrogate of UTF-16. In the other code pages nothing is malformed
+abbrev pub fromUtf8 : List ℕ → Converted
+fromUtf8 s = record { textBytes = utf8Text s; replaced = replacements (utf8Pieces s) }
+
+abbrev pub fromCharacters : ℕ → List ℕ → Converted
+fromCharacters ccsid s = record { textBytes = characterText ccsid s; replaced = cond (eqb ccsid 1208) (replacements (utf8Pieces s)) 0 }
+
+abbrev pub fromGraphics : ℕ → List ℕ → Converted
+fromGraphics ccsid s =
+    record { textBytes = graphicText ccsid s; replaced = cond (isUtf16 ccsid (length s)) (replacements (utf16Pieces s)) (fromCharacters ccsid s .replaced) }
 
 -- `LOB locator 0x`, and `0x`
 abbrev pub locatorMark : List ℕ

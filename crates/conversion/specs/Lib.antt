@@ -3,3 +3,4 @@ pub mod Conversion
 pub mod Picked
 pub mod Measure
 pub mod Guess
+pub mod Counts

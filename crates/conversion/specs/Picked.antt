@@ -1,12 +1,14 @@
--- For inner functions; no public promise rests on it. The conversion that is picked before a text is read, as the code's enum, and the text by it.
+-- For inner functions; no public promise rests on it. The conversion that is picked before a text is read, as the code's enum, and the text by it with
+-- the number of U+FFFD put in.
 -- proofs/Picks.antt: it is the text of specs/Conversion.antt. Assumes nothing.
 use Prim.Native.Nat.{ℕ}
 use mathlib.Core.Bool.{cond}
 use mathlib.Core.List.{List}
 use lib.Dec.{eqb}
 use lib.ListN.{length}
-use Rattle.unicode.specs.Unicode.{utf8Text, utf16Text}
+use Rattle.unicode.specs.Unicode.{replacements, utf8Pieces, utf8Text, utf16Pieces, utf16Text}
 use Rattle.unicode.specs.Ascii.{allAscii}
+use Rattle.buffer.specs.Buffer.{Converted}
 use Rattle.codepage.specs.CodePage.{byteText, codePoint819, codePoint037}
 use Rattle.conversion.specs.Conversion.{isUtf16, locatorText, rowIdText}
 use Rattle.conversion.specs.declared.Conversion.{Conversion}
@@ -21,6 +23,18 @@ textIn Ebcdic037 s = byteText codePoint037 s
 textIn Utf16 s = utf16Text s
 textIn Locator s = locatorText s
 textIn RowId s = rowIdText s
+
+unfoldable pub replacedIn : Conversion → List ℕ → ℕ
+replacedIn Plain s = 0
+replacedIn Utf8 s = replacements (utf8Pieces s)
+replacedIn Latin1 s = 0
+replacedIn Ebcdic037 s = 0
+replacedIn Utf16 s = replacements (utf16Pieces s)
+replacedIn Locator s = 0
+replacedIn RowId s = 0
+
+abbrev pub convertedIn : Conversion → List ℕ → Converted
+convertedIn p s = record { textBytes = textIn p s; replaced = replacedIn p s }
 
 unfoldable pub characterConversion : ℕ → List ℕ → Conversion
 characterConversion ccsid s =

@@ -2,6 +2,7 @@
 // once, before any loop over bytes. It refuses nothing: callers test lengths.
 pub mod hex;
 
+use buffer::Written;
 use buffer::copy;
 use codepage::ebcdic037_len;
 use codepage::ebcdic037_write;
@@ -22,7 +23,7 @@ ghost use Rattle.refusal.specs.Refusal.{inputLimit};
 ghost use Rattle.buffer.specs.Buffer.{overwritten};
 ghost use Rattle.utf.specs.Ascii.{AsciiRun};
 ghost use Rattle.conversion.specs.Conversion.{isUtf16};
-ghost use Rattle.conversion.specs.Picked.{characterConversion, graphicConversion, textIn};
+ghost use Rattle.conversion.specs.Picked.{characterConversion, graphicConversion, textIn, replacedIn};
 ghost use Rattle.conversion.specs.Guess.{guessText, Guessed};
 ghost use Rattle.conversion.specs.Measure.{Measures};
 
@@ -149,20 +150,28 @@ pub fn text_measure(conversion: Conversion, s: &[u8]) -> Measured
     }
 }
 
-// Writes the text of s into out, from its first byte, and returns its length.
-pub fn text_write(conversion: Conversion, s: &[u8], out: &mut [u8]) -> usize
+// A text for which no U+FFFD was put in.
+fn unreplaced(len: usize) -> Written
+    ensures { λ r. ⌜ r ≡ record { len = len; replaced = 0 } ⌝ }
+{
+    Written { len, replaced: 0 }
+}
+
+// Writes the text of s into out, from its first byte.
+pub fn text_write(conversion: Conversion, s: &[u8], out: &mut [u8]) -> Written
     requires { ⌜ length (textIn conversion (now s)) ≤ length (now out) ⌝ }
-    ensures count { λ r. ⌜ r ≡ length (textIn conversion (now (s .entry))) ⌝ }
+    ensures count { λ r. ⌜ r .len ≡ length (textIn conversion (now (s .entry))) ⌝ }
     ensures bytes { λ _. ⌜ now (out .exit) ≡ overwritten (textIn conversion (now (s .entry))) (now (out .entry)) ⌝ }
+    ensures replaced { λ r. ⌜ r .replaced ≡ replacedIn conversion (now (s .entry)) ⌝ }
 {
     match conversion {
-        Conversion::Plain => copy(s, out),
+        Conversion::Plain => unreplaced(copy(s, out)),
         Conversion::Utf8 => utf8_lossy_write(s, out),
-        Conversion::Latin1 => latin1_write(s, out),
-        Conversion::Ebcdic037 => ebcdic037_write(s, out),
+        Conversion::Latin1 => unreplaced(latin1_write(s, out)),
+        Conversion::Ebcdic037 => unreplaced(ebcdic037_write(s, out)),
         Conversion::Utf16 => utf16_lossy_write(s, out),
-        Conversion::Locator => marked_hex_write(b"LOB locator 0x", s, out),
-        Conversion::RowId => marked_hex_write(b"0x", s, out),
+        Conversion::Locator => unreplaced(marked_hex_write(b"LOB locator 0x", s, out)),
+        Conversion::RowId => unreplaced(marked_hex_write(b"0x", s, out)),
     }
 }
 
@@ -206,7 +215,8 @@ pub fn guess_write(s: &[u8], out: &mut [u8]) -> usize
 {
     let n = copy_ascii_long(s, out);
     if has_high(&s[n..]) {
-        return text_write(Conversion::Ebcdic037, s, out);
+        let w = text_write(Conversion::Ebcdic037, s, out);
+        return w.len;
     }
     n + copy(&s[n..], &mut out[n..])
 }

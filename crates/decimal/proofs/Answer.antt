@@ -29,6 +29,6 @@ module _ (scale : ℕ) (s d : List ℕ) where
       no-room k q = rw (ne-eqb (length s) 0 z, le-ltb mostBytes (length s) h, ← e, lt-ltb (length d) n k) (q, refl)
 
       pub fitting : n ≤ length d → {m : ℕ} → m ≡ length (decimalText scale s) → {ys : List ℕ} → ys ≡ overwritten (decimalText scale s) d
-          → Right scale s d (record { outcome = accepted; written = m }) ys
+          → Right scale s d (record { outcome = accepted; written = m; replaced = 0 }) ys
       unfolding decimalAnswer decimalBuffer textAnswer textBuffer
       fitting k w q = rw (w, ne-eqb (length s) 0 z, le-ltb mostBytes (length s) h, le-ltb (length d) (length (decimalText scale s)) (rw e at k)) (refl, q)

@@ -2,13 +2,13 @@
 use Prim.Native.Nat.{ℕ}
 use mathlib.Core.List.{List, [], _∷_}
 use mathlib.Core.Path.{_≡_, refl}
-use Rattle.buffer.specs.Buffer.{textAnswer, textBuffer}
+use Rattle.buffer.specs.Buffer.{unreplaced, textAnswer, textBuffer}
 use Rattle.packed.specs.Packed.{nibbles, signText, digitText, trimmed, fraction, decimalText}
 use Rattle.decimal.specs.Decimal.{decimalAnswer, decimalBuffer}
 
 -- for every text buffer d the bytes s at a scale give the text t: it is written into d, or d is too short for it
 abbrev pub Gives : ℕ → List ℕ → List ℕ → Type 0
-Gives scale s t = (d : List ℕ) → (decimalAnswer scale s d ≡ textAnswer t d) × (decimalBuffer scale s d ≡ textBuffer t d)
+Gives scale s t = (d : List ℕ) → (decimalAnswer scale s d ≡ textAnswer (unreplaced t) d) × (decimalBuffer scale s d ≡ textBuffer t d)
 
 pub record Examples : Type 0 where
   -- `0.05`

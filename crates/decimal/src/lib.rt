@@ -29,5 +29,6 @@ pub fn decode_packed_decimal(data: &[u8], precision: u8, scale: u8, text: &mut [
     TextAnswer {
         outcome: Outcome::Accepted,
         written: written,
+        replaced: 0,
     }
 }

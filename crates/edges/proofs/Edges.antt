@@ -21,12 +21,12 @@ use Rattle.rules.specs.Extent.{isReference, saysHeader, lobNeed, need}
 use Rattle.rules.specs.Meaning.{allZero, lobEmpty, headerItem, lobReference, lobItem, varyingItem, itemIn, isEmptyLob, refersIn}
 use Rattle.rules.specs.Walk.{skipOf, nullableNeed, columnNeed, cellOf, consCell, cellShort, walk, walkBody}
 use Rattle.rules.specs.Value.{bytesAt, valueBytes}
-use Rattle.rules.specs.Row.{startOf, valueOf, itemText, cellItem, cellValue, rowValues, rowTexts, anyDecFloat, walkDecision, bodyDecision, rowDecision, answerOf, textAfter}
+use Rattle.rules.specs.Row.{startOf, valueOf, itemText, itemReplaced, cellItem, cellValue, rowValues, rowTexts, rowReplaced, anyDecFloat, walkDecision, bodyDecision, rowDecision, answerOf, textAfter}
 use Rattle.rules.specs.Conversions.{rowAnswer, rowText}
 use Rattle.edges.specs.Edges.{EdgesHold, LettersInOrder}
 
 pub edges-hold : EdgesHold
-unfolding ascii foundOf edges baseTypes listedOr fromDrdaType filled blankValue columnList field16 referenceLength sdaNumbers sdaType sdaColumn entryOf noEntry firstEntry groupType undeclaredColumn declaredColumn lidColumn readingOf reading lastOf pendingAfter noEntries declare environmentAfter sdaColumns outerSda lidColumns groupColumns tripletColumns columnsFrom columnsOf numbered listAnswer description unsigned nibbles signText digitText trimmed fraction decimalText decimalAnswer decimalBuffer textAnswer textBuffer characterText locatorText hexDigit hexText utf8 pieceText piecesText table037 codePoint037 bytePieces byteText isReference saysHeader lobNeed need allZero lobEmpty headerItem lobReference lobItem varyingItem itemIn isEmptyLob refersIn skipOf nullableNeed columnNeed cellOf consCell cellShort walk walkBody bytesAt valueBytes startOf valueOf itemText cellItem cellValue rowValues rowTexts anyDecFloat walkDecision bodyDecision rowDecision answerOf textAfter rowAnswer rowText
+unfolding ascii foundOf edges baseTypes listedOr fromDrdaType filled blankValue columnList field16 referenceLength sdaNumbers sdaType sdaColumn entryOf noEntry firstEntry groupType undeclaredColumn declaredColumn lidColumn readingOf reading lastOf pendingAfter noEntries declare environmentAfter sdaColumns outerSda lidColumns groupColumns tripletColumns columnsFrom columnsOf numbered listAnswer description unsigned nibbles signText digitText trimmed fraction decimalText decimalAnswer decimalBuffer textAnswer textBuffer characterText locatorText hexDigit hexText utf8 pieceText piecesText table037 codePoint037 bytePieces byteText isReference saysHeader lobNeed need allZero lobEmpty headerItem lobReference lobItem varyingItem itemIn isEmptyLob refersIn skipOf nullableNeed columnNeed cellOf consCell cellShort walk walkBody bytesAt valueBytes startOf valueOf itemText itemReplaced cellItem cellValue rowValues rowTexts rowReplaced anyDecFloat walkDecision bodyDecision rowDecision answerOf textAfter rowAnswer rowText
 edges-hold = refl
 
 pub letters-in-order : LettersInOrder

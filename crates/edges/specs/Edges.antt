@@ -27,7 +27,7 @@ pub data Given : Type 0 where
   rowCase : List ℕ → List ℕ → Given
   decimalCase : List ℕ → ℕ → Given
 
--- the whole outcome: what is said of the description; the row call's answer, every value place, external columns and bytes used included; the text buffer after
+-- the whole outcome: what is said of the description; the row call's answer, every value place, external columns, bytes used and replaced characters included; the text buffer after
 -- it; and the bytes of each column's value. Of a decimal: the call's answer, and the text buffer after it
 pub data Found : Type 0 where
   answered : Told → RowTold → List ℕ → List (List ℕ) → Found
@@ -41,16 +41,16 @@ foundOf (rowCase d s) =
     answered (description d .outcome) answer after (map (λ v. valueBytes (v .value) s after) (take (columns .count) (answer .places)))
 foundOf (decimalCase s scale) = converted (decimalAnswer scale s lent) (decimalBuffer scale s lent)
 
--- an accepted row: its values, their texts one after the other, the bytes of each value, and the bytes used
+-- an accepted row: its values, their texts one after the other, the bytes of each value, and the bytes used; in no case is a character replaced
 abbrev pub values : List ValuePlace → List ℕ → List (List ℕ) → ℕ → Found
-values vs texts bytes n = answered accepted (record { outcome = accepted; places = filled blankValue vs; used = n }) (overwritten texts lent) bytes
+values vs texts bytes n = answered accepted (record { outcome = accepted; places = filled blankValue vs; used = n; replaced = 0 }) (overwritten texts lent) bytes
 
 -- refusal 8
 abbrev pub tooShort : ℕ → ℕ → ℕ → Found
 tooShort columns expected actual = answered accepted (refusedRow 8 (expected ∷ actual ∷ [])) lent (replicate columns [])
 
 abbrev pub textFound : List ℕ → Found
-textFound t = converted (record { outcome = accepted; written = length t }) (overwritten t lent)
+textFound t = converted (record { outcome = accepted; written = length t; replaced = 0 }) (overwritten t lent)
 
 -- a value within the row, and one that refers to data outside it
 abbrev pub withinRow : Db2Value → ValuePlace

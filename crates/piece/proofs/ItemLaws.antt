@@ -10,17 +10,18 @@ use Rattle.types.specs.declared.ColumnDescriptor.{ColumnDescriptor}
 use Rattle.types.specs.declared.Db2Value.{Db2Value}
 use Rattle.types.specs.declared.ValuePlace.{ValuePlace}
 use Rattle.rules.specs.Meaning.{Item, itemIn}
-use Rattle.rules.specs.Row.{place, textValue, valueOf, itemText, cellItem, cellValue}
+use Rattle.rules.specs.Row.{place, textValue, valueOf, itemText, itemReplaced, cellItem, cellValue}
 use Rattle.rules.specs.Conversions.{ported}
+use Rattle.buffer.specs.Buffer.{Converted, unreplaced}
 use Rattle.cell.specs.declared.CellItem.{CellItem}
 use Rattle.cell.specs.declared.CellItem.the-variants.{Nothing, Boolean, Part, Text}
 use Rattle.cell.specs.declared.TextSort.{TextSort}
 use Rattle.cell.specs.declared.Reading.{Reading}
 use Rattle.cell.specs.declared.OtherValue.{OtherValue}
 use Rattle.cell.specs.declared.NumberWidth.the-variants as width
-use Rattle.cell.specs.Cell.{textSort, textBy, Readable, Holds, taken, NumberIs, OtherIs}
+use Rattle.cell.specs.Cell.{textSort, readBy, Readable, Holds, taken, NumberIs, OtherIs}
 use Rattle.cell.specs.Inner.{WidthOf}
-use Rattle.piece.specs.Piece.{LiesWithin, textHeld, itemValue, numberPlace, placeOf, valueIn, valueText, textStart, PlainCell}
+use Rattle.piece.specs.Piece.{LiesWithin, madeOf, textHeld, replacedHeld, itemValue, numberPlace, placeOf, valueIn, valueText, valueReplaced, textStart, PlainCell}
 
 pub holds-within : (x : CellItem) (s : List ℕ) (i : Item) → Holds x s i → LiesWithin x s
 holds-within Nothing s i h = tt
@@ -34,6 +35,13 @@ holds-text Nothing s i h = ap itemText (sym h)
 holds-text (Boolean b) s i h = ap itemText (sym h)
 holds-text (Part k from len) s i h = ap itemText (sym (h .0))
 holds-text (Text k reading from len) s i h = ap itemText (sym (h .0))
+
+holds-replaced : (x : CellItem) (s : List ℕ) (i : Item) → Holds x s i → replacedHeld x s ≡ itemReplaced i
+unfolding itemReplaced
+holds-replaced Nothing s i h = ap itemReplaced (sym h)
+holds-replaced (Boolean b) s i h = ap itemReplaced (sym h)
+holds-replaced (Part k from len) s i h = ap itemReplaced (sym (h .0))
+holds-replaced (Text k reading from len) s i h = ap itemReplaced (sym (h .0))
 
 pub holds-value : (x : CellItem) (s : List ℕ) (i : Item) (at next : ℕ) → Holds x s i → itemValue x s at next ≡ valueOf i at next
 unfolding valueOf
@@ -61,33 +69,32 @@ module _ (x : CellItem) (s : List ℕ) (k : TextSort) (reading : Reading) (from 
   pub text-shorter : length (take ((from + len) - from) (drop from s)) ≤ length s
   text-shorter = omega (arith, cut-length from len s (text-within .0), text-within .0)
 
-  pub text-cut : textBy reading (take ((from + len) - from) (drop from s)) ≡ textHeld x s
-  text-cut = ap (textBy reading) (cut-as from len s) ∙ ap (λ (y : CellItem). textHeld y s) (sym e)
+  pub text-cut : readBy reading (take ((from + len) - from) (drop from s)) ≡ madeOf x s
+  text-cut = ap (readBy reading) (cut-as from len s) ∙ ap (λ (y : CellItem). madeOf y s) (sym e)
 
   pub text-value : (at next n : ℕ) → n ≡ length (textHeld x s) → textValue (textSort k) (place next n) ≡ itemValue x s at next
   text-value at next n h =
       ap (λ (m : ℕ). textValue (textSort k) (place next m)) (h ∙ ap (λ (y : CellItem). length (textHeld y s)) e)
       ∙ ap (λ (y : CellItem). itemValue y s at next) (sym e)
 
--- ---- a text that is the bytes themselves, all from a place on
+-- ---- a text that is the bytes themselves, all from a place on, with none replaced
+
+plain-by : (c : Converted) (t : List ℕ) → c .textBytes ≡ t → c .replaced ≡ 0 → c ≡ unreplaced t
+plain-by c t e h = ap (λ (u : List ℕ). record { textBytes = u; replaced = c .replaced }) e ∙ ap (λ (n : ℕ). record { textBytes = t; replaced = n }) h
 
 all-from : (start len : ℕ) (s : List ℕ) → start + len ≡ length s → take len (drop start s) ≡ drop start s
 all-from start len s e = take-all len (drop start s) (omega (arith, length-drop start s))
 
 module _ (x : CellItem) (s : List ℕ) (k : TextSort) (reading : Reading) (start len from : ℕ) (e : x ≡ Text k reading start len) (a : (start ≡ from) × (start + len ≡ length s)) where
-  pub plain-cut : textBy reading (take ((start + len) - start) (drop start s)) ≡ take ((start + len) - start) (drop start s) → textHeld x s ≡ drop from s
-  plain-cut h =
-      ap (λ (y : CellItem). textHeld y s) e ∙ (rw (cut-as start len s) at h) ∙ all-from start len s (a .1) ∙ ap (λ (n : ℕ). drop n s) (a .0)
+  cut-all : take ((start + len) - start) (drop start s) ≡ drop from s
+  cut-all = cut-as start len s ∙ all-from start len s (a .1) ∙ ap (λ (n : ℕ). drop n s) (a .0)
+
+  pub plain-cut : readBy reading (take ((start + len) - start) (drop start s)) ≡ unreplaced (take ((start + len) - start) (drop start s)) → madeOf x s ≡ unreplaced (drop from s)
+  plain-cut h = ap (λ (y : CellItem). madeOf y s) e ∙ ap (readBy reading) (sym (cut-as start len s)) ∙ h ∙ ap unreplaced cut-all
 
   -- where the text is the bytes themselves, so is what is read of them
-  pub copied-cut : textHeld x s ≡ drop from s → textBy reading (take ((start + len) - start) (drop start s)) ≡ take ((start + len) - start) (drop start s)
-  copied-cut p =
-      ap (textBy reading) (cut-as start len s)
-      ∙ ap (λ (y : CellItem). textHeld y s) (sym e)
-      ∙ p
-      ∙ ap (λ (n : ℕ). drop n s) (sym (a .0))
-      ∙ sym (all-from start len s (a .1))
-      ∙ sym (cut-as start len s)
+  pub copied-cut : madeOf x s ≡ unreplaced (drop from s) → readBy reading (take ((start + len) - start) (drop start s)) ≡ unreplaced (take ((start + len) - start) (drop start s))
+  copied-cut p = ap (readBy reading) (cut-as start len s) ∙ ap (λ (y : CellItem). madeOf y s) (sym e) ∙ p ∙ ap unreplaced (sym cut-all)
 
 -- ---- what the column decoder finds
 
@@ -105,6 +112,11 @@ module _ (d : OtherValue) (c : ColumnDescriptor) (s : List ℕ) (o : OtherIs d c
   unfolding cellItem
   found-text = holds-text (d .item) (take (d .used) s) (itemIn ported c (take (d .used) s)) got ∙ ap (λ (n : ℕ). itemText (itemIn ported c (take n s))) (o .1 .0)
 
+  pub found-replaced : replacedHeld (d .item) (take (d .used) s) ≡ valueReplaced c s
+  unfolding cellItem
+  found-replaced =
+      holds-replaced (d .item) (take (d .used) s) (itemIn ported c (take (d .used) s)) got ∙ ap (λ (n : ℕ). itemReplaced (itemIn ported c (take n s))) (o .1 .0)
+
   pub found-place : (at next : ℕ) → placeOf d at next s ≡ cellValue ported (valueIn c at s) next
   unfolding cellValue
   found-place at next =
@@ -112,13 +124,17 @@ module _ (d : OtherValue) (c : ColumnDescriptor) (s : List ℕ) (o : OtherIs d c
       ∙ ap (λ (n : ℕ). valuePlace (valueOf (itemIn ported c (take n s)) at next) (d .external)) (o .1 .0)
       ∙ ap (λ (b : Bool). valuePlace (valueOf (itemIn ported c (taken c s)) at next) b) (o .1 .1)
 
-  pub found-plain : textHeld (d .item) (take (d .used) s) ≡ drop (textStart (c .«db2_type»)) (take (d .used) s) → PlainCell (valueIn c 0 s)
-  unfolding cellItem
-  found-plain h = sym found-text ∙ h ∙ ap (λ (n : ℕ). drop (textStart (c .«db2_type»)) (take n s)) (o .1 .0)
+  -- the bytes that a text begins with
+  abbrev own : ℕ → List ℕ
+  own n = drop (textStart (c .«db2_type»)) (take n s)
 
-  pub plain-found : (at : ℕ) → PlainCell (valueIn c at s) → textHeld (d .item) (take (d .used) s) ≡ drop (textStart (c .«db2_type»)) (take (d .used) s)
+  pub found-plain : madeOf (d .item) (take (d .used) s) ≡ unreplaced (own (d .used)) → PlainCell (valueIn c 0 s)
   unfolding cellItem
-  plain-found at h = found-text ∙ h ∙ ap (λ (n : ℕ). drop (textStart (c .«db2_type»)) (take n s)) (sym (o .1 .0))
+  found-plain h = (sym found-text ∙ ap (λ (y : Converted). y .textBytes) h ∙ ap own (o .1 .0), sym found-replaced ∙ ap (λ (y : Converted). y .replaced) h)
+
+  pub plain-found : (at : ℕ) → PlainCell (valueIn c at s) → madeOf (d .item) (take (d .used) s) ≡ unreplaced (own (d .used))
+  unfolding cellItem
+  plain-found at h = plain-by (madeOf (d .item) (take (d .used) s)) (own (d .used)) (found-text ∙ h .0 ∙ ap own (sym (o .1 .0))) (found-replaced ∙ h .1)
 
 -- ---- numbers
 
@@ -126,6 +142,10 @@ module _ (v : Db2Value) (c : ColumnDescriptor) (s : List ℕ) (h : NumberIs v c 
   pub number-text : valueText c s ≡ []
   unfolding cellItem itemText
   number-text = ap itemText (h .0 .1 .0)
+
+  pub number-replaced : valueReplaced c s ≡ 0
+  unfolding cellItem itemReplaced
+  number-replaced = ap itemReplaced (h .0 .1 .0)
 
   pub number-place : (at next : ℕ) → numberPlace v ≡ cellValue ported (valueIn c at s) next
   unfolding cellValue valueOf

@@ -12,9 +12,9 @@ use borrow.Author.Tests.{eq-eqb, ne-eqb, eqb-true, eqb-false}
 use Rattle.types.specs.declared.ColumnDescriptor.{ColumnDescriptor}
 use Rattle.rules.specs.Extent.{need, extentOf}
 use Rattle.rules.specs.Walk.{nullableNeed, cellNeed, columnNeed, Cell, absent, present, cellOf, short, cellShort}
-use Rattle.rules.specs.Row.{itemText, cellItem}
+use Rattle.rules.specs.Row.{itemText, itemReplaced, cellItem}
 use Rattle.rules.specs.Conversions.{ported}
-use Rattle.piece.specs.Piece.{isNull, valueIn, valueText, cellIn, cellText}
+use Rattle.piece.specs.Piece.{isNull, valueIn, valueText, valueReplaced, cellIn, cellText, cellReplaced}
 
 -- all bytes from a place on
 pub all-after : (k : ℕ) (s : List ℕ) → take (length s - k) (drop k s) ≡ drop k s
@@ -152,6 +152,10 @@ module _ (c : ColumnDescriptor) (s : List ℕ) where
     unfolding cellItem itemText
     absent-text m = ap (λ (p : Cell). itemText (cellItem ported p)) (null-absent m 0)
 
+    pub absent-replaced : 0 < length s → cellReplaced c s ≡ 0
+    unfolding cellItem itemReplaced
+    absent-replaced m = ap (λ (p : Cell). itemReplaced (cellItem ported p)) (null-absent m 0)
+
   module _ (h : isNull (c .nullable) s ≡ false) where
     pub lead-within : leadOf c ≤ length s
     lead-within = go (c .nullable) s h
@@ -183,3 +187,7 @@ module _ (c : ColumnDescriptor) (s : List ℕ) where
     pub value-reads : cellText c s ≡ valueText c (drop (leadOf c) s)
     unfolding cellItem
     value-reads = ap (λ (p : Cell). itemText (cellItem ported p)) (value-stands 0)
+
+    pub value-counts : cellReplaced c s ≡ valueReplaced c (drop (leadOf c) s)
+    unfolding cellItem
+    value-counts = ap (λ (p : Cell). itemReplaced (cellItem ported p)) (value-stands 0)

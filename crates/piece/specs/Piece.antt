@@ -15,12 +15,13 @@ use Rattle.rules.specs.declared.Extent.the-variants.{Fixed}
 use Rattle.rules.specs.Extent.{need, extentOf, typeExtent}
 use Rattle.rules.specs.Meaning.{typeItem, itemIn}
 use Rattle.rules.specs.Walk.{Cell, absent, present, columnNeed, cellOf}
-use Rattle.rules.specs.Row.{place, partValue, textValue, startOf, itemText, cellItem}
+use Rattle.rules.specs.Row.{place, partValue, textValue, startOf, itemText, itemReplaced, cellItem}
 use Rattle.rules.specs.Conversions.{ported}
+use Rattle.buffer.specs.Buffer.{Converted, unreplaced}
 use Rattle.cell.specs.declared.CellItem.{CellItem}
 use Rattle.cell.specs.declared.CellItem.the-variants.{Nothing, Boolean, Part, Text}
 use Rattle.cell.specs.declared.OtherValue.{OtherValue}
-use Rattle.cell.specs.Cell.{byteSort, textSort, textBy, Readable}
+use Rattle.cell.specs.Cell.{byteSort, textSort, readBy, Readable}
 
 -- whether the rest s of a row has no value of a column: its indicator says Null, or is not there
 abbrev pub isNull : Bool → List ℕ → Bool
@@ -42,32 +43,44 @@ valueIn c at s = present c at (take (need (extentOf c) s) s)
 abbrev pub valueText : ColumnDescriptor → List ℕ → List ℕ
 valueText c s = itemText (cellItem ported (valueIn c 0 s))
 
--- a cell's text does not depend on where the cell is
+abbrev pub valueReplaced : ColumnDescriptor → List ℕ → ℕ
+valueReplaced c s = itemReplaced (cellItem ported (valueIn c 0 s))
+
+-- a cell's text, and how many U+FFFD were put in, do not depend on where the cell is
 abbrev pub cellText : ColumnDescriptor → List ℕ → List ℕ
 cellText c s = itemText (cellItem ported (cellIn c 0 s))
+
+abbrev pub cellReplaced : ColumnDescriptor → List ℕ → ℕ
+cellReplaced c s = itemReplaced (cellItem ported (cellIn c 0 s))
 
 -- where the text of a value within the row begins among the value's bytes: behind the two or four bytes that say its length
 abbrev pub textStart : Db2Type → ℕ
 textStart t =
     cond (namedIn (type.VarChar 0 ∷ type.LongVarChar ∷ type.VarGraphic 0 ∷ []) t) 2 (cond (namedIn (type.Clob ∷ type.DbClob ∷ type.Xml ∷ []) t) 4 0)
 
--- the text is the value's bytes from there on: writing it is copying them
+-- the text is the value's bytes from there on, and none was replaced: writing it is copying them
 abbrev pub PlainCell : Cell → Type 0
 PlainCell absent = Unit {0}
-PlainCell (present c at s) = itemText (itemIn ported c s) ≡ drop (textStart (c .«db2_type»)) s
+PlainCell (present c at s) = (itemText (itemIn ported c s) ≡ drop (textStart (c .«db2_type»)) s) × (itemReplaced (itemIn ported c s) ≡ 0)
 
--- an item as the column decoder holds it, of the value's bytes s: it lies within them, its text, and its value where s begins at place `at`
+-- an item as the column decoder holds it, of the value's bytes s: it lies within them, what is made of them, and its value where s begins at place `at`
 abbrev pub LiesWithin : CellItem → List ℕ → Type 0
 LiesWithin Nothing s = Unit {0}
 LiesWithin (Boolean b) s = Unit {0}
 LiesWithin (Part k from len) s = from + len ≤ length s
 LiesWithin (Text k reading from len) s = (from + len ≤ length s) × Readable reading len
 
+abbrev pub madeOf : CellItem → List ℕ → Converted
+madeOf Nothing s = unreplaced []
+madeOf (Boolean b) s = unreplaced []
+madeOf (Part k from len) s = unreplaced []
+madeOf (Text k reading from len) s = readBy reading (take len (drop from s))
+
 abbrev pub textHeld : CellItem → List ℕ → List ℕ
-textHeld Nothing s = []
-textHeld (Boolean b) s = []
-textHeld (Part k from len) s = []
-textHeld (Text k reading from len) s = textBy reading (take len (drop from s))
+textHeld x s = madeOf x s .textBytes
+
+abbrev pub replacedHeld : CellItem → List ℕ → ℕ
+replacedHeld x s = madeOf x s .replaced
 
 abbrev pub itemValue : CellItem → List ℕ → ℕ → ℕ → Db2Value
 itemValue Nothing s at next = Db2Value.Null

@@ -1,6 +1,7 @@
 // An item of the column decoder: the length of its text, its value with its place, and its text written.
 use crate::marks::WORDS;
 use crate::marks::is_marked;
+use buffer::Written;
 use cell::ByteSort;
 use cell::CellItem;
 use cell::Encoding;
@@ -21,21 +22,22 @@ ghost use mathlib.Core.Bool.{true};
 ghost use Prim.Native.Nat.{_+_, _<_, _≤_};
 ghost use lib.ListN.{length, drop};
 ghost use Rattle.refusal.specs.Refusal.{inputLimit};
-ghost use Rattle.buffer.specs.Buffer.{overwritten};
+ghost use Rattle.buffer.specs.Buffer.{unreplaced, overwritten};
 ghost use Rattle.rules.specs.Row.{place, startOf, partValue, textValue};
 ghost use Rattle.conversion.specs.declared.Conversion.{Conversion};
-ghost use Rattle.conversion.specs.Picked.{textIn};
-ghost use Rattle.cell.specs.Cell.{byteSort, textSort, encodedText, textBy, Readable};
+ghost use Rattle.conversion.specs.Picked.{convertedIn};
+ghost use Rattle.cell.specs.Cell.{byteSort, textSort, decoded, readBy, Readable};
 ghost use Rattle.piece.specs.Marks.{markAt};
-ghost use Rattle.piece.specs.Piece.{LiesWithin, textHeld, itemValue, textStart};
+ghost use Rattle.piece.specs.Piece.{LiesWithin, madeOf, textHeld, replacedHeld, itemValue, textStart};
 
-// A value, and how many bytes of text were written.
+// A value, how many bytes of text were written, and how many U+FFFD among them were put in.
 pub struct ItemWritten {
     pub value: Db2Value,
     pub written: usize,
+    pub replaced: usize,
 }
 
-// The length of a text, and whether it is the bytes that it is read from.
+// The length of a text, and whether it is the bytes that it is read from, with none replaced.
 pub struct TextLength {
     pub len: usize,
     pub plain: bool,
@@ -52,8 +54,8 @@ fn is_plain(conversion: Conversion) -> bool
 
 // The conversion that an encoding asks for. `plain` says that the text is the bytes themselves: then nothing is asked of them.
 fn conversion_of(encoding: Encoding, plain: bool, s: &[u8]) -> Conversion
-    requires { ⌜ (plain ≡ true → encodedText encoding (now s) ≡ now s) ⌝ }
-    ensures { λ r. ⌜ textIn r (now (s .entry)) ≡ encodedText encoding (now (s .entry)) ⌝ }
+    requires { ⌜ (plain ≡ true → decoded encoding (now s) ≡ unreplaced (now s)) ⌝ }
+    ensures { λ r. ⌜ convertedIn r (now (s .entry)) ≡ decoded encoding (now (s .entry)) ⌝ }
 {
     if plain {
         return Conversion::Plain;
@@ -70,8 +72,8 @@ fn conversion_of(encoding: Encoding, plain: bool, s: &[u8]) -> Conversion
 // The length of a text, and its writing into out from its first byte.
 fn reading_len(reading: Reading, s: &[u8]) -> TextLength
     requires { ⌜ (length (now s) ≤ inputLimit) × Readable reading (length (now s)) ⌝ }
-    ensures len { λ r. ⌜ r .len ≡ length (textBy reading (now (s .entry))) ⌝ }
-    ensures plain { λ r. ⌜ (r .plain ≡ true → textBy reading (now (s .entry)) ≡ now (s .entry)) ⌝ }
+    ensures len { λ r. ⌜ r .len ≡ length (readBy reading (now (s .entry)) .textBytes) ⌝ }
+    ensures plain { λ r. ⌜ (r .plain ≡ true → readBy reading (now (s .entry)) ≡ unreplaced (now (s .entry))) ⌝ }
 {
     match reading {
         Reading::By(encoding) => {
@@ -88,17 +90,21 @@ fn reading_len(reading: Reading, s: &[u8]) -> TextLength
     }
 }
 
-fn reading_write(reading: Reading, plain: bool, s: &[u8], out: &mut [u8]) -> usize
-    requires { ⌜ Readable reading (length (now s)) × ((plain ≡ true → textBy reading (now s) ≡ now s) × (length (textBy reading (now s)) ≤ length (now out))) ⌝ }
-    ensures count { λ r. ⌜ r ≡ length (textBy reading (now (s .entry))) ⌝ }
-    ensures bytes { λ _. ⌜ now (out .exit) ≡ overwritten (textBy reading (now (s .entry))) (now (out .entry)) ⌝ }
+fn reading_write(reading: Reading, plain: bool, s: &[u8], out: &mut [u8]) -> Written
+    requires { ⌜ Readable reading (length (now s)) × ((plain ≡ true → readBy reading (now s) ≡ unreplaced (now s)) × (length (readBy reading (now s) .textBytes) ≤ length (now out))) ⌝ }
+    ensures count { λ r. ⌜ r .len ≡ length (readBy reading (now (s .entry)) .textBytes) ⌝ }
+    ensures bytes { λ _. ⌜ now (out .exit) ≡ overwritten (readBy reading (now (s .entry)) .textBytes) (now (out .entry)) ⌝ }
+    ensures replaced { λ r. ⌜ r .replaced ≡ readBy reading (now (s .entry)) .replaced ⌝ }
 {
     match reading {
         Reading::By(encoding) => {
             let conversion = conversion_of(encoding, plain, s);
             text_write(conversion, s, out)
         }
-        Reading::Packed(scale) => decimal_write(s, scale, out),
+        Reading::Packed(scale) => {
+            let len = decimal_write(s, scale, out);
+            Written { len, replaced: 0 }
+        }
     }
 }
 
@@ -130,7 +136,7 @@ pub fn text_start(t: Db2Type) -> usize
 pub fn item_len(item: CellItem, bytes: &[u8], from: usize) -> TextLength
     requires { ⌜ (length (now bytes) ≤ inputLimit) × LiesWithin item (now bytes) ⌝ }
     ensures len { λ r. ⌜ r .len ≡ length (textHeld item (now (bytes .entry))) ⌝ }
-    ensures plain { λ r. ⌜ (r .plain ≡ true → textHeld item (now (bytes .entry)) ≡ drop from (now (bytes .entry))) ⌝ }
+    ensures plain { λ r. ⌜ (r .plain ≡ true → madeOf item (now (bytes .entry)) ≡ unreplaced (drop from (now (bytes .entry)))) ⌝ }
 {
     match item {
         CellItem::Text {
@@ -220,19 +226,22 @@ pub fn item_write(
     out: &mut [u8],
 ) -> ItemWritten
     requires { ⌜ (at + length (now bytes) ≤ inputLimit) × (LiesWithin item (now bytes) × (length (textHeld item (now bytes)) ≤ length (now out))) ⌝ }
-    requires plain { ⌜ (k < 768) × (markAt (now marks) k ≡ true → textHeld item (now bytes) ≡ drop from (now bytes)) ⌝ }
+    requires plain { ⌜ (k < 768) × (markAt (now marks) k ≡ true → madeOf item (now bytes) ≡ unreplaced (drop from (now bytes))) ⌝ }
     ensures value { λ r. ⌜ r .value ≡ itemValue item (now (bytes .entry)) at next ⌝ }
     ensures count { λ r. ⌜ r .written ≡ length (textHeld item (now (bytes .entry))) ⌝ }
     ensures bytes { λ _. ⌜ now (out .exit) ≡ overwritten (textHeld item (now (bytes .entry))) (now (out .entry)) ⌝ }
+    ensures replaced { λ r. ⌜ r .replaced ≡ replacedHeld item (now (bytes .entry)) ⌝ }
 {
     match item {
         CellItem::Nothing => ItemWritten {
             value: Db2Value::Null,
             written: 0,
+            replaced: 0,
         },
         CellItem::Boolean(b) => ItemWritten {
             value: Db2Value::Boolean(b),
             written: 0,
+            replaced: 0,
         },
         CellItem::Part {
             sort,
@@ -243,6 +252,7 @@ pub fn item_write(
             ItemWritten {
                 value: v,
                 written: 0,
+                replaced: 0,
             }
         }
         CellItem::Text {
@@ -252,17 +262,18 @@ pub fn item_write(
             len,
         } => {
             let plain = is_copied(marks, k, start, len, from, bytes.len());
-            let n = reading_write(reading, plain, &bytes[start..start + len], out);
+            let w = reading_write(reading, plain, &bytes[start..start + len], out);
             let v = text_value(
                 sort,
                 Place {
                     start: next,
-                    len: n,
+                    len: w.len,
                 },
             );
             ItemWritten {
                 value: v,
-                written: n,
+                written: w.len,
+                replaced: w.replaced,
             }
         }
     }

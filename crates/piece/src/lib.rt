@@ -24,13 +24,13 @@ ghost use Prim.Native.Nat.{ℕ, _+_, _<_, _≤_};
 ghost use lib.ListN.{length, take, drop};
 ghost use Rattle.refusal.specs.Refusal.{inputLimit};
 ghost use Rattle.types.specs.Places.{blankValue};
-ghost use Rattle.buffer.specs.Buffer.{overwritten};
+ghost use Rattle.buffer.specs.Buffer.{unreplaced, overwritten};
 ghost use Rattle.rules.specs.Extent.{need, extentOf};
 ghost use Rattle.rules.specs.Walk.{short, skipOf, columnNeed, cellShort};
 ghost use Rattle.rules.specs.Row.{cellValue};
 ghost use Rattle.rules.specs.Conversions.{ported};
 ghost use Rattle.cell.specs.Cell.{isNumber};
-ghost use Rattle.piece.specs.Piece.{isNull, numberPlace, placeOf, valueIn, valueText, cellIn, cellText, textStart, textHeld, LiesWithin, PlainCell};
+ghost use Rattle.piece.specs.Piece.{isNull, numberPlace, placeOf, valueIn, valueText, valueReplaced, cellIn, cellText, cellReplaced, textStart, madeOf, textHeld, replacedHeld, LiesWithin, PlainCell};
 ghost use Rattle.piece.specs.Marks.{markAt};
 
 // The Rust's two numbers of a row that is too short.
@@ -39,18 +39,19 @@ pub struct Lacking {
     pub actual: usize,
 }
 
-// How long a column's text is, how many bytes of the row the column takes, and whether the text is the value's own bytes.
+// How long a column's text is, how many bytes of the row the column takes, and whether the text is the value's own bytes, with none replaced.
 pub struct PieceLength {
     pub used: usize,
     pub len: usize,
     pub plain: bool,
 }
 
-// A column's value, how many bytes of the row the column takes, and how many bytes of text were written.
+// A column's value, how many bytes of the row the column takes, how many bytes of text were written, and how many U+FFFD among them were put in.
 pub struct PieceWritten {
     pub place: ValuePlace,
     pub used: usize,
     pub written: usize,
+    pub replaced: usize,
 }
 
 // Where a row's body begins: an FF and the byte after it are skipped; that byte is not looked at.
@@ -127,7 +128,7 @@ pub fn shortage(rest: &[u8], offset: usize, column: ColumnDescriptor) -> Lacking
 
 // Null: its indicator alone.
 fn null_piece() -> PieceWritten
-    ensures { λ r. ⌜ (r .place ≡ blankValue) × ((r .used ≡ 1) × (r .written ≡ 0)) ⌝ }
+    ensures { λ r. ⌜ (r .place ≡ blankValue) × ((r .used ≡ 1) × ((r .written ≡ 0) × (r .replaced ≡ 0))) ⌝ }
 {
     PieceWritten {
         place: ValuePlace {
@@ -136,6 +137,7 @@ fn null_piece() -> PieceWritten
         },
         used: 1,
         written: 0,
+        replaced: 0,
     }
 }
 
@@ -206,7 +208,7 @@ pub fn piece_length(rest: &[u8], column: ColumnDescriptor) -> PieceLength
 
 // A number: it has no text, and refers to nothing.
 fn number_piece(value: Db2Value, used: usize) -> PieceWritten
-    ensures { λ r. ⌜ (r .place ≡ numberPlace value) × ((r .used ≡ used) × (r .written ≡ 0)) ⌝ }
+    ensures { λ r. ⌜ (r .place ≡ numberPlace value) × ((r .used ≡ used) × ((r .written ≡ 0) × (r .replaced ≡ 0))) ⌝ }
 {
     PieceWritten {
         place: ValuePlace {
@@ -215,6 +217,7 @@ fn number_piece(value: Db2Value, used: usize) -> PieceWritten
         },
         used,
         written: 0,
+        replaced: 0,
     }
 }
 
@@ -234,11 +237,12 @@ pub fn other_write(
     requires limit { ⌜ at + length (now rest) ≤ inputLimit ⌝ }
     requires within { ⌜ LiesWithin (d .item) (take (d .used) (now rest)) ⌝ }
     requires room { ⌜ length (textHeld (d .item) (take (d .used) (now rest))) ≤ length (now out) ⌝ }
-    requires plain { ⌜ (k < 768) × (markAt (now marks) k ≡ true → textHeld (d .item) (take (d .used) (now rest)) ≡ drop from (take (d .used) (now rest))) ⌝ }
+    requires plain { ⌜ (k < 768) × (markAt (now marks) k ≡ true → madeOf (d .item) (take (d .used) (now rest)) ≡ unreplaced (drop from (take (d .used) (now rest)))) ⌝ }
     ensures place { λ r. ⌜ r .place ≡ placeOf d at next (now (rest .entry)) ⌝ }
     ensures used { λ r. ⌜ r .used ≡ d .used ⌝ }
     ensures count { λ r. ⌜ r .written ≡ length (textHeld (d .item) (take (d .used) (now (rest .entry)))) ⌝ }
     ensures bytes { λ _. ⌜ now (out .exit) ≡ overwritten (textHeld (d .item) (take (d .used) (now (rest .entry)))) (now (out .entry)) ⌝ }
+    ensures replaced { λ r. ⌜ r .replaced ≡ replacedHeld (d .item) (take (d .used) (now (rest .entry))) ⌝ }
 {
     let item = d.item;
     let used = d.used;
@@ -251,6 +255,7 @@ pub fn other_write(
         },
         used,
         written: w.written,
+        replaced: w.replaced,
     }
 }
 
@@ -272,6 +277,7 @@ fn value_write(
     ensures used { λ r. ⌜ r .used ≡ need (extentOf column) (now (rest .entry)) ⌝ }
     ensures count { λ r. ⌜ r .written ≡ length (valueText column (now (rest .entry))) ⌝ }
     ensures bytes { λ _. ⌜ now (out .exit) ≡ overwritten (valueText column (now (rest .entry))) (now (out .entry)) ⌝ }
+    ensures replaced { λ r. ⌜ r .replaced ≡ valueReplaced column (now (rest .entry)) ⌝ }
 {
     let t = column.db2_type;
     match decode_column_value(rest, column) {
@@ -299,6 +305,7 @@ pub fn piece_write(
     ensures used { λ r. ⌜ r .used ≡ columnNeed column (now (rest .entry)) ⌝ }
     ensures count { λ r. ⌜ r .written ≡ length (cellText column (now (rest .entry))) ⌝ }
     ensures bytes { λ _. ⌜ now (out .exit) ≡ overwritten (cellText column (now (rest .entry))) (now (out .entry)) ⌝ }
+    ensures replaced { λ r. ⌜ r .replaced ≡ cellReplaced column (now (rest .entry)) ⌝ }
 {
     if is_null(rest, column.nullable) {
         return null_piece();
@@ -311,5 +318,6 @@ pub fn piece_write(
         place,
         used,
         written: v.written,
+        replaced: v.replaced,
     }
 }

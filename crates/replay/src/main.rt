@@ -1,7 +1,8 @@
 // Program. Replays stored answers of the Rust: for each line of standard input, a request and the Rust's answer behind ` A `, it makes the
 // call and compares. It writes a line for each line that differs or is no request, and at the end how many lines there were and how many were
 // the same. The kinds of line: T decode_character_bytes, G decode_graphic_bytes, L bytes_are_likely_text, P decode_packed_decimal, F fixed_length,
-// Q parse_qrydsc and decode_row with its columns, H decode_row with columns of the line's own.
+// Q parse_qrydsc and decode_row with its columns, H decode_row with columns of the line's own. T, G, Q and H also come in lower case, with the host release
+// behind the letter: their answers count the characters replaced, which the Rust does not.
 use answers::columns::columns_at;
 use answers::columns::columns_of;
 use answers::columns::type_of;
@@ -15,6 +16,7 @@ use answers::lines::find;
 use answers::lines::number;
 use answers::lines::part_start;
 use answers::place::decimal_at;
+use answers::place::replaced_at;
 use answers::place::text_at;
 use answers::rows::is_answer;
 use buffer::TextAnswer;
@@ -111,8 +113,16 @@ fn is_filled(text: &[u8]) -> bool {
     true
 }
 
-// Whether the call writes `want` at the beginning of the buffer and no byte after it.
-fn writes(call: Call, data: &[u8], want: &[u8], text: &mut [u8]) -> bool {
+// Whether the call writes `want` at the beginning of the buffer and no byte after it, and `rest`, what is stored behind the text, is how many characters
+// it replaced, or nothing where they are not counted.
+fn writes(
+    call: Call,
+    data: &[u8],
+    want: &[u8],
+    counted: bool,
+    rest: &[u8],
+    text: &mut [u8],
+) -> bool {
     fill(text, FILL);
     let a = make(call, data, text);
     let outcome = a.outcome;
@@ -123,18 +133,24 @@ fn writes(call: Call, data: &[u8], want: &[u8], text: &mut [u8]) -> bool {
     if n > text.len() {
         return false;
     }
+    if replaced_at(rest, 0, counted, a.replaced) != rest.len() {
+        return false;
+    }
     if !same(&text[0..n], want) {
         return false;
     }
     is_filled(&text[n..])
 }
 
-// Whether the call refuses with this number and this value and writes nothing.
+// Whether the call refuses with this number and this value, and writes and counts nothing.
 fn refuses(call: Call, data: &[u8], refusal: u32, value: usize, text: &mut [u8]) -> bool {
     fill(text, FILL);
     let a = make(call, data, text);
     let outcome = a.outcome;
     if a.written != 0 {
+        return false;
+    }
+    if a.replaced != 0 {
         return false;
     }
     if outcome.number() != refusal {
@@ -147,15 +163,22 @@ fn refuses(call: Call, data: &[u8], refusal: u32, value: usize, text: &mut [u8])
 }
 
 // Whether the call writes `want` into a larger buffer and into one that it fills, and refuses one that is a byte shorter.
-fn writes_each(call: Call, data: &[u8], want: &[u8], text: &mut [u8]) -> bool {
+fn writes_each(
+    call: Call,
+    data: &[u8],
+    want: &[u8],
+    counted: bool,
+    rest: &[u8],
+    text: &mut [u8],
+) -> bool {
     let n = want.len();
     if text.len() <= n {
         return false;
     }
-    if !writes(call, data, want, text) {
+    if !writes(call, data, want, counted, rest, text) {
         return false;
     }
-    if !writes(call, data, want, &mut text[0..n]) {
+    if !writes(call, data, want, counted, rest, &mut text[0..n]) {
         return false;
     }
     if n == 0 {
@@ -186,11 +209,19 @@ fn refusal_of(answer: &[u8]) -> Stored {
 }
 
 // Whether the call answers what is stored: a text, or a refusal without values.
-fn answers(call: Call, data: &[u8], answer: &[u8], want: &mut [u8], text: &mut [u8]) -> bool {
-    let w = bytes(answer, want);
+fn answers(
+    call: Call,
+    data: &[u8],
+    counted: bool,
+    answer: &[u8],
+    want: &mut [u8],
+    text: &mut [u8],
+) -> bool {
+    let end = find(answer, 0, b' ');
+    let w = bytes(&answer[0..end], want);
     let n = w.value;
     if w.valid {
-        return writes_each(call, data, &want[0..n], text);
+        return writes_each(call, data, &want[0..n], counted, &answer[end..], text);
     }
     match refusal_of(answer) {
         Stored::Refusal(number) => refuses(call, data, number, 0, text),
@@ -202,6 +233,7 @@ fn answers(call: Call, data: &[u8], answer: &[u8], want: &mut [u8], text: &mut [
 fn text_line(
     kind: u8,
     request: &[u8],
+    counted: bool,
     answer: &[u8],
     data: &mut [u8],
     want: &mut [u8],
@@ -218,7 +250,7 @@ fn text_line(
     if !d.valid {
         return Verdict::NoRequest;
     }
-    judged(answers(call, &data[0..n], answer, want, text))
+    judged(answers(call, &data[0..n], counted, answer, want, text))
 }
 
 fn likely_line(request: &[u8], answer: &[u8], data: &mut [u8]) -> Verdict {
@@ -250,12 +282,19 @@ fn length_line(request: &[u8], answer: &[u8]) -> Verdict {
 }
 
 // Whether the row call answers so, with a text buffer of this length: then every byte of it is a text's, or none is changed.
-fn decodes(columns: Columns, row: &[u8], answer: &[u8], want: &mut [u8], text: &mut [u8]) -> bool {
+fn decodes(
+    columns: Columns,
+    row: &[u8],
+    counted: bool,
+    answer: &[u8],
+    want: &mut [u8],
+    text: &mut [u8],
+) -> bool {
     fill(text, FILL);
     let count = columns.count;
     let a = decode_row(row, columns, text);
     let outcome = a.outcome;
-    if !is_answer(answer, a, count, row, text, want) {
+    if !is_answer(answer, counted, a, count, row, text, want) {
         return false;
     }
     if outcome.number() == 0 {
@@ -264,7 +303,7 @@ fn decodes(columns: Columns, row: &[u8], answer: &[u8], want: &mut [u8], text: &
     is_filled(text)
 }
 
-// Whether the row call refuses for want of text space, with this length, and writes nothing.
+// Whether the row call refuses for want of text space, with this length, and writes and counts nothing.
 fn lacks_space(columns: Columns, row: &[u8], needed: usize, text: &mut [u8]) -> bool {
     fill(text, FILL);
     let a = decode_row(row, columns, text);
@@ -273,6 +312,9 @@ fn lacks_space(columns: Columns, row: &[u8], needed: usize, text: &mut [u8]) -> 
         return false;
     }
     if outcome.first_value() != needed {
+        return false;
+    }
+    if a.replaced != 0 {
         return false;
     }
     is_filled(text)
@@ -297,6 +339,7 @@ fn leaves_rest(columns: Columns, row: &[u8], written: usize, text: &mut [u8]) ->
 fn row_answers(
     columns: Columns,
     row: &[u8],
+    counted: bool,
     answer: &[u8],
     want: &mut [u8],
     text: &mut [u8],
@@ -306,7 +349,7 @@ fn row_answers(
     if text.len() <= n {
         return false;
     }
-    if !decodes(columns, row, answer, want, &mut text[0..n]) {
+    if !decodes(columns, row, counted, answer, want, &mut text[0..n]) {
         return false;
     }
     if !leaves_rest(columns, row, n, text) {
@@ -323,6 +366,7 @@ fn row_line(
     columns: Columns,
     request: &[u8],
     at: usize,
+    counted: bool,
     answer: &[u8],
     data: &mut [u8],
     want: &mut [u8],
@@ -336,7 +380,7 @@ fn row_line(
     if !d.valid {
         return Verdict::NoRequest;
     }
-    judged(row_answers(columns, &data[0..n], answer, want, text))
+    judged(row_answers(columns, &data[0..n], counted, answer, want, text))
 }
 
 // Whether these columns are told: `C`, their number, and each of them.
@@ -360,6 +404,7 @@ fn is_told_refused(refusal: u32, told: &[u8], answer: &[u8]) -> bool {
 fn described_line(
     columns: Columns,
     request: &[u8],
+    counted: bool,
     answer: &[u8],
     data: &mut [u8],
     want: &mut [u8],
@@ -370,12 +415,13 @@ fn described_line(
         return Verdict::Differs;
     }
     let row = part_start(request, 3, b' ');
-    row_line(columns, request, row, answer, data, want, text)
+    row_line(columns, request, row, counted, answer, data, want, text)
 }
 
 // A line of kind Q: `Q <description> R <row> C <columns>`.
 fn description_line(
     request: &[u8],
+    counted: bool,
     answer: &[u8],
     data: &mut [u8],
     want: &mut [u8],
@@ -394,7 +440,7 @@ fn description_line(
     let columns = described.columns;
     let refusal = outcome.number();
     if refusal == 0 {
-        return described_line(columns, request, answer, data, want, text);
+        return described_line(columns, request, counted, answer, data, want, text);
     }
     let told = part_start(request, 4, b' ');
     judged(is_told_refused(refusal, &request[told..], answer))
@@ -403,6 +449,7 @@ fn description_line(
 // A line of kind H: `H <columns> R <row>`.
 fn own_line(
     request: &[u8],
+    counted: bool,
     answer: &[u8],
     data: &mut [u8],
     want: &mut [u8],
@@ -411,7 +458,31 @@ fn own_line(
     let columns = columns_of(request);
     let told = columns_at(request, 2, columns);
     let row = text_at(request, told, b" R ");
-    row_line(columns, request, row, answer, data, want, text)
+    row_line(columns, request, row, counted, answer, data, want, text)
+}
+
+// A line in lower case: the host release, of which there is only 2, and what the same kind in upper case has. Without its letter it has each field where
+// that has it.
+fn counted_line(
+    kind: u8,
+    request: &[u8],
+    answer: &[u8],
+    data: &mut [u8],
+    want: &mut [u8],
+    text: &mut [u8],
+) -> Verdict {
+    let release = part_start(request, 1, b' ');
+    let asked = &request[release..];
+    if !same(field(asked, 0), b"2") {
+        return Verdict::NoRequest;
+    }
+    match kind {
+        b'h' => own_line(asked, true, answer, data, want, text),
+        b'q' => description_line(asked, true, answer, data, want, text),
+        b't' => text_line(b'T', asked, true, answer, data, want, text),
+        b'g' => text_line(b'G', asked, true, answer, data, want, text),
+        _ => Verdict::NoRequest,
+    }
 }
 
 // A line, by its kind. Each kind has a function of its own.
@@ -429,10 +500,10 @@ fn replay_line(line: &[u8], data: &mut [u8], want: &mut [u8], text: &mut [u8]) -
     match kind[0] {
         b'F' => length_line(request, answer),
         b'L' => likely_line(request, answer, data),
-        b'H' => own_line(request, answer, data, want, text),
-        b'Q' => description_line(request, answer, data, want, text),
-        b'T' | b'G' | b'P' => text_line(kind[0], request, answer, data, want, text),
-        _ => Verdict::NoRequest,
+        b'H' => own_line(request, false, answer, data, want, text),
+        b'Q' => description_line(request, false, answer, data, want, text),
+        b'T' | b'G' | b'P' => text_line(kind[0], request, false, answer, data, want, text),
+        _ => counted_line(kind[0], request, answer, data, want, text),
     }
 }
 

@@ -1,4 +1,4 @@
--- The writing loop over columns by value: the texts in the buffer, and the values in their places. Assumes nothing.
+-- The writing loop over columns by value: the texts in the buffer, the values in their places, and how many U+FFFD were put in. Assumes nothing.
 use Prim.Native.Nat.{ℕ, _+_, _-_, _≤_, _<_}
 use mathlib.Core.Path.{_≡_, refl, sym, ap, _∙_}
 use mathlib.Core.List.{List, [], _∷_, _++_}
@@ -10,10 +10,10 @@ use Rattle.types.specs.Places.{maxColumns, filled, blankValue}
 use Rattle.buffer.specs.Buffer.{overwritten}
 use Rattle.buffer.proofs.Writing.{Writing, fits}
 use Rattle.rules.specs.Walk.{columnNeed, Cell, done, walkBody}
-use Rattle.rules.specs.Row.{cellValue, rowValues, rowTexts}
+use Rattle.rules.specs.Row.{cellValue, rowValues, rowTexts, rowReplaced}
 use Rattle.rules.specs.Conversions.{ported}
 use Rattle.rules.proofs.Walks.{piecesOf}
-use Rattle.rules.proofs.Progress.{pieceAt, textIn, Placing, placing-start, placing-step, placing-end, placed-start, placed-step}
+use Rattle.rules.proofs.Progress.{pieceAt, textIn, replacedIn, Placing, placing-start, placing-step, placing-end, placed-start, placed-step}
 
 -- the next unwritten byte is within the buffer
 pub next-within : {T d l out : List ℕ} {o : ℕ} → Writing T d l out o → o ≤ length out
@@ -24,13 +24,13 @@ module _ (cs : List ColumnDescriptor) (start : ℕ) (s : List ℕ) (end : ℕ) (
   abbrev pub pieces : List Cell
   pieces = piecesOf (walkBody cs start s)
 
-  pub record Filling (places : List ValuePlace) (i at next : ℕ) (out : List ℕ) : Type 0 where
+  pub record Filling (places : List ValuePlace) (i at next replaced : ℕ) (out : List ℕ) : Type 0 where
     pub passed : List Cell
-    pub placing : Placing ported cs start s pieces end d passed i at next out
+    pub placing : Placing ported cs start s pieces end d passed i at next replaced out
     pub placed : places ≡ filled blankValue (rowValues ported passed 0)
 
   pub filling-start : start ≤ length s → walkBody cs start s ≡ done pieces end → length (rowTexts ported pieces) ≤ length d
-      → (b : ValuePlace) → b ≡ blankValue → Filling (replicate maxColumns b) 0 start 0 d
+      → (b : ValuePlace) → b ≡ blankValue → Filling (replicate maxColumns b) 0 start 0 0 d
   filling-start h w k b e =
       record {
         passed = [];
@@ -38,20 +38,20 @@ module _ (cs : List ColumnDescriptor) (start : ℕ) (s : List ℕ) (end : ℕ) (
         placed = rw e (placed-start ported);
       }
 
-  pub filling-step : {places : List ValuePlace} {i at next : ℕ} {out : List ℕ} → (f : Filling places i at next out)
+  pub filling-step : {places : List ValuePlace} {i at next replaced : ℕ} {out : List ℕ} → (f : Filling places i at next replaced out)
       → (c : ColumnDescriptor) → drop i cs ≡ c ∷ drop (i + 1) cs → (r : List ℕ) → r ≡ drop at s → i < maxColumns
-      → (v : ValuePlace) → v ≡ cellValue ported (pieceAt c at r) next → (n k : ℕ) → n ≡ columnNeed c r → k ≡ length (textIn ported c r)
+      → (v : ValuePlace) → v ≡ cellValue ported (pieceAt c at r) next → (n k m : ℕ) → n ≡ columnNeed c r → k ≡ length (textIn ported c r) → m ≡ replacedIn ported c r
       → (ys : List ℕ) → ys ≡ overwritten (textIn ported c r) (take (length out - next) (drop next out))
-      → Filling (set places i v) (i + 1) (at + n) (next + k) (take next out ++ (ys ++ drop (length out - next) (drop next out)))
-  filling-step {places} {i} {at} {next} {out} f c e r q h v g n k y z ys w =
+      → Filling (set places i v) (i + 1) (at + n) (next + k) (replaced + m) (take next out ++ (ys ++ drop (length out - next) (drop next out)))
+  filling-step {places} {i} {at} {next} {replaced} {out} f c e r q h v g n k m y z x ys w =
       record {
         passed = f .passed ++ (pieceAt c at r ∷ []);
-        placing = placing-step ported cs start s pieces end d (f .placing) c e r q n k y z ys w;
+        placing = placing-step ported cs start s pieces end d (f .placing) c e r q n k m y z x ys w;
         placed = placed-step ported (f .passed) places (f .placed) i next (f .placing .count) h (f .placing .sum) (pieceAt c at r) v g;
       }
 
-  pub filling-end : {places : List ValuePlace} {i at next : ℕ} {out : List ℕ} → Filling places i at next out → length cs ≤ i
-      → (places ≡ filled blankValue (rowValues ported pieces 0)) × (at ≡ end) × (out ≡ overwritten (rowTexts ported pieces) d)
+  pub filling-end : {places : List ValuePlace} {i at next replaced : ℕ} {out : List ℕ} → Filling places i at next replaced out → length cs ≤ i
+      → (places ≡ filled blankValue (rowValues ported pieces 0)) × (at ≡ end) × (out ≡ overwritten (rowTexts ported pieces) d) × (replaced ≡ rowReplaced ported pieces)
   filling-end f h =
       let e = placing-end ported cs start s pieces end d (f .placing) h in
-      (f .placed ∙ ap (λ (l : List Cell). filled blankValue (rowValues ported l 0)) (sym (e .0)), sym (e .1), e .2)
+      (f .placed ∙ ap (λ (l : List Cell). filled blankValue (rowValues ported l 0)) (sym (e .0)), sym (e .1), e .2, e .3)

@@ -48,6 +48,7 @@ fn refused(r: Refusal) -> RowAnswer
         outcome: Outcome::Refused(r),
         places,
         used: 0,
+        replaced: 0,
     }
 }
 
@@ -126,6 +127,7 @@ fn decode_row_body(data: &[u8], start: usize, columns: Columns, text: &mut [u8])
     let mut places = [blank; MAX_COLUMNS];
     let mut at = start;
     let mut next: usize = 0;
+    let mut replaced: usize = 0;
     let mut k: usize = 0;
     while k < count {
         let column = columns.columns[k];
@@ -134,16 +136,18 @@ fn decode_row_body(data: &[u8], start: usize, columns: Columns, text: &mut [u8])
         places[k] = place;
         at += p.used;
         next += p.written;
+        replaced += p.replaced;
         k += 1;
     }
     RowAnswer {
         outcome: Outcome::Accepted,
         places,
         used: at,
+        replaced,
     }
 }
 
-// The row's values, its external columns and the bytes used.
+// The row's values, its external columns, the bytes used, and how many U+FFFD its texts' conversions put in.
 pub fn decode_row(data: &[u8], columns: Columns, text: &mut [u8]) -> RowAnswer
     ensures answer { λ r. ⌜ toldRow r ≡ rowAnswer columns (now («data» .entry)) (now (text .entry)) ⌝ }
     ensures text { λ _. ⌜ now (text .exit) ≡ rowText columns (now («data» .entry)) (now (text .entry)) ⌝ }

@@ -13,8 +13,8 @@ use Rattle.row_words.specs.declared.RowOutcome.{RowOutcome}
 use Rattle.row_words.specs.declared.RowOutcome.the-variants.{Accepted, TooShort, TextTooShort}
 use Rattle.row_words.specs.Rows.{valuesAfter}
 use Rattle.row_words.specs.Passes.{outline, Says}
-use Rattle.piece.specs.Texts.{textsOf, neededBeyond}
-use Rattle.piece.proofs.Texts.{texts-are, needed-more, needed-fits}
+use Rattle.piece.specs.Texts.{textsOf, replacedOf, neededBeyond}
+use Rattle.piece.proofs.Texts.{texts-are, replaced-are, needed-more, needed-fits}
 use Rattle.row_words.proofs.Outlines.{decided-short, decided-text, decided-accepted}
 
 module _ (cs : List ColumnDescriptor) (s d v : List ℕ) where
@@ -35,8 +35,8 @@ module _ (cs : List ColumnDescriptor) (s d v : List ℕ) where
           let b = needed-more (length d) k (textsOf (walkBody cs start s)) e l in
           rw (← q, decided-text cs start s d n h k (rw (← (b .1)) at (b .0)) (b .1)) (refl, (refl, refl))
 
-      pub told-accepted : (k : ℕ) → k ≡ neededBeyond (length d) (textsOf (walkBody cs start s)) → k ≤ 0 → (m : ℕ) → m ≡ length (textsOf (walkBody cs start s))
-          → (words out : List ℕ) → words ≡ valuesAfter (bodyDecision ported cs start s d) v → out ≡ textAfter ported (bodyDecision ported cs start s d) d → Told (Accepted n m) words out
-      told-accepted k e l m w words out f g =
+      pub told-accepted : (k : ℕ) → k ≡ neededBeyond (length d) (textsOf (walkBody cs start s)) → k ≤ 0 → (m : ℕ) → m ≡ length (textsOf (walkBody cs start s)) → (r : ℕ) → r ≡ replacedOf (walkBody cs start s)
+          → (words out : List ℕ) → words ≡ valuesAfter (bodyDecision ported cs start s d) v → out ≡ textAfter ported (bodyDecision ported cs start s d) d → Told (Accepted n m r) words out
+      told-accepted k e l m w r x words out f g =
           let a = decided-accepted cs start s d n h (needed-fits (length d) k (textsOf (walkBody cs start s)) e l) in
-          rw (← q) ((piecesOf (walkBody cs start s), (a, w ∙ ap length (texts-are (walkBody cs start s)))), (f, g))
+          rw (← q) ((piecesOf (walkBody cs start s), (a, (w ∙ ap length (texts-are (walkBody cs start s)), x ∙ replaced-are (walkBody cs start s)))), (f, g))

@@ -11,7 +11,7 @@ use Rattle.types.specs.declared.ColumnDescriptor.{ColumnDescriptor}
 use Rattle.types.specs.declared.ValuePlace.{ValuePlace}
 use Rattle.types.specs.Names.{namedIn}
 use Rattle.rules.specs.Walk.{Cell, Walk, done, short}
-use Rattle.rules.specs.Row.{anyDecFloat, Decision, refuse, accept, rowTexts}
+use Rattle.rules.specs.Row.{anyDecFloat, Decision, refuse, accept, rowTexts, rowReplaced}
 use Rattle.rules.specs.Conversions.{ported}
 use Rattle.conversion.specs.Conversion.{characterText}
 use Rattle.cell.specs.Cell.{isNumber}
@@ -66,6 +66,7 @@ outline (short expected actual) = Short expected actual
 
 -- what an outcome says of a decision
 abbrev pub Says : RowOutcome → Decision → Type 0
-Says (Accepted used written) d = (ps : List Cell) × ((d ≡ accept ps used) × (written ≡ length (rowTexts ported ps)))
+Says (Accepted used written replaced) d =
+    (ps : List Cell) × ((d ≡ accept ps used) × ((written ≡ length (rowTexts ported ps)) × (replaced ≡ rowReplaced ported ps)))
 Says (TooShort expected actual) d = d ≡ refuse 8 (expected ∷ actual ∷ [])
 Says (TextTooShort needed) d = d ≡ refuse 9 (needed ∷ [])

@@ -5,6 +5,7 @@ mod puts;
 mod tags;
 mod values;
 
+use buffer::Written;
 use needs::need_named;
 use piece::marks::NONE;
 use piece::marks::WORDS;
@@ -30,7 +31,7 @@ ghost use Rattle.words.specs.Reading.{readColumns};
 ghost use Rattle.row_words.specs.Rows.{valuesAfter};
 ghost use Rattle.row_words.specs.Passes.{checkedOf, columnsNamed, outline, Says};
 ghost use Rattle.piece.specs.Marks.{PlainMarks};
-ghost use Rattle.piece.specs.Texts.{textsOf, neededBeyond};
+ghost use Rattle.piece.specs.Texts.{textsOf, replacedOf, neededBeyond};
 
 // What the columns' words say before the row is looked at: whether a column is of type DecFloat, or that some words are no column's.
 pub enum Checked {
@@ -50,17 +51,28 @@ pub struct NumberValue {
     pub used: usize,
 }
 
-// How many bytes of the row a column took, and how many bytes of text were written.
+// How many bytes of the row a column took, how many bytes of text were written, and how many U+FFFD among them were put in.
 pub struct Taken {
     pub used: usize,
     pub written: usize,
+    pub replaced: usize,
 }
 
-// What is decided of a row's body: accepted, with the bytes of the input that are used and the bytes of text that are written; or refused.
+// What is decided of a row's body: accepted, with the bytes of the input that are used, the bytes of text that are written, and how many U+FFFD among
+// them were put in; or refused.
 pub enum RowOutcome {
-    Accepted { used: usize, written: usize },
-    TooShort { expected: usize, actual: usize },
-    TextTooShort { needed: usize },
+    Accepted {
+        used: usize,
+        written: usize,
+        replaced: usize,
+    },
+    TooShort {
+        expected: usize,
+        actual: usize,
+    },
+    TextTooShort {
+        needed: usize,
+    },
 }
 
 // Whether a column was of type DecFloat, or the one of this first word is.
@@ -163,7 +175,7 @@ fn text_needed(
     total
 }
 
-// Writes the values, and their texts one after the other: how many bytes of text they are.
+// Writes the values, and their texts one after the other: how many bytes of text they are, and how many U+FFFD among them were put in.
 fn write_columns(
     columns: &[u64],
     data: &[u8],
@@ -171,7 +183,7 @@ fn write_columns(
     marks: &[u64; WORDS],
     values: &mut [u64],
     text: &mut [u8],
-) -> usize
+) -> Written
     requires start { ⌜ start ≤ length (now «data») ⌝ }
     requires limit { ⌜ length (now «data») ≤ inputLimit ⌝ }
     requires whole { ⌜ ((end : ℕ) × (Walked.Done end ≡ outline (walkBody (columnsNamed (now columns)) start (now «data»)))) ⌝ }
@@ -179,13 +191,15 @@ fn write_columns(
     requires room { ⌜ length (textsOf (walkBody (columnsNamed (now columns)) start (now «data»))) ≤ length (now text) ⌝ }
     requires count { ⌜ length (now columns) / 2 ≤ maxColumns ⌝ }
     requires marks { ⌜ PlainMarks (now marks) (walkBody (columnsNamed (now columns)) start (now «data»)) ⌝ }
-    ensures count { λ r. ⌜ r ≡ length (textsOf (walkBody (columnsNamed (now (columns .entry))) start (now («data» .entry)))) ⌝ }
+    ensures count { λ r. ⌜ r .len ≡ length (textsOf (walkBody (columnsNamed (now (columns .entry))) start (now («data» .entry)))) ⌝ }
     ensures values { λ _. ⌜ now (values .exit) ≡ valuesAfter (bodyDecision ported (columnsNamed (now (columns .entry))) start (now («data» .entry)) (now (text .entry))) (now (values .entry)) ⌝ }
     ensures text { λ _. ⌜ now (text .exit) ≡ textAfter ported (bodyDecision ported (columnsNamed (now (columns .entry))) start (now («data» .entry)) (now (text .entry))) (now (text .entry)) ⌝ }
+    ensures replaced { λ r. ⌜ r .replaced ≡ replacedOf (walkBody (columnsNamed (now (columns .entry))) start (now («data» .entry))) ⌝ }
 {
     let count = columns.len() / 2;
     let mut at = start;
     let mut next: usize = 0;
+    let mut replaced: usize = 0;
     let mut i: usize = 0;
     while i < count {
         let k = 2 * i;
@@ -203,9 +217,13 @@ fn write_columns(
         );
         at += p.used;
         next += p.written;
+        replaced += p.replaced;
         i += 1;
     }
-    next
+    Written {
+        len: next,
+        replaced,
+    }
 }
 
 // The row after the tests of its columns and its length: an FF is skipped, and the body decoded.
@@ -226,8 +244,12 @@ pub fn decode_row(columns: &[u64], data: &[u8], values: &mut [u64], text: &mut [
             if 0 < needed {
                 return RowOutcome::TextTooShort { needed };
             }
-            let written = write_columns(columns, data, start, &marks, values, text);
-            RowOutcome::Accepted { used: end, written }
+            let w = write_columns(columns, data, start, &marks, values, text);
+            RowOutcome::Accepted {
+                used: end,
+                written: w.len,
+                replaced: w.replaced,
+            }
         }
     }
 }

@@ -22,7 +22,7 @@ ghost use Rattle.rules.specs.Walk.{columnNeed};
 ghost use Rattle.rules.specs.Row.{cellValue};
 ghost use Rattle.rules.specs.Conversions.{ported};
 ghost use Rattle.piece.specs.Marks.{markAt};
-ghost use Rattle.piece.specs.Piece.{valueIn, valueText, cellIn, cellText, PlainCell};
+ghost use Rattle.piece.specs.Piece.{valueIn, valueText, valueReplaced, cellIn, cellText, cellReplaced, PlainCell};
 ghost use Rattle.words.specs.Reading.{columnNamed};
 ghost use Rattle.row_words.specs.Passes.{wordsSet, threeSet};
 
@@ -66,6 +66,7 @@ fn put_there(
     ensures count { λ r. ⌜ r .written ≡ length (valueText (columnNamed first second) (now (rest .entry))) ⌝ }
     ensures bytes { λ _. ⌜ now (out .exit) ≡ overwritten (valueText (columnNamed first second) (now (rest .entry))) (now (out .entry)) ⌝ }
     ensures values { λ _. ⌜ now (values .exit) ≡ threeSet (now (values .entry)) place (cellValue ported (valueIn (columnNamed first second) at (now (rest .entry))) next) ⌝ }
+    ensures replaced { λ r. ⌜ r .replaced ≡ valueReplaced (columnNamed first second) (now (rest .entry)) ⌝ }
 {
     if first % 0x100 < 5 {
         let v = decode_number(rest, first);
@@ -81,6 +82,7 @@ fn put_there(
         return Taken {
             used: v.used,
             written: 0,
+            replaced: 0,
         };
     }
     let from = text_start(type_of(first));
@@ -91,6 +93,7 @@ fn put_there(
     Taken {
         used: p.used,
         written: p.written,
+        replaced: p.replaced,
     }
 }
 
@@ -118,6 +121,7 @@ pub fn put_column(
     ensures count { λ r. ⌜ r .written ≡ length (cellText (columnNamed first second) (now (rest .entry))) ⌝ }
     ensures bytes { λ _. ⌜ now (out .exit) ≡ overwritten (cellText (columnNamed first second) (now (rest .entry))) (now (out .entry)) ⌝ }
     ensures values { λ _. ⌜ now (values .exit) ≡ threeSet (now (values .entry)) place (cellValue ported (cellIn (columnNamed first second) at (now (rest .entry))) next) ⌝ }
+    ensures replaced { λ r. ⌜ r .replaced ≡ cellReplaced (columnNamed first second) (now (rest .entry)) ⌝ }
 {
     let nullable = is_nullable(first);
     if is_null(rest, nullable) {
@@ -125,6 +129,7 @@ pub fn put_column(
         return Taken {
             used: 1,
             written: 0,
+            replaced: 0,
         };
     }
     let from = lead(nullable);
@@ -144,5 +149,6 @@ pub fn put_column(
     Taken {
         used,
         written: t.written,
+        replaced: t.replaced,
     }
 }

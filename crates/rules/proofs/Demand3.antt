@@ -73,6 +73,7 @@ module _ (L : Conversions) where
             (take-at ts (drop (length ts) y) (length ts) refl ∙ sym (take-at ts (drop (length ts) x) (length ts) refl))
             (omega (arith, length-append ts (drop (length ts) x)));
         used = refl;
+        replaced = refl;
       }
 
 module _ (L : Conversions) (columns : Columns) where

@@ -14,6 +14,7 @@ use Rattle.types.specs.declared.ReferenceLength.the-variants.{Absent, Width}
 use Rattle.types.specs.declared.ColumnDescriptor.{ColumnDescriptor}
 use Rattle.types.specs.Names.{bit8000, low15, namedIn}
 use Rattle.numbers.specs.Number.{Number}
+use Rattle.buffer.specs.Buffer.{Converted, unreplaced}
 use Rattle.rules.specs.Extent.{isReference, isShortReference}
 use Rattle.rules.specs.Meaning.{ByteSort, TextSort, Item, nothing, numeric, boolean, part, text, Conversions, Lob, blobs, clobs, xmls, allZero, isEmptyReference, headerBytes, isEmptyHeader, headerItem, lobEmpty, lobReference, lobInline, lobItem, varyingItem, lobBytesItem, lobCharItem, typeItem}
 use Rattle.rules.specs.Sorts.{Sort, sortsOf, Among}
@@ -82,9 +83,9 @@ module _ (L : Conversions) (ks : List Sort) (s : List ℕ) (N : Number → Type 
 
   of-header : Among ks Sort.clob → Item-of ks (length s) N Z (headerItem L s)
   unfolding headerItem
-  of-header m = either Of (isEmptyHeader (headerBytes s)) (text TextSort.clob []) (text TextSort.clob (L .locator (headerBytes s))) m m
+  of-header m = either Of (isEmptyHeader (headerBytes s)) (text TextSort.clob (unreplaced [])) (text TextSort.clob (L .locator (headerBytes s))) m m
 
-  of-varying : (n : ℕ) (t : List ℕ) → Among ks Sort.clob → Among ks Sort.varChar → Item-of ks (length s) N Z (varyingItem L n t s)
+  of-varying : (n : ℕ) (t : Converted) → Among ks Sort.clob → Among ks Sort.varChar → Item-of ks (length s) N Z (varyingItem L n t s)
   unfolding varyingItem
   of-varying n t m v = either Of (bit8000 n) (headerItem L s) (text TextSort.varChar t) (of-header m) v
 

@@ -4,6 +4,7 @@ pub mod Walks
 pub mod Progress
 pub mod Rows
 pub mod Items
+pub mod ItemTexts
 pub mod Answers
 pub mod Demand3
 pub mod Accepted
@@ -13,3 +14,5 @@ pub mod Utf8Texts
 pub mod FixedLengths
 pub mod Shown
 pub mod ShortColumn
+pub mod Replaced
+pub mod ReplacedShown

@@ -3,7 +3,7 @@
 --     Walking     going through the columns for the first time: does each have its bytes?
 --     Going       going through them again, where the walk is done
 --     Measuring   going again, adding the lengths of the texts
---     Placing     going again, writing the texts into a buffer one after the other
+--     Placing     going again, writing the texts into a buffer one after the other, and adding how many U+FFFD were put in
 -- Each has a law for its start, for a turn and for its end. A turn is given the column c, by `drop i cs ≡ c ∷ drop (i + 1) cs`, and the rest of the row r, by
 -- `r ≡ drop at s`; column-at, covered-at and rest-is give these two. Assumes nothing.
 use Prim.Native.Nat.{ℕ, zero, suc, _+_, _-_, _≤_, _<_}
@@ -25,7 +25,7 @@ use Rattle.buffer.proofs.Writing as writing
 use Rattle.rules.specs.Extent.{extentOf}
 use Rattle.rules.specs.Meaning.{Conversions}
 use Rattle.rules.specs.Walk.{columnNeed, Cell, absent, present, cellOf, Walk, done, short, consCell, cellShort, walk, walkBody}
-use Rattle.rules.specs.Row.{itemText, cellItem, cellValue, rowValues, rowTexts, anyDecFloat}
+use Rattle.rules.specs.Row.{itemText, itemReplaced, cellItem, cellValue, rowValues, rowTexts, rowReplaced, anyDecFloat}
 use Rattle.rules.proofs.Walks.{isDone, usedOf, piecesOf, walk-step, walk-first, walk-used}
 
 -- ---- what a turn is given
@@ -220,6 +220,15 @@ module _ (L : Conversions) where
   unfolding rowTexts
   texts-next qs c at r = rw (text-anywhere c at r)
 
+  -- how many U+FFFD were put into the text of the column c in the rest r
+  abbrev pub replacedIn : ColumnDescriptor → List ℕ → ℕ
+  replacedIn c r = itemReplaced (cellItem L (pieceAt c 0 r))
+
+  replaced-more : (ps : List Cell) (c : ColumnDescriptor) (at : ℕ) (r : List ℕ) → rowReplaced L (ps ++ (pieceAt c at r ∷ [])) ≡ rowReplaced L ps + replacedIn c r
+  unfolding rowReplaced
+  replaced-more [] c at r = let z = ap itemReplaced (item-anywhere (c .nullable) c at 0 (take (columnNeed c r) r)) in omega (arith, z)
+  replaced-more (p ∷ ps) c at r = omega (arith, replaced-more ps c at r)
+
   values-more : (ps : List Cell) (p : Cell) (next : ℕ) → rowValues L (ps ++ (p ∷ [])) next ≡ rowValues L ps next ++ (cellValue L p (next + length (rowTexts L ps)) ∷ [])
   unfolding rowValues rowTexts
   values-more [] p next = let z : next + 0 ≡ next = omega arith in rw z
@@ -277,17 +286,18 @@ module _ (L : Conversions) where
     -- ---- writing: d is the buffer as it was, out as it is now, and its next unwritten byte is at `next`
 
     module _ (d : List ℕ) where
-      pub record Placing (passed : List Cell) (i at next : ℕ) (out : List ℕ) : Type 0 where
+      pub record Placing (passed : List Cell) (i at next replaced : ℕ) (out : List ℕ) : Type 0 where
         pub going : Going cs start s ps end i at passed
         pub sum : next ≡ length (rowTexts L passed)
+        pub counted : replaced ≡ rowReplaced L passed
         pub count : length passed ≡ i
         pub texts : writing.Writing (rowTexts L ps) d (rowTexts L (going .ahead)) out next
 
-      pub placing-start : start ≤ length s → walkBody cs start s ≡ done ps end → length (rowTexts L ps) ≤ length d → Placing [] 0 start 0 d
-      unfolding rowTexts going-start
-      placing-start h w k = record { going = going-start cs start s ps end h w; sum = refl; count = refl; texts = writing.start (rowTexts L ps) d k }
+      pub placing-start : start ≤ length s → walkBody cs start s ≡ done ps end → length (rowTexts L ps) ≤ length d → Placing [] 0 start 0 0 d
+      unfolding rowTexts rowReplaced going-start
+      placing-start h w k = record { going = going-start cs start s ps end h w; sum = refl; counted = refl; count = refl; texts = writing.start (rowTexts L ps) d k }
 
-      module _ {passed : List Cell} {i at next : ℕ} {out : List ℕ} (p : Placing passed i at next out) (c : ColumnDescriptor) (e : drop i cs ≡ c ∷ drop (i + 1) cs) (r : List ℕ) (q : r ≡ drop at s) where
+      module _ {passed : List Cell} {i at next replaced : ℕ} {out : List ℕ} (p : Placing passed i at next replaced out) (c : ColumnDescriptor) (e : drop i cs ≡ c ∷ drop (i + 1) cs) (r : List ℕ) (q : r ≡ drop at s) where
         pub placing-there : columnNeed c r ≤ length r
         placing-there = going-there cs start s ps end (p .going) c e r q
 
@@ -306,23 +316,24 @@ module _ (L : Conversions) where
             omega (arith, writing.as-long (p .texts), writing.fits (p .texts), ap length left-is, length-append (textIn c r) (rowTexts L behind))
 
         -- ys is what the writer left in what was lent
-        pub placing-step : (n k : ℕ) → n ≡ columnNeed c r → k ≡ length (textIn c r) → (ys : List ℕ) → ys ≡ overwritten (textIn c r) (take (length out - next) (drop next out))
-            → Placing (passed ++ (pieceAt c at r ∷ [])) (i + 1) (at + n) (next + k) (take next out ++ (ys ++ drop (length out - next) (drop next out)))
+        pub placing-step : (n k m : ℕ) → n ≡ columnNeed c r → k ≡ length (textIn c r) → m ≡ replacedIn c r → (ys : List ℕ) → ys ≡ overwritten (textIn c r) (take (length out - next) (drop next out))
+            → Placing (passed ++ (pieceAt c at r ∷ [])) (i + 1) (at + n) (next + k) (replaced + m) (take next out ++ (ys ++ drop (length out - next) (drop next out)))
         unfolding going-step walk
-        placing-step n k y z ys w =
+        placing-step n k m y z f ys w =
             record {
               going = going-step cs start s ps end (p .going) c e r q n y;
               sum = omega (arith, p .sum, ap length (texts-more passed c at r), length-append (rowTexts L passed) (textIn c r));
+              counted = omega (arith, p .counted, f, replaced-more passed c at r);
               count = length-append passed (pieceAt c at r ∷ []) ∙ ap (λ (j : ℕ). j + 1) (p .count);
               texts = writing.wrote-rest (p .texts) (textIn c r) (rowTexts L behind) left-is ys w k z;
             }
 
-      pub placing-end : {passed : List Cell} {i at next : ℕ} {out : List ℕ} → Placing passed i at next out → length cs ≤ i
-          → (ps ≡ passed) × (end ≡ at) × (out ≡ overwritten (rowTexts L ps) d)
+      pub placing-end : {passed : List Cell} {i at next replaced : ℕ} {out : List ℕ} → Placing passed i at next replaced out → length cs ≤ i
+          → (ps ≡ passed) × (end ≡ at) × (out ≡ overwritten (rowTexts L ps) d) × (replaced ≡ rowReplaced L ps)
       unfolding rowTexts
       placing-end p h =
           let g = going-end cs start s ps end (p .going) h in
-          (g .0, g .2, writing.end (p .texts) (ap (rowTexts L) (g .1)))
+          (g .0, g .2, writing.end (p .texts) (ap (rowTexts L) (g .1)), p .counted ∙ ap (rowReplaced L) (sym (g .0)))
 
 -- ---- values in their places
 

@@ -96,7 +96,7 @@ item-shown nothing at s b a z h i = refl
 item-shown (numeric x) at s b a z h i = rw (number-held x .1)
 item-shown (boolean t) at s b a z h i = refl
 item-shown (part k from n) at s b a z h i = rw part-held (part-shown s b at from n h i)
-item-shown (text k t) at s b a z h i = rw text-held (text-there a t z)
+item-shown (text k t) at s b a z h i = rw text-held (text-there a (t .textBytes) z)
 
 module _ (L : Conversions) (s : List ℕ) where
   piece-shown : (p : Cell) → Stands s p → (a z : List ℕ) → valueBytes (cellValue L p (length a) .value) s (a ++ (itemText (cellItem L p) ++ z)) ≡ cellShown L p

@@ -1,10 +1,10 @@
 -- Every text of a row is well-formed UTF-8 (D86 of the Unicode Standard; the rules' T1), whatever its column and its bytes. Assumes nothing.
-use Prim.Native.Nat.{ℕ, zero, suc, _+_, _-_, _/_, _%_, _<_, _≤_}
-use mathlib.Core.Bool.{Bool, true, false, cond, _||_}
+use Prim.Native.Nat.{ℕ, zero, suc, _+_, _-_, _<_}
+use mathlib.Core.Bool.{Bool, true, false, cond}
 use mathlib.Core.List.{List, [], _∷_, _++_, map, append-assoc}
-use mathlib.Core.Path.{_≡_, refl, sym, ap, subst, _∙_}
+use mathlib.Core.Path.{_≡_, refl, sym, ap, subst}
 use native.Mathlib.Omega.{arith}
-use lib.Dec.{eqb, ltb, leb}
+use lib.Dec.{eqb, ltb}
 use lib.ListN.{length, getD, take, drop, replicate, length-append}
 use lib.Seq.{take-at, drop-at}
 use borrow.Author.Tests.{lt-ltb, le-leb}
@@ -15,25 +15,21 @@ use Rattle.unicode.proofs.Ranges.{both}
 use Rattle.unicode.proofs.Bytes.{bytes-drop, bytes-take}
 use Rattle.unicode.proofs.Laws.{texts}
 use Rattle.conversion.proofs.Utf8Texts.{ascii-well-formed, ascii-append, characters-well-formed, graphics-well-formed, locator-well-formed, row-id-well-formed}
-use Rattle.packed.specs.Packed.{nibbles, signNibble, signText, digitNibbles, character, digitText, trimmed, whole, zeros, fraction, decimalText}
+use Rattle.packed.specs.Packed.{nibbles, signNibble, signText, character, digitText, trimmed, whole, zeros, fraction, decimalText}
 use Rattle.types.specs.declared.Db2Type.{Db2Type}
-use Rattle.types.specs.declared.Db2Type.the-variants as type
-use Rattle.types.specs.declared.ReferenceLength.{ReferenceLength}
-use Rattle.types.specs.declared.ReferenceLength.the-variants.{Absent, Width}
 use Rattle.types.specs.declared.ColumnDescriptor.{ColumnDescriptor}
 use Rattle.types.specs.declared.ValuePlace.{ValuePlace}
 use Rattle.types.specs.Places.{maxColumns, filled, blankValue}
 use Rattle.types.specs.Held.{held}
-use Rattle.buffer.specs.Buffer.{overwritten}
-use Rattle.types.specs.Names.{bit8000, low15}
-use Rattle.rules.specs.Extent.{isReference, isShortReference, saysHeader}
-use Rattle.rules.specs.Meaning.{Item, nothing, numeric, boolean, part, text, Lob, blobs, clobs, xmls, clob, varChar, blob, allZero, isEmptyReference, headerBytes, isEmptyHeader, lobEmpty, headerItem, lobReference, lobInline, lobItem, varyingItem, lobBytesItem, lobCharItem, typeItem, itemIn}
+use Rattle.buffer.specs.Buffer.{Converted, overwritten}
+use Rattle.rules.specs.Meaning.{Item, nothing, numeric, boolean, part, text, itemIn}
 use Rattle.rules.specs.Walk.{columnNeed, Cell, absent, present, cellOf, Walk, done, short, consCell, walk, walkBody, walkRow, skipOf}
 use Rattle.rules.specs.Value.{bytesAt}
 use Rattle.rules.specs.Row.{place, valueOf, itemText, cellItem, cellValue, rowValues, rowTexts, covered, answerOf, textAfter}
 use Rattle.rules.specs.Conversions.{ported, rowAnswer, rowText}
 use Rattle.rules.specs.Accepted.{HoldsUtf8, TextsUtf8}
 use Rattle.rules.proofs.Walks.{isDone, piecesOf, walk-step, walk-first, walk-rest}
+use Rattle.rules.proofs.ItemTexts.{TextOf, Texts, item-text}
 use Rattle.rules.proofs.Answers.{number-held, part-held, text-held}
 use Rattle.rules.proofs.Demand3.{facts}
 
@@ -109,111 +105,41 @@ decimal-well-formed scale s h =
 
 -- ---- the texts of items
 
--- an item's text is well-formed
-abbrev pub Fine : Item → Type 0
-Fine nothing = Unit {0}
-Fine (numeric x) = Unit {0}
-Fine (boolean b) = Unit {0}
-Fine (part k from n) = Unit {0}
-Fine (text k t) = WellFormed utf8 t
+abbrev pub Fine : Converted → Type 0
+Fine t = WellFormed utf8 (t .textBytes)
 
-picked : (b : Bool) (x y : Item) → Fine x → Fine y → Fine (cond b x y)
-picked true x y f g = f
-picked false x y f g = g
-
-nothing-written : WellFormed utf8 []
+pub nothing-written : WellFormed utf8 []
 unfolding allAscii
 nothing-written = ascii-well-formed [] refl
 
 module _ (s : List ℕ) (h : AreBytes s) where
-  empty-fine : (k : Lob) → Fine (lobEmpty k)
-  unfolding lobEmpty
-  empty-fine blobs = tt
-  empty-fine clobs = nothing-written
-  empty-fine xmls = nothing-written
+  inline-fine : (n : ℕ) → Fine (ported .inlineText (drop n s))
+  inline-fine n = texts .utf8-text (drop n s) (bytes-drop n s h)
 
-  reference-fine : (k : Lob) → Fine (lobReference ported k s)
-  unfolding lobReference
-  reference-fine blobs = tt
-  reference-fine clobs = locator-well-formed s h
-  reference-fine xmls = locator-well-formed s h
-
-  inline-fine : (k : Lob) → Fine (lobInline ported k s)
-  unfolding lobInline
-  inline-fine blobs = tt
-  inline-fine clobs = texts .utf8-text (drop 4 s) (bytes-drop 4 s h)
-  inline-fine xmls = texts .utf8-text (drop 4 s) (bytes-drop 4 s h)
-
-  lob-fine : (r : ReferenceLength) (located : Bool) (k : Lob) → Fine (lobItem ported r located k s)
-  unfolding lobItem
-  lob-fine (Width w) located k = picked (allZero s || isEmptyReference s) _ _ (empty-fine k) (reference-fine k)
-  lob-fine Absent located k =
-      picked (isReference s) _ _ (picked (allZero (drop 1 s)) _ _ (empty-fine k) (reference-fine k)) (picked located _ _ (reference-fine k) (inline-fine k))
-
-  header-bytes : AreBytes (headerBytes s)
-  header-bytes = go (saysHeader s)
-    where
-      go : (x : Bool) → AreBytes (cond x (drop 2 s) s)
-      go true = bytes-drop 2 s h
-      go false = h
-
-  varying-fine : (n : ℕ) (t : List ℕ) → WellFormed utf8 t → Fine (varyingItem ported n t s)
-  unfolding varyingItem headerItem
-  varying-fine n t w =
-      picked (bit8000 n) _ _ (picked (isEmptyHeader (headerBytes s)) _ _ nothing-written (locator-well-formed (headerBytes s) header-bytes)) w
-
-  lob-bytes-fine : (n ccsid : ℕ) → Fine (lobBytesItem ported n ccsid s)
-  unfolding lobBytesItem
-  lob-bytes-fine n ccsid = picked (isShortReference n s) _ _ tt (picked (ported .isLikely s) _ _ (characters-well-formed s h ccsid) tt)
-
-  lob-char-fine : (n ccsid : ℕ) → Fine (lobCharItem ported n ccsid s)
-  unfolding lobCharItem
-  lob-char-fine n ccsid = picked (isShortReference n s) _ _ (locator-well-formed s h) (characters-well-formed s h ccsid)
-
-  type-fine : (t : Db2Type) (c : ColumnDescriptor) → Fine (typeItem ported t c s)
-  type-fine type.SmallInt c = tt
-  type-fine type.Integer c = tt
-  type-fine type.BigInt c = tt
-  type-fine type.Real c = tt
-  type-fine type.Double c = tt
-  type-fine (type.Decimal precision scale) c = decimal-well-formed scale s h
-  type-fine (type.DecFloat digits) c = tt
-  type-fine (type.Char n) c = characters-well-formed s h (c .ccsid)
-  type-fine (type.VarChar n) c = varying-fine n _ (characters-well-formed (drop 2 s) (bytes-drop 2 s h) (c .ccsid))
-  type-fine type.LongVarChar c = characters-well-formed (drop 2 s) (bytes-drop 2 s h) (c .ccsid)
-  type-fine type.Clob c = lob-fine (c .«extdta_reference_length») (eqb (c .length) 0) clobs
-  type-fine (type.Binary n) c = tt
-  type-fine (type.VarBinary n) c = tt
-  type-fine type.Blob c = lob-fine (c .«extdta_reference_length») (eqb (c .length) 0) blobs
-  type-fine type.BlobLocator c = reference-fine blobs
-  type-fine type.Date c = characters-well-formed s h (c .ccsid)
-  type-fine type.Time c = characters-well-formed s h (c .ccsid)
-  type-fine type.Timestamp c = characters-well-formed s h (c .ccsid)
-  type-fine (type.Graphic n) c = graphics-well-formed s h (c .ccsid)
-  type-fine (type.VarGraphic n) c = varying-fine n _ (graphics-well-formed (drop 2 s) (bytes-drop 2 s h) (c .ccsid))
-  type-fine type.DbClob c = lob-fine (c .«extdta_reference_length») (eqb (c .length) 0) clobs
-  type-fine type.ClobLocator c = reference-fine clobs
-  type-fine type.DbClobLocator c = reference-fine clobs
-  type-fine (type.LobBytes n) c = lob-bytes-fine (low15 n) (c .ccsid)
-  type-fine (type.LobChar n) c = lob-char-fine (low15 n) (c .ccsid)
-  type-fine (type.RowId n) c = row-id-well-formed s h
-  type-fine type.Boolean c = tt
-  type-fine type.Xml c = lob-fine (c .«extdta_reference_length») false xmls
-  type-fine type.Null c = tt
+  pub all-fine : (t : Db2Type) → Texts ported t s Fine
+  all-fine t =
+      record {
+        ofNone = nothing-written;
+        ofPacked = λ precision scale e. decimal-well-formed scale s h;
+        ofCharacters = λ ccsid n. characters-well-formed (drop n s) (bytes-drop n s h) ccsid;
+        ofGraphics = λ ccsid n. graphics-well-formed (drop n s) (bytes-drop n s h) ccsid;
+        ofInline = inline-fine;
+        ofLocator = λ n. locator-well-formed (drop n s) (bytes-drop n s h);
+        ofRowId = row-id-well-formed s h;
+      }
 
   -- the text of a column's value is well-formed, whatever its bytes
-  pub item-well-formed : (c : ColumnDescriptor) → Fine (itemIn ported c s)
-  unfolding itemIn
-  item-well-formed c = type-fine (c .«db2_type») c
+  pub item-well-formed : (c : ColumnDescriptor) → TextOf Fine (itemIn ported c s)
+  item-well-formed c = item-text ported Fine c s (all-fine (c .«db2_type»))
 
 -- ---- the texts of a row
 
 -- the bytes of a piece are bytes of the row
-abbrev PieceBytes : Cell → Type 0
+abbrev pub PieceBytes : Cell → Type 0
 PieceBytes absent = Unit {0}
 PieceBytes (present c at s) = AreBytes s
 
-abbrev AllBytes : List Cell → Type 0
+abbrev pub AllBytes : List Cell → Type 0
 AllBytes [] = Unit {0}
 AllBytes (p ∷ ps) = PieceBytes p × AllBytes ps
 
@@ -232,7 +158,7 @@ unfolding consCell
 cons-bytes p (done ps k) h hs = (h, hs)
 cons-bytes p (short e a) h hs = tt
 
-walk-bytes : (start : ℕ) (cs : List ColumnDescriptor) (at : ℕ) (s : List ℕ) → AreBytes s → isDone (walk start cs at s) ≡ true → AllBytes (piecesOf (walk start cs at s))
+pub walk-bytes : (start : ℕ) (cs : List ColumnDescriptor) (at : ℕ) (s : List ℕ) → AreBytes s → isDone (walk start cs at s) ≡ true → AllBytes (piecesOf (walk start cs at s))
 unfolding walk
 walk-bytes start [] at s h d = tt
 walk-bytes start (c ∷ cs) at s h d =
@@ -248,13 +174,13 @@ text-there a t b =
     rw (le-leb (length a + length t) (length (a ++ (t ++ b))) (omega (arith, length-append a (t ++ b), length-append t b)), drop-at a (t ++ b) (length a) refl)
     (take-at t b (length t) refl)
 
-item-utf8 : (x : Item) (at : ℕ) (a b : List ℕ) → Fine x → HoldsUtf8 (held (valueOf x at (length a))) (a ++ (itemText x ++ b))
+item-utf8 : (x : Item) (at : ℕ) (a b : List ℕ) → TextOf Fine x → HoldsUtf8 (held (valueOf x at (length a))) (a ++ (itemText x ++ b))
 unfolding valueOf itemText
 item-utf8 nothing at a b f = tt
 item-utf8 (numeric x) at a b f = rw (number-held x .1) tt
 item-utf8 (boolean x) at a b f = tt
 item-utf8 (part k from l) at a b f = rw part-held tt
-item-utf8 (text k t) at a b f = rw (text-held, text-there a t b) f
+item-utf8 (text k t) at a b f = rw (text-held, text-there a (t .textBytes) b) f
 
 piece-utf8 : (p : Cell) → PieceBytes p → (a b : List ℕ) → HoldsUtf8 (held (cellValue ported p (length a) .value)) (a ++ (itemText (cellItem ported p) ++ b))
 unfolding cellItem cellValue blankValue

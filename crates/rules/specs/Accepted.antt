@@ -1,15 +1,15 @@
--- What holds of every answer, and of every accepted one: T1, W8, W10, H1, H5. Statements about a row call, given as in specs/Demand3.antt. Assumes nothing.
+-- What holds of every answer, and of every accepted one: T1, W8, W10, H1, H5, N4c. Statements about a row call, given as in specs/Demand3.antt. Assumes nothing.
 use Prim.Native.Nat.{ℕ, _+_, _≤_, _<_}
 use mathlib.Core.Path.{_≡_}
 use mathlib.Core.List.{List}
-use lib.ListN.{length, getD}
+use lib.ListN.{length, getD, take}
 use Rattle.refusal.specs.Refusal.{accepted}
-use Rattle.unicode.specs.Unicode.{utf8}
-use Rattle.unicode.specs.Laws.{WellFormed, AreBytes}
+use Rattle.unicode.specs.Unicode.{utf8, utf8Pieces}
+use Rattle.unicode.specs.Laws.{WellFormed, AreBytes, replacementCharacters}
 use Rattle.types.specs.declared.Columns.{Columns}
 use Rattle.types.specs.Places.{maxColumns, blankColumn, blankValue, covered}
 use Rattle.types.specs.Held.{Held, bits, inRow, inText, held}
-use Rattle.rules.specs.Value.{bytesAt}
+use Rattle.rules.specs.Value.{bytesAt, textsTogether}
 use Rattle.rules.specs.Row.{RowTold}
 use Rattle.rules.specs.Sorts.{Allows}
 
@@ -37,6 +37,16 @@ module _ (answer : Columns → List ℕ → List ℕ → RowTold) (after : Colum
   -- the bytes used are bytes of the input (of a refusal: none, by refusedRow)
   abbrev pub UsedFits : Type 0
   UsedFits = (columns : Columns) (s d : List ℕ) → answer columns s d .used ≤ length s
+
+  -- no more U+FFFD are put in than bytes are used
+  abbrev pub ReplacedFits : Type 0
+  ReplacedFits = (columns : Columns) (s d : List ℕ) → answer columns s d .replaced ≤ answer columns s d .used
+
+  -- and the texts of an accepted answer to a row of bytes show each: they have at least as many
+  abbrev pub ReplacedShown : Type 0
+  ReplacedShown =
+      (columns : Columns) (s d : List ℕ) → AreBytes s → answer columns s d .outcome ≡ accepted
+      → answer columns s d .replaced ≤ replacementCharacters (utf8Pieces (take (textsTogether (answer columns s d .places)) (after columns s d)))
 
   -- in an accepted answer every place fits
   abbrev pub PlacesFit : Type 0

@@ -19,6 +19,7 @@ pub record SameAnswer (a : RowTold) (s d : List ℕ) (b : RowTold) (t e : List �
   pub places : a .places ≡ b .places
   pub bytes : (i : ℕ) → valueBytes (getD (a .places) i blankValue .value) s d ≡ valueBytes (getD (b .places) i blankValue .value) t e
   pub used : a .used ≡ b .used
+  pub replaced : a .replaced ≡ b .replaced
 
 -- term: D3
 abbrev pub LargeEnough : RowTold → List ℕ → Type 0

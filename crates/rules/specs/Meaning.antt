@@ -15,6 +15,7 @@ use Rattle.types.specs.declared.ReferenceLength.the-variants.{Absent, Width}
 use Rattle.types.specs.declared.ColumnDescriptor.{ColumnDescriptor}
 use Rattle.types.specs.Names.{ownNumbers, bit8000, low15, namedIn, isAbsent}
 use Rattle.numbers.specs.Number.{Number}
+use Rattle.buffer.specs.Buffer.{Converted, unreplaced}
 use Rattle.rules.specs.Extent.{isReference, isShortReference, saysHeader}
 
 -- the sorts of value that are a part of the row, and those that are a text
@@ -31,10 +32,10 @@ pub data Item : Type 0 where
   boolean : Bool → Item
   -- a part of the value's own bytes: where it begins among them, and its length
   part : ByteSort → ℕ → ℕ → Item
-  -- a text, by its UTF-8 bytes
-  text : TextSort → List ℕ → Item
+  -- a text, and how many U+FFFD were put in
+  text : TextSort → Converted → Item
 
--- the conversions of single values
+-- the conversions of single values; of a text with the number of U+FFFD put in
 pub record Conversions : Type 0 where
   -- by the column's byte order
   pub readSmallInt : ByteOrder → List ℕ → Number
@@ -43,15 +44,15 @@ pub record Conversions : Type 0 where
   pub readReal : ByteOrder → List ℕ → Number
   pub readDouble : ByteOrder → List ℕ → Number
   -- by the type's scale
-  pub packed : ℕ → List ℕ → List ℕ
+  pub packed : ℕ → List ℕ → Converted
   -- by the column's CCSID
-  pub characters : ℕ → List ℕ → List ℕ
-  pub graphics : ℕ → List ℕ → List ℕ
+  pub characters : ℕ → List ℕ → Converted
+  pub graphics : ℕ → List ℕ → Converted
   -- the text of a LOB within the row; whether bytes are likely text; the texts of a locator and of a row id
-  pub inlineText : List ℕ → List ℕ
+  pub inlineText : List ℕ → Converted
   pub isLikely : List ℕ → Bool
-  pub locator : List ℕ → List ℕ
-  pub rowIdentifier : List ℕ → List ℕ
+  pub locator : List ℕ → Converted
+  pub rowIdentifier : List ℕ → Converted
 
 unfoldable pub allZero : List ℕ → Bool
 allZero [] = true
@@ -64,8 +65,8 @@ pub data Lob : Type 0 where
 -- the Rust: empty_lob_value
 unfoldable pub lobEmpty : Lob → Item
 lobEmpty blobs = part blob 0 0
-lobEmpty clobs = text clob []
-lobEmpty xmls = text xml []
+lobEmpty clobs = text clob (unreplaced [])
+lobEmpty xmls = text xml (unreplaced [])
 
 -- a reference is empty where it begins with 02 and all its other bytes are zero
 abbrev pub isEmptyReference : List ℕ → Bool
@@ -81,7 +82,7 @@ isEmptyHeader h = isReference h && allZero (take 8 (drop 1 h))
 
 module _ (L : Conversions) where
   abbrev pub headerIn : List ℕ → Item
-  headerIn h = cond (isEmptyHeader h) (text clob []) (text clob (L .locator h))
+  headerIn h = cond (isEmptyHeader h) (text clob (unreplaced [])) (text clob (L .locator h))
 
   unfoldable pub headerItem : List ℕ → Item
   headerItem s = headerIn (headerBytes s)
@@ -111,7 +112,7 @@ module _ (L : Conversions) where
   lobItem (Width w) located k s = declaredLob k s
   lobItem Absent located k s = undeclaredLob located k s
 
-  unfoldable pub varyingItem : ℕ → List ℕ → List ℕ → Item
+  unfoldable pub varyingItem : ℕ → Converted → List ℕ → Item
   varyingItem n converted s = cond (bit8000 n) (headerItem s) (text varChar converted)
 
   -- LobBytes: a reference in hexadecimal is a Blob; else likely text is a VarChar, and other bytes are a Blob
@@ -180,7 +181,7 @@ isEmptyLob nothing = false
 isEmptyLob (numeric x) = false
 isEmptyLob (boolean b) = false
 isEmptyLob (part k from len) = isLobPart k && eqb len 0
-isEmptyLob (text k t) = isLobText k && eqb (length t) 0
+isEmptyLob (text k t) = isLobText k && eqb (length (t .textBytes)) 0
 
 abbrev pub typeRefers : Db2Type → ColumnDescriptor → List ℕ → Bool
 typeRefers t c s =

@@ -23,9 +23,10 @@ pub record RowTold : Type 0 where
   pub outcome : Told
   pub places : List ValuePlace
   pub used : ℕ
+  pub replaced : ℕ
 
 abbrev pub toldRow : RowAnswer → RowTold
-toldRow a = record { outcome = told (a .outcome); places = a .places; used = a .used }
+toldRow a = record { outcome = told (a .outcome); places = a .places; used = a .used; replaced = a .replaced }
 
 -- ---- values with their places
 
@@ -57,14 +58,22 @@ valueOf nothing at next = Db2Value.Null
 valueOf (numeric x) at next = numberValue x
 valueOf (boolean b) at next = Db2Value.Boolean b
 valueOf (part k from n) at next = partValue k (place (startOf n (at + from)) n)
-valueOf (text k t) at next = textValue k (place next (length t))
+valueOf (text k t) at next = textValue k (place next (length (t .textBytes)))
 
 unfoldable pub itemText : Item → List ℕ
 itemText nothing = []
 itemText (numeric x) = []
 itemText (boolean b) = []
 itemText (part k from n) = []
-itemText (text k t) = t
+itemText (text k t) = t .textBytes
+
+-- N4c: how many U+FFFD were put in
+unfoldable pub itemReplaced : Item → ℕ
+itemReplaced nothing = 0
+itemReplaced (numeric x) = 0
+itemReplaced (boolean b) = 0
+itemReplaced (part k from n) = 0
+itemReplaced (text k t) = t .replaced
 
 module _ (L : Conversions) where
   unfoldable pub cellItem : Cell → Item
@@ -84,6 +93,11 @@ module _ (L : Conversions) where
   unfoldable pub rowTexts : List Cell → List ℕ
   rowTexts [] = []
   rowTexts (p ∷ ps) = itemText (cellItem p) ++ rowTexts ps
+
+  -- N4c: the sum over the texts
+  unfoldable pub rowReplaced : List Cell → ℕ
+  rowReplaced [] = 0
+  rowReplaced (p ∷ ps) = itemReplaced (cellItem p) + rowReplaced ps
 
 -- ---- what is decided before anything is written
 
@@ -118,12 +132,12 @@ module _ (L : Conversions) where
 
 -- H5, H7
 abbrev pub refusedRow : ℕ → List ℕ → RowTold
-refusedRow n vs = record { outcome = refused n vs; places = filled blankValue []; used = 0 }
+refusedRow n vs = record { outcome = refused n vs; places = filled blankValue []; used = 0; replaced = 0 }
 
 module _ (L : Conversions) where
   unfoldable pub answerOf : Decision → RowTold
   answerOf (refuse n vs) = refusedRow n vs
-  answerOf (accept ps n) = record { outcome = accepted; places = filled blankValue (rowValues L ps 0); used = n }
+  answerOf (accept ps n) = record { outcome = accepted; places = filled blankValue (rowValues L ps 0); used = n; replaced = rowReplaced L ps }
 
   -- H1, H7
   unfoldable pub textAfter : Decision → List ℕ → List ℕ

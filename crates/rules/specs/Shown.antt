@@ -17,7 +17,7 @@ shownOf nothing b = []
 shownOf (numeric x) b = []
 shownOf (boolean t) b = []
 shownOf (part k from n) b = take n (drop from b)
-shownOf (text k t) b = t
+shownOf (text k t) b = t .textBytes
 
 -- and of what the walk finds for a column
 abbrev pub cellShown : Conversions → Cell → List ℕ

@@ -44,6 +44,26 @@ fn show_description(d: Description) {
     }
 }
 
+// Says on standard error how many characters were replaced, if any were. The table and its last line are the same with it.
+fn warn(replaced: usize) {
+    if replaced == 0 {
+        return;
+    }
+    io::write_all(libc::STDERR_FILENO, b"show_row: warning: ");
+    io::print_decimal(libc::STDERR_FILENO, replaced as u64);
+    if replaced == 1 {
+        io::write_all(
+            libc::STDERR_FILENO,
+            b" character of this row's texts was not valid and was replaced by U+FFFD\n",
+        );
+        return;
+    }
+    io::write_all(
+        libc::STDERR_FILENO,
+        b" characters of this row's texts were not valid and were replaced by U+FFFD\n",
+    );
+}
+
 fn show_row<'a>(d: Description, row: &'a [u8], text: &'a mut [u8]) {
     let described = d.outcome;
     let columns = d.columns;
@@ -54,7 +74,10 @@ fn show_row<'a>(d: Description, row: &'a [u8], text: &'a mut [u8]) {
     let answer = row::decode_row(row, columns, text);
     let outcome = answer.outcome;
     match outcome {
-        Outcome::Accepted => values::show_values(columns, answer, row, text),
+        Outcome::Accepted => {
+            values::show_values(columns, answer, row, text);
+            warn(answer.replaced);
+        }
         Outcome::Refused(_) => refusals::show_refused_row(outcome, row, columns, text),
     }
 }

@@ -5,11 +5,11 @@ use mathlib.Core.List.{List, []}
 use lib.Dec.{ltb}
 use lib.ListN.{length}
 use Rattle.refusal.specs.Refusal.{inputLimit}
-use Rattle.buffer.specs.Buffer.{TextTold, refusedText, textAnswer, textBuffer}
+use Rattle.buffer.specs.Buffer.{Converted, TextTold, refusedText, textAnswer, textBuffer}
 
--- The answer for the bytes s, whose text is t, and the text buffer d; and what is left in d. Refusal 4: too many bytes. Else refusal 9 or the text
-unfoldable pub conversionAnswer : List ℕ → List ℕ → List ℕ → TextTold
-conversionAnswer s t d = cond (ltb inputLimit (length s)) (refusedText 4 []) (textAnswer t d)
+-- The answer for the bytes s, of which c is made, and the text buffer d; and what is left in d, where t is the text. Refusal 4: too many bytes
+unfoldable pub conversionAnswer : List ℕ → Converted → List ℕ → TextTold
+conversionAnswer s c d = cond (ltb inputLimit (length s)) (refusedText 4 []) (textAnswer c d)
 
 unfoldable pub conversionBuffer : List ℕ → List ℕ → List ℕ → List ℕ
 conversionBuffer s t d = cond (ltb inputLimit (length s)) d (textBuffer t d)

@@ -17,24 +17,25 @@ ghost use mathlib.Core.Bool.{true};
 ghost use Prim.Native.Nat.{_+_, _*_, _≤_};
 ghost use lib.ListN.{length};
 ghost use Rattle.refusal.specs.Refusal.{inputLimit};
-ghost use Rattle.buffer.specs.Buffer.{toldText, textAnswer, textBuffer};
+ghost use Rattle.buffer.specs.Buffer.{unreplaced, toldText, textAnswer, textBuffer};
 ghost use Rattle.unicode.specs.Likely.{likelyText};
-ghost use Rattle.conversion.specs.Conversion.{characterText, graphicText, locatorText, rowIdText};
-ghost use Rattle.conversion.specs.Picked.{textIn};
+ghost use Rattle.conversion.specs.Conversion.{characterText, graphicText, fromCharacters, fromGraphics, locatorText, rowIdText};
+ghost use Rattle.conversion.specs.Picked.{textIn, convertedIn};
 ghost use Rattle.conversion.specs.Guess.{guessText, Guessed};
 ghost use Rattle.text.specs.Text.{conversionAnswer, conversionBuffer};
 
 // The text of s at the beginning of a buffer. A buffer that holds any text of so many bytes is written without measuring.
 fn convert(conversion: Conversion, s: &[u8], text: &mut [u8]) -> TextAnswer
     requires { ⌜ length (now s) ≤ inputLimit ⌝ }
-    ensures answer { λ r. ⌜ toldText r ≡ textAnswer (textIn conversion (now (s .entry))) (now (text .entry)) ⌝ }
+    ensures answer { λ r. ⌜ toldText r ≡ textAnswer (convertedIn conversion (now (s .entry))) (now (text .entry)) ⌝ }
     ensures buffer { λ _. ⌜ now (text .exit) ≡ textBuffer (textIn conversion (now (s .entry))) (now (text .entry)) ⌝ }
 {
     if 3 * s.len() + 14 <= text.len() {
-        let n = text_write(conversion, s, text);
+        let w = text_write(conversion, s, text);
         return TextAnswer {
             outcome: Outcome::Accepted,
-            written: n,
+            written: w.len,
+            replaced: w.replaced,
         };
     }
     let m = text_measure(conversion, s);
@@ -43,10 +44,11 @@ fn convert(conversion: Conversion, s: &[u8], text: &mut [u8]) -> TextAnswer
         return refused(Refusal::TextBufferTooShort { needed: needed });
     }
     let same = m.conversion;
-    text_write(same, s, text);
+    let v = text_write(same, s, text);
     TextAnswer {
         outcome: Outcome::Accepted,
         written: needed,
+        replaced: v.replaced,
     }
 }
 
@@ -64,13 +66,14 @@ fn is_roomy_guess(n: usize, ccsid: u16, room: usize) -> bool
 // The text of s, whose conversion is guessed, at the beginning of such a buffer.
 fn convert_guess(s: &[u8], text: &mut [u8]) -> TextAnswer
     requires { ⌜ 3 * length (now s) + 14 ≤ length (now text) ⌝ }
-    ensures answer { λ r. ⌜ toldText r ≡ textAnswer (guessText (now (s .entry))) (now (text .entry)) ⌝ }
+    ensures answer { λ r. ⌜ toldText r ≡ textAnswer (unreplaced (guessText (now (s .entry)))) (now (text .entry)) ⌝ }
     ensures buffer { λ _. ⌜ now (text .exit) ≡ textBuffer (guessText (now (s .entry))) (now (text .entry)) ⌝ }
 {
     let count = guess_write(s, text);
     TextAnswer {
         outcome: Outcome::Accepted,
         written: count,
+        replaced: 0,
     }
 }
 
@@ -79,7 +82,7 @@ const SHORT: usize = 1024;
 
 // The text of a long character value, by its CCSID.
 fn long_characters(s: &[u8], ccsid: u16, text: &mut [u8]) -> TextAnswer
-    ensures answer { λ r. ⌜ toldText r ≡ conversionAnswer (now (s .entry)) (characterText ccsid (now (s .entry))) (now (text .entry)) ⌝ }
+    ensures answer { λ r. ⌜ toldText r ≡ conversionAnswer (now (s .entry)) (fromCharacters ccsid (now (s .entry))) (now (text .entry)) ⌝ }
     ensures buffer { λ _. ⌜ now (text .exit) ≡ conversionBuffer (now (s .entry)) (characterText ccsid (now (s .entry))) (now (text .entry)) ⌝ }
 {
     if s.len() > INPUT_LIMIT {
@@ -93,7 +96,7 @@ fn long_characters(s: &[u8], ccsid: u16, text: &mut [u8]) -> TextAnswer
 
 // The same for a graphic value.
 fn long_graphics(s: &[u8], ccsid: u16, text: &mut [u8]) -> TextAnswer
-    ensures answer { λ r. ⌜ toldText r ≡ conversionAnswer (now (s .entry)) (graphicText ccsid (now (s .entry))) (now (text .entry)) ⌝ }
+    ensures answer { λ r. ⌜ toldText r ≡ conversionAnswer (now (s .entry)) (fromGraphics ccsid (now (s .entry))) (now (text .entry)) ⌝ }
     ensures buffer { λ _. ⌜ now (text .exit) ≡ conversionBuffer (now (s .entry)) (graphicText ccsid (now (s .entry))) (now (text .entry)) ⌝ }
 {
     if s.len() > INPUT_LIMIT {
@@ -107,7 +110,7 @@ fn long_graphics(s: &[u8], ccsid: u16, text: &mut [u8]) -> TextAnswer
 
 // The text of a character value, by its CCSID.
 pub fn decode_character_bytes(data: &[u8], ccsid: u16, text: &mut [u8]) -> TextAnswer
-    ensures answer { λ r. ⌜ toldText r ≡ conversionAnswer (now («data» .entry)) (characterText ccsid (now («data» .entry))) (now (text .entry)) ⌝ }
+    ensures answer { λ r. ⌜ toldText r ≡ conversionAnswer (now («data» .entry)) (fromCharacters ccsid (now («data» .entry))) (now (text .entry)) ⌝ }
     ensures buffer { λ _. ⌜ now (text .exit) ≡ conversionBuffer (now («data» .entry)) (characterText ccsid (now («data» .entry))) (now (text .entry)) ⌝ }
 {
     if data.len() > SHORT {
@@ -118,7 +121,7 @@ pub fn decode_character_bytes(data: &[u8], ccsid: u16, text: &mut [u8]) -> TextA
 
 // The text of a graphic value, by its CCSID.
 pub fn decode_graphic_bytes(data: &[u8], ccsid: u16, text: &mut [u8]) -> TextAnswer
-    ensures answer { λ r. ⌜ toldText r ≡ conversionAnswer (now («data» .entry)) (graphicText ccsid (now («data» .entry))) (now (text .entry)) ⌝ }
+    ensures answer { λ r. ⌜ toldText r ≡ conversionAnswer (now («data» .entry)) (fromGraphics ccsid (now («data» .entry))) (now (text .entry)) ⌝ }
     ensures buffer { λ _. ⌜ now (text .exit) ≡ conversionBuffer (now («data» .entry)) (graphicText ccsid (now («data» .entry))) (now (text .entry)) ⌝ }
 {
     if data.len() > SHORT {
@@ -129,7 +132,7 @@ pub fn decode_graphic_bytes(data: &[u8], ccsid: u16, text: &mut [u8]) -> TextAns
 
 // `LOB locator 0x` and the bytes in hexadecimal.
 pub fn format_lob_locator(bytes: &[u8], text: &mut [u8]) -> TextAnswer
-    ensures answer { λ r. ⌜ toldText r ≡ conversionAnswer (now (bytes .entry)) (locatorText (now (bytes .entry))) (now (text .entry)) ⌝ }
+    ensures answer { λ r. ⌜ toldText r ≡ conversionAnswer (now (bytes .entry)) (unreplaced (locatorText (now (bytes .entry)))) (now (text .entry)) ⌝ }
     ensures buffer { λ _. ⌜ now (text .exit) ≡ conversionBuffer (now (bytes .entry)) (locatorText (now (bytes .entry))) (now (text .entry)) ⌝ }
 {
     if bytes.len() > INPUT_LIMIT {
@@ -140,7 +143,7 @@ pub fn format_lob_locator(bytes: &[u8], text: &mut [u8]) -> TextAnswer
 
 // `0x` and the bytes in hexadecimal.
 pub fn format_rowid(bytes: &[u8], text: &mut [u8]) -> TextAnswer
-    ensures answer { λ r. ⌜ toldText r ≡ conversionAnswer (now (bytes .entry)) (rowIdText (now (bytes .entry))) (now (text .entry)) ⌝ }
+    ensures answer { λ r. ⌜ toldText r ≡ conversionAnswer (now (bytes .entry)) (unreplaced (rowIdText (now (bytes .entry)))) (now (text .entry)) ⌝ }
     ensures buffer { λ _. ⌜ now (text .exit) ≡ conversionBuffer (now (bytes .entry)) (rowIdText (now (bytes .entry))) (now (text .entry)) ⌝ }
 {
     if bytes.len() > INPUT_LIMIT {

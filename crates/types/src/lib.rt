@@ -125,11 +125,12 @@ pub struct ValuePlace {
     pub external: bool,
 }
 
-// What the row call answers: a value place for each column, and how many bytes of the input were used.
+// What the row call answers: a value place for each column, how many bytes of the input were used, and how many U+FFFD its texts' conversions put in.
 pub struct RowAnswer {
     pub outcome: Outcome,
     pub places: [ValuePlace; MAX_COLUMNS],
     pub used: usize,
+    pub replaced: usize,
 }
 
 // What the table of base codes holds beside a code: a type, or which type is made of the column's numbers.

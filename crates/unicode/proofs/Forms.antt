@@ -115,14 +115,28 @@ module _ (encode : ℕ → List ℕ) (first : ℕ → List ℕ → First) (leads
                 (λ x. absurd (none-first (c .0) (c .2) (x .0 ++ drop k us) (sym (append-assoc (encode (c .0)) (x .0) (drop k us)) ∙ ap (λ (l : List ℕ). l ++ drop k us) (sym (x .1)) ∙ ap (λ (l : List ℕ). u ∷ l) (take-append-drop k us))))
                 (prefix (u ∷ take k us) (w .0) (encode (c .0)) (c .1) (sym (c .3)))
 
--- the text of what is read is well-formed UTF-8, where only scalar values are read
-pub text-well-formed : (first : ℕ → List ℕ → First) (limit : ℕ) → ((u : ℕ) (us : List ℕ) (v : ℕ) → u < limit → first u us .piece ≡ scalar v → isScalarValue v ≡ true)
-    → (k : ℕ) (s : List ℕ) → ((i : ℕ) → getD s i 0 < limit) → WellFormed utf8 (piecesText (readFrom first k s))
-unfolding readFrom piecesText pieceText isScalarValue within
-text-well-formed first limit h k [] b = nil-well-formed utf8
-text-well-formed first limit h (suc k) (u ∷ us) b = text-well-formed first limit h k us (λ i. b (suc i))
-text-well-formed first limit h zero (u ∷ us) b = go (first u us .piece) refl (text-well-formed first limit h (first u us .more) us (λ i. b (suc i)))
+-- ---- the text of what is read
+
+-- each piece is malformed, or a scalar value
+abbrev pub Scalars : List Piece → Type 0
+Scalars [] = Unit {0}
+Scalars (scalar v ∷ ps) = (isScalarValue v ≡ true) × Scalars ps
+Scalars (malformed ∷ ps) = Scalars ps
+
+pub read-scalars : (first : ℕ → List ℕ → First) (limit : ℕ) → ((u : ℕ) (us : List ℕ) (v : ℕ) → u < limit → first u us .piece ≡ scalar v → isScalarValue v ≡ true)
+    → (k : ℕ) (s : List ℕ) → ((i : ℕ) → getD s i 0 < limit) → Scalars (readFrom first k s)
+unfolding readFrom
+read-scalars first limit h k [] b = tt
+read-scalars first limit h (suc k) (u ∷ us) b = read-scalars first limit h k us (λ i. b (suc i))
+read-scalars first limit h zero (u ∷ us) b = go (first u us .piece) refl (read-scalars first limit h (first u us .more) us (λ i. b (suc i)))
   where
-    go : (p : Piece) → first u us .piece ≡ p → WellFormed utf8 (piecesText (readFrom first (first u us .more) us)) → WellFormed utf8 (pieceText p ++ piecesText (readFrom first (first u us .more) us))
-    go (scalar v) e w = cons-well-formed utf8 v (piecesText (readFrom first (first u us .more) us)) (h u us v (b 0) e) w
-    go malformed e w = cons-well-formed utf8 replacement (piecesText (readFrom first (first u us .more) us)) refl w
+    go : (p : Piece) → first u us .piece ≡ p → Scalars (readFrom first (first u us .more) us) → Scalars (p ∷ readFrom first (first u us .more) us)
+    go (scalar v) e w = (h u us v (b 0) e, w)
+    go malformed e w = w
+
+-- it is well-formed UTF-8
+pub scalars-well-formed : (ps : List Piece) → Scalars ps → WellFormed utf8 (piecesText ps)
+unfolding piecesText pieceText isScalarValue within
+scalars-well-formed [] h = nil-well-formed utf8
+scalars-well-formed (scalar v ∷ ps) h = cons-well-formed utf8 v (piecesText ps) (h .0) (scalars-well-formed ps (h .1))
+scalars-well-formed (malformed ∷ ps) h = cons-well-formed utf8 replacement (piecesText ps) refl (scalars-well-formed ps h)

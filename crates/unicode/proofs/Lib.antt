@@ -7,3 +7,4 @@ pub mod Utf8Bytes
 pub mod Utf16Units
 pub mod Laws
 pub mod Bytes
+pub mod Replaced

@@ -1,14 +1,15 @@
 -- What makes the definitions of Unicode.antt believable, in the Standard's own terms (section 3.9): statements only; proofs/Laws.antt proves each of
 -- these records whole, as `utf8-form`, `utf16-form` and `texts`. For each encoding form `encode` gives the code units of a scalar value (Table 3-5 or 3-6),
 -- and nothing here is said by Table 3-7. No contract cites this file. Assumes nothing.
-use Prim.Native.Nat.{ℕ, suc, _≤_, _<_}
-use mathlib.Core.Bool.{true}
+use Prim.Native.Nat.{ℕ, suc, _+_, _*_, _≤_, _<_}
+use mathlib.Core.Bool.{true, cond}
 use mathlib.Core.List.{List, [], _∷_, _++_, map, flatten, List·Memᴰ}
 use mathlib.Core.Logic.{_⊎_}
 use mathlib.Core.Path.{_≡_}
+use lib.Dec.{eqb}
 use lib.ListN.{length, take, getD}
 use Rattle.unicode.specs.Ascii.{allAscii}
-use Rattle.unicode.specs.Unicode.{Piece, scalar, malformed, isScalarValue, First, readFrom, utf8, replacements, firstOf, utf8Pieces, utf8Text, utf16, bigEndian, unitOf, utf16Pieces, utf16Text}
+use Rattle.unicode.specs.Unicode.{Piece, scalar, malformed, isScalarValue, First, readFrom, utf8, replacement, replacements, firstOf, utf8Pieces, utf8Text, utf16, bigEndian, units, unitOf, utf16Pieces, utf16Text}
 
 -- each element of vs is a scalar value (`List·Memᴰ v vs`: v is an element of vs)
 abbrev pub ScalarValues : List ℕ → Type 0
@@ -52,6 +53,12 @@ Utf16Form = Reads utf16 0x10000 unitOf
 abbrev pub AreBytes : List ℕ → Type 0
 AreBytes s = (i : ℕ) → getD s i 0 < 0x100
 
+-- how many scalar values among pieces are U+FFFD
+unfoldable pub replacementCharacters : List Piece → ℕ
+replacementCharacters [] = 0
+replacementCharacters (scalar v ∷ ps) = cond (eqb v replacement) 1 0 + replacementCharacters ps
+replacementCharacters (malformed ∷ ps) = replacementCharacters ps
+
 pub record Texts : Type 0 where
   -- the bytes of scalar values are read as these values
   pub utf8-scalars : (vs : List ℕ) → ScalarValues vs → utf8Pieces (flatten (map utf8 vs)) ≡ map scalar vs
@@ -61,6 +68,15 @@ pub record Texts : Type 0 where
   -- bytes are well-formed UTF-8 where nothing is replaced, and there only; then the text is the bytes
   pub nothing-replaced : (s : List ℕ) → replacements (utf8Pieces s) ≡ 0 → WellFormed utf8 s
   pub unchanged : (s : List ℕ) → WellFormed utf8 s → (replacements (utf8Pieces s) ≡ 0) × (utf8Text s ≡ s)
+  -- and so with UTF-16
+  pub utf16-nothing-replaced : (s : List ℕ) → AreBytes s → replacements (utf16Pieces s) ≡ 0 → WellFormed utf16 (units s)
+  pub utf16-unchanged : (s : List ℕ) → WellFormed utf16 (units s) → replacements (utf16Pieces s) ≡ 0
+  -- the U+FFFD among a text's scalar values are those put in and those that the bytes had, together
+  pub utf8-counted : (s : List ℕ) → AreBytes s → replacementCharacters (utf8Pieces (utf8Text s)) ≡ replacements (utf8Pieces s) + replacementCharacters (utf8Pieces s)
+  pub utf16-counted : (s : List ℕ) → AreBytes s → replacementCharacters (utf8Pieces (utf16Text s)) ≡ replacements (utf16Pieces s) + replacementCharacters (utf16Pieces s)
+  -- no more are put in than there are bytes, or pairs of bytes
+  pub utf8-most : (s : List ℕ) → replacements (utf8Pieces s) ≤ length s
+  pub utf16-most : (s : List ℕ) → 2 * replacements (utf16Pieces s) ≤ length s
   -- ASCII is its own UTF-8
   pub ascii-text : (s : List ℕ) → allAscii s ≡ true → utf8Text s ≡ s
   -- a text is well-formed UTF-8, whatever the bytes that it is read from

@@ -54,7 +54,7 @@ unfoldable pub piecesText : List Piece → List ℕ
 piecesText [] = []
 piecesText (p ∷ ps) = pieceText p ++ piecesText ps
 
--- how many parts are replaced in that text
+-- N4a: how many parts are replaced in that text
 abbrev pub replacementsIn : Piece → ℕ
 replacementsIn (scalar v) = 0
 replacementsIn malformed = 1

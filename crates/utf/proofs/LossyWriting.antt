@@ -15,22 +15,23 @@ use lib.ListN.{length, take, drop, getD, length-append, length-drop}
 use lib.Seq.{take-append-le, drop-append-add, take-at, drop-at, drop-drop, length-take-le, take-take}
 use Rattle.buffer.specs.Buffer.{overwritten}
 use Rattle.buffer.proofs.Filling.{start, fits, fits-rest, wrote-text, wrote-filling, all, end}
-use Rattle.unicode.specs.Unicode.{Piece, scalar, malformed, utf8, pieceText, piecesText, Range, range, Sequence, within, fit, scalarFrom, firstBy, firstOf, sequenceIn, table-3-7, readFrom, utf8Text}
+use Rattle.unicode.specs.Unicode.{Piece, scalar, malformed, utf8, pieceText, piecesText, Range, range, Sequence, within, fit, scalarFrom, firstBy, firstOf, sequenceIn, table-3-7, readFrom, replacementsIn, replacements, utf8Pieces, utf8Text}
 use Rattle.unicode.proofs.Ranges.{never, inside}
+use Rattle.unicode.proofs.Reading.{read-most}
 use Rattle.unicode.proofs.Utf8Bytes.{first-text}
 use Rattle.utf.specs.Utf8Code.{isScalar, firstAt, PieceAt, Good}
 use Rattle.utf.proofs.AsciiLaws.{rest, rest-length}
 use Rattle.utf.proofs.Utf8Laws.{step-none}
-use Rattle.utf.proofs.Utf8Runs.{text-end, more-length, good-text, piece-text, piece-fits}
+use Rattle.utf.proofs.Utf8Runs.{text-end, count-end, more-length, good-text, good-count, piece-text, piece-count, piece-fits}
 use Rattle.utf.specs.Lossy.{Wrote}
 
-pub wrote-none : (s d : List ℕ) → length (utf8Text s) ≤ length d → Wrote s d d 0 0
-wrote-none s d h = record { fits = omega arith; filling = start (utf8Text s) d h }
+pub wrote-none : (s d : List ℕ) → length (utf8Text s) ≤ length d → Wrote s d d 0 0 0
+wrote-none s d h = record { fits = omega arith; filling = start (utf8Text s) d h; parts = omega arith }
 
 -- u was written at the beginning: its first k bytes are those of the text, and are read from n bytes
 module _ (s d u out : List ℕ) (n k : ℕ) (h : length (utf8Text s) ≤ length d) (most : length u ≤ length (utf8Text s)) (part : k ≤ length u) (q : out ≡ overwritten u d) where
-  wrote-part : n ≤ length s → take k u ≡ take k (utf8Text s) → drop k (utf8Text s) ≡ utf8Text (drop n s) → Wrote s d out n k
-  wrote-part f e l =
+  wrote-part : n ≤ length s → take k u ≡ take k (utf8Text s) → drop k (utf8Text s) ≡ utf8Text (drop n s) → replacements (utf8Pieces s) ≡ replacements (utf8Pieces (drop n s)) → Wrote s d out n k 0
+  wrote-part f e l z₀ =
       let z : length u + (length (utf8Text s) - length u) ≡ length (utf8Text s) = omega arith in
       record {
         fits = f;
@@ -44,9 +45,10 @@ module _ (s d u out : List ℕ) (n k : ℕ) (h : length (utf8Text s) ≤ length 
               rw q (ap (λ (m : ℕ). drop m (u ++ drop (length u) d)) (sym z) ∙ drop-append-add u (drop (length u) d) (length (utf8Text s) - length u)
               ∙ drop-drop (length (utf8Text s) - length u) (length u) d ∙ ap (λ (m : ℕ). drop m d) z);
         };
+        parts = omega (arith, z₀);
       }
 
-module _ (s d out : List ℕ) (i o : ℕ) (w : Wrote s d out i o) where
+module _ (s d out : List ℕ) (i o r : ℕ) (w : Wrote s d out i o r) where
   pub wrote-fits : o + length (utf8Text (drop i s)) ≤ length out
   wrote-fits = fits (w .filling)
 
@@ -54,15 +56,20 @@ module _ (s d out : List ℕ) (i o : ℕ) (w : Wrote s d out i o) where
   pub wrote-room : length (utf8Text (take (length s - i) (drop i s))) ≤ length (take (length out - o) (drop o out))
   wrote-room = rw (rest s i) (omega (arith, rest-length out o, wrote-fits))
 
-  pub wrote-lent : (ys : List ℕ) (n m : ℕ) → Wrote (take (length s - i) (drop i s)) (take (length out - o) (drop o out)) ys n m
-      → Wrote s d (take o out ++ (ys ++ drop (length out - o) (drop o out))) (i + n) (o + m)
-  wrote-lent ys n m v = record {
+  pub wrote-lent : (ys : List ℕ) (n m q : ℕ) → Wrote (take (length s - i) (drop i s)) (take (length out - o) (drop o out)) ys n m q
+      → Wrote s d (take o out ++ (ys ++ drop (length out - o) (drop o out))) (i + n) (o + m) (r + q)
+  wrote-lent ys n m q v = record {
     fits = omega (arith, w .fits, v .fits, rest-length s i);
     filling = wrote-filling (w .filling) (rw (rest s i, drop-drop n i s) at (v .filling));
+    parts = let e : replacements (utf8Pieces (drop i s)) ≡ q + replacements (utf8Pieces (drop (i + n) s)) = rw (rest s i, drop-drop n i s) at (v .parts) in omega (arith, w .parts, e);
   }
 
-  pub wrote-end : length s ≤ i → (o ≡ length (utf8Text s)) × (out ≡ overwritten (utf8Text s) d)
-  wrote-end k = let e = text-end s i k in (all (w .filling) e, end (w .filling) e)
+  pub wrote-end : length s ≤ i → (o ≡ length (utf8Text s)) × ((out ≡ overwritten (utf8Text s) d) × (r ≡ replacements (utf8Pieces s)))
+  wrote-end k = let e = text-end s i k in (all (w .filling) e, (end (w .filling) e, omega (arith, w .parts, count-end s i k)))
+
+  -- no more parts were replaced than there are bytes
+  pub wrote-few : r ≤ length s
+  wrote-few = omega (arith, w .parts, read-most firstOf 0 s)
 
 -- ---- a text is at least as long as what it is read from
 
@@ -135,37 +142,41 @@ text-least s = omega (arith, read-least 0 s)
 -- ---- m bytes were copied, of which the first k are well-formed
 
 module _ (s d ys : List ℕ) (h : length (utf8Text s) ≤ length d) (m k : ℕ) (f : m ≤ length s) (l : k ≤ m) (r : Good k s) (q : ys ≡ overwritten (take m s) d) where
-  pub copied : Wrote s d ys k k
+  pub copied : Wrote s d ys k k 0
   copied =
       let t : utf8Text s ≡ take k s ++ utf8Text (drop k s) = good-text k s r in
       let z : length (take k s) ≡ k = length-take-le k s (r .fits) in
       let y : length (take m s) ≡ m = length-take-le m s f in
       wrote-part s d (take m s) ys k k h (omega (arith, text-least s)) (omega arith) q (r .fits)
       (take-take k m s l ∙ sym (rw t (take-at (take k s) (utf8Text (drop k s)) k z)))
-      (rw t (drop-at (take k s) (utf8Text (drop k s)) k z))
+      (rw t (drop-at (take k s) (utf8Text (drop k s)) k z)) (good-count k s r)
 
 -- the same into the rest of the buffer, as `&s[i..]` and `&mut out[o..]` are lent
-module _ (s d out : List ℕ) (i o : ℕ) (w : Wrote s d out i o) (m : ℕ) (f : i + m ≤ length s) where
+module _ (s d out : List ℕ) (i o r : ℕ) (w : Wrote s d out i o r) (m : ℕ) (f : i + m ≤ length s) where
   pub copy-room : m ≤ length (take (length out - o) (drop o out))
-  copy-room = omega (arith, wrote-room s d out i o w, text-least (take (length s - i) (drop i s)), rest-length s i)
+  copy-room = omega (arith, wrote-room s d out i o r w, text-least (take (length s - i) (drop i s)), rest-length s i)
 
   pub copied-lent : (ys : List ℕ) (k : ℕ) → k ≤ m → Good k (take (length s - i) (drop i s)) → ys ≡ overwritten (take m (take (length s - i) (drop i s))) (take (length out - o) (drop o out))
-      → Wrote s d (take o out ++ (ys ++ drop (length out - o) (drop o out))) (i + k) (o + k)
-  copied-lent ys k l r q = wrote-lent s d out i o w ys k k (copied (take (length s - i) (drop i s)) (take (length out - o) (drop o out)) ys (wrote-room s d out i o w) m k (omega (arith, rest-length s i)) l r q)
+      → Wrote s d (take o out ++ (ys ++ drop (length out - o) (drop o out))) (i + k) (o + k) r
+  copied-lent ys k l g q =
+      let v = wrote-lent s d out i o r w ys k k 0 (copied (take (length s - i) (drop i s)) (take (length out - o) (drop o out)) ys (wrote-room s d out i o r w) m k (omega (arith, rest-length s i)) l g q) in
+      record { fits = v .fits; filling = v .filling; parts = omega (arith, v .parts) }
 
 -- ---- the piece at i was written into the rest of the buffer
 
-module _ (s d out : List ℕ) (i o : ℕ) (w : Wrote s d out i o) (n : ℕ) (ok : Bool) (l : i < length s) (p : PieceAt s i n ok) where
+module _ (s d out : List ℕ) (i o r : ℕ) (w : Wrote s d out i o r) (n : ℕ) (ok : Bool) (l : i < length s) (p : PieceAt s i n ok) where
   abbrev P : List ℕ
   P = pieceText (firstAt s i .piece)
 
   pub piece-room : length P ≤ length (take (length out - o) (drop o out))
   piece-room = fits-rest (w .filling) P (utf8Text (drop (i + n) s)) (piece-text s i n ok l p) refl
 
-  pub piece-wrote : (ys : List ℕ) → ys ≡ overwritten P (take (length out - o) (drop o out)) → (m : ℕ) → length P ≡ m → Wrote s d (take o out ++ (ys ++ drop (length out - o) (drop o out))) (i + n) (o + m)
-  piece-wrote ys q m z = record {
+  pub piece-wrote : (ys : List ℕ) → ys ≡ overwritten P (take (length out - o) (drop o out)) → (m : ℕ) → length P ≡ m → (k : ℕ) → replacementsIn (firstAt s i .piece) ≡ k
+      → Wrote s d (take o out ++ (ys ++ drop (length out - o) (drop o out))) (i + n) (o + m) (r + k)
+  piece-wrote ys q m z k e = record {
     fits = piece-fits s i n ok l p;
     filling = wrote-text (w .filling) P (utf8Text (drop (i + n) s)) (piece-text s i n ok l p) ys q m (sym z);
+    parts = omega (arith, w .parts, piece-count s i n ok l p, e);
   }
 
 -- ---- a byte that no sequence begins with

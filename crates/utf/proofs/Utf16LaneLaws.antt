@@ -5,16 +5,16 @@ use mathlib.Core.List.{List, [], _∷_, _++_, append-assoc}
 use mathlib.Core.Logic.{_⊎_, ⊎-elim}
 use mathlib.Core.Path.{_≡_, refl, sym, ap, _∙_}
 use native.Mathlib.Omega.{arith}
-use native.Mathlib.Nat.{add-zero}
+use native.Mathlib.Nat.{add-zero, zero-add}
 use borrow.Author.Count.{below-more}
 use borrow.Author.Tests.{leb-true, leb-false, le-leb, lt-leb, eqb-true, eqb-false, eq-eqb, ne-eqb}
 use lib.Dec.{leb, eqb}
 use lib.ListN.{length, take, drop, getD, set, length-append}
 use lib.Seq.{getD-set-same, getD-set-other, getD-drop, drop-drop}
-use Rattle.unicode.specs.Unicode.{range, within, utf8, utf16Text}
+use Rattle.unicode.specs.Unicode.{range, within, utf8, replacements, utf16Pieces, utf16Text}
 use Rattle.unicode.proofs.Ranges.{never, inside, is-inside, is-below, is-above, outside}
 use Rattle.unicode.proofs.ScalarBytes.{utf8-one, utf8-two, utf8-three, utf8-four}
-use Rattle.utf.specs.Utf16Code.{unitAt, Utf16Next, bitOf, takesThree, unitBytes, Counted, LaidAt, Laid, BlockEnd}
+use Rattle.utf.specs.Utf16Code.{unitAt, Utf16Next, bitOf, takesThree, unitBytes, Counted, LaidAt, Laid, BlockEnd, AfterFirst}
 use Rattle.buffer.specs.Filling.{Filling}
 use Rattle.utf.proofs.AsciiLaws.{rest}
 use Rattle.utf.proofs.Utf16Laws.{below-surrogates, above-surrogates, pair}
@@ -208,8 +208,12 @@ pair-bytes y a b c d ea hb ec hd =
 abbrev pub restAfter : List ℕ → ℕ → List ℕ
 restAfter s i = cond (within (getD s i 0) (range 0xD8 0xDB)) (unitBytes (getD s (i + 1) 0) (getD s (i + 2) 0) (getD s (i + 3) 0) ++ utf16Text (drop (i + 4) s)) (utf16Text (drop (i + 2) s))
 
-pub rest-whole : (s : List ℕ) (i : ℕ) → within (getD s i 0) (range 0xD8 0xDB) ≡ false → restAfter s i ≡ utf16Text (drop (i + 2) s)
-rest-whole s i e = rw e
+-- and how many unpaired surrogates are left
+abbrev pub aloneAfter : List ℕ → ℕ → ℕ
+aloneAfter s i = replacements (utf16Pieces (drop (cond (within (getD s i 0) (range 0xD8 0xDB)) (i + 4) (i + 2)) s))
+
+pub rest-whole : (s : List ℕ) (i : ℕ) → within (getD s i 0) (range 0xD8 0xDB) ≡ false → (restAfter s i ≡ utf16Text (drop (i + 2) s)) × (aloneAfter s i ≡ replacements (utf16Pieces (drop (i + 2) s)))
+rest-whole s i e = (rw e, rw e)
 
 module _ (s : List ℕ) (i : ℕ) (small : (j : ℕ) → getD s j 0 < 0x100) (k : i + 5 < length s) (n : ℕ) (some : 0 < n)
     (c : Counted (getD s i 0) (getD s (i + 2) 0) (getD s (i + 3) 0) (getD s (i + 4) 0) n)
@@ -223,8 +227,9 @@ module _ (s : List ℕ) (i : ℕ) (small : (j : ℕ) → getD s j 0 < 0x100) (k 
   abbrev B : ℕ
   B = getD s (i + 3) 0
 
+  -- the text goes on with the unit's bytes, and the unit is not replaced
   abbrev Step : Type 0
-  Step = restAfter s i ≡ unitBytes Y A B ++ restAfter s (i + 2)
+  Step = (restAfter s i ≡ unitBytes Y A B ++ restAfter s (i + 2)) × (aloneAfter s i ≡ aloneAfter s (i + 2))
 
   unit : A * 256 + B ≡ unitAt s (i + 2)
   unit = let e : i + 3 ≡ i + 2 + 1 = omega arith in rw e
@@ -233,13 +238,14 @@ module _ (s : List ℕ) (i : ℕ) (small : (j : ℕ) → getD s j 0 < 0x100) (k 
   after-four = omega arith
 
   -- the next unit begins anew
-  anew : within A (range 0xD8 0xDB) ≡ false → restAfter s (i + 2) ≡ utf16Text (drop (i + 4) s)
-  anew e = rest-whole s (i + 2) e ∙ rw after-four
+  anew : within A (range 0xD8 0xDB) ≡ false → (restAfter s (i + 2) ≡ utf16Text (drop (i + 4) s)) × (aloneAfter s (i + 2) ≡ replacements (utf16Pieces (drop (i + 4) s)))
+  anew e = let w = rest-whole s (i + 2) e in (w .0 ∙ rw after-four, w .1 ∙ rw after-four)
 
   second : within (getD s i 0) (range 0xD8 0xDB) ≡ true → Step
   second e =
       let l = inside A (range 0xDC 0xDF) (carry e) in
-      rw (anew (is-above A (range 0xD8 0xDB) (omega arith)), e)
+      let n = anew (is-above A (range 0xD8 0xDB) (omega arith)) in
+      (rw (n .0, e), rw (n .1, e))
 
   first : within (getD s i 0) (range 0xD8 0xDB) ≡ false → within A (range 0xD8 0xDB) ≡ true → Step
   first e h =
@@ -250,12 +256,18 @@ module _ (s : List ℕ) (i : ℕ) (small : (j : ℕ) → getD s j 0 < 0x100) (k 
       let x₅ : i + 2 + 3 ≡ i + 5 = omega arith in
       let x₆ : i + 2 + 4 ≡ i + 6 = omega arith in
       let v : getD s (i + 4) 0 * 256 + getD s (i + 5) 0 ≡ unitAt s (i + 2 + 2) = (let z : i + 5 ≡ i + 2 + 2 + 1 = omega arith in rw (z, ← after-four)) in
-      let t = pair s (i + 2) (omega arith) (A * 256 + B) unit (omega arith) (omega (arith, small (i + 3))) (omega arith) (getD s (i + 4) 0 * 256 + getD s (i + 5) 0) v (omega arith) (omega (arith, small (i + 5))) in
-      rest-whole s i e ∙ t .here
-      ∙ rw (pair-bytes Y A B (getD s (i + 4) 0) (getD s (i + 5) 0) h (small (i + 3)) l (small (i + 5)), append-assoc, h, x₃, after-four, x₅, x₆)
+      let t = pair s (i + 2) (omega arith) (A * 256 + B) unit (omega arith) (omega (arith, small (i + 3))) (omega arith) (getD s (i + 4) 0 * 256 + getD s (i + 5) 0) v (omega arith) (omega (arith, small (i + 5))) in (
+        rest-whole s i e .0 ∙ t .here
+            ∙ rw (pair-bytes Y A B (getD s (i + 4) 0) (getD s (i + 5) 0) h (small (i + 3)) l (small (i + 5)), append-assoc, h, x₃, after-four, x₅, x₆),
+        rest-whole s i e .1 ∙ t .part ∙ rw (zero-add, h),
+      )
 
   plain : within (getD s i 0) (range 0xD8 0xDB) ≡ false → within A (range 0xD8 0xDB) ≡ false → Step
-  plain e h = rest-whole s i e ∙ here (outside A (range 0xD8 0xDB) h) ∙ rw (anew h, after-four, plain-bytes Y A B (small (i + 2)) (small (i + 3)) h l)
+  plain e h =
+      let t = next (outside A (range 0xD8 0xDB) h) in (
+        rest-whole s i e .0 ∙ t .here ∙ rw (anew h .0, after-four, plain-bytes Y A B (small (i + 2)) (small (i + 3)) h l),
+        rest-whole s i e .1 ∙ t .part ∙ rw (zero-add, anew h .1, after-four),
+      )
     where
       l : within A (range 0xDC 0xDF) ≡ false
       l = go (within A (range 0xDC 0xDF)) refl
@@ -264,10 +276,10 @@ module _ (s : List ℕ) (i : ℕ) (small : (j : ℕ) → getD s j 0 < 0x100) (k 
           go true q = never (sym e ∙ c .after some q)
           go false q = q
 
-      here : ((A < 0xD8) ⊎ (0xDB < A)) → utf16Text (drop (i + 2) s) ≡ utf8 (A * 256 + B) ++ utf16Text (drop (i + 2 + 2) s)
-      here w =
-          ⊎-elim (λ p. below-surrogates s (i + 2) (omega arith) (A * 256 + B) unit (omega (arith, small (i + 3))) .here)
-          (λ p. ⊎-elim (λ q. let x : ⊥ = omega arith in absurd x) (λ q. above-surrogates s (i + 2) (omega arith) (A * 256 + B) unit (omega arith) (omega (arith, small (i + 2), small (i + 3))) .here) (outside A (range 0xDC 0xDF) l)) w
+      next : ((A < 0xD8) ⊎ (0xDB < A)) → Utf16Next s (i + 2) (A * 256 + B) 2 0
+      next w =
+          ⊎-elim (λ p. below-surrogates s (i + 2) (omega arith) (A * 256 + B) unit (omega (arith, small (i + 3))))
+          (λ p. ⊎-elim (λ q. let x : ⊥ = omega arith in absurd x) (λ q. above-surrogates s (i + 2) (omega arith) (A * 256 + B) unit (omega arith) (omega (arith, small (i + 2), small (i + 3)))) (outside A (range 0xDC 0xDF) l)) w
 
   pub unit-step : Step
   unit-step = go (within (getD s i 0) (range 0xD8 0xDB)) (within A (range 0xD8 0xDB)) refl refl
@@ -327,9 +339,9 @@ module _ (s : List ℕ) (i : ℕ) where
   pub lent-first : getD (take (length s - i) (drop i s)) 0 0 ≡ getD s i 0
   lent-first = rw (rest s i) (getD-drop i s 0 0 ∙ ap (λ (j : ℕ). getD s j 0) (add-zero i))
 
-  pub lent-text : (r : ℕ) → utf16Text (drop r (take (length s - i) (drop i s))) ≡ utf16Text (drop (i + r) s)
-  lent-text r = rw (rest s i, drop-drop r i s)
+  pub lent-drop : (r : ℕ) → drop r (take (length s - i) (drop i s)) ≡ drop (i + r) s
+  lent-drop r = rw (rest s i, drop-drop r i s)
 
-  pub lent-filling : (d ys : List ℕ) (r n : ℕ) → Filling (utf16Text (drop 2 (take (length s - i) (drop i s)))) d (utf16Text (drop (r + 2) (take (length s - i) (drop i s)))) ys n
-      → Filling (utf16Text (drop (i + 2) s)) d (utf16Text (drop (i + r + 2) s)) ys n
-  lent-filling d ys r n w = let e : i + (r + 2) ≡ i + r + 2 = omega arith in rw (← e, ← lent-text 2, ← lent-text (r + 2)) w
+  pub lent-after : (d ys : List ℕ) (r n : ℕ) → AfterFirst (take (length s - i) (drop i s)) d ys r n
+      → Filling (utf16Text (drop (i + 2) s)) d (utf16Text (drop (i + r + 2) s)) ys n × (replacements (utf16Pieces (drop (i + 2) s)) ≡ replacements (utf16Pieces (drop (i + r + 2) s)))
+  lent-after d ys r n w = let e : i + (r + 2) ≡ i + r + 2 = omega arith in rw (← e, ← lent-drop 2, ← lent-drop (r + 2)) w

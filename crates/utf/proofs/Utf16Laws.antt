@@ -9,10 +9,10 @@ use borrow.Author.Tests.{leb-true, leb-false}
 use lib.Dec.{leb}
 use lib.ListN.{length, drop, getD, length-drop, drop-of-length-le, length-append}
 use lib.Seq.{drop-cons}
-use Rattle.unicode.specs.Unicode.{Piece, scalar, malformed, utf8, pieceText, piecesText, Range, range, within, First, readFrom, units, highSurrogates, lowSurrogates, pairOf, unitOf, utf16Pieces}
+use Rattle.unicode.specs.Unicode.{Piece, scalar, malformed, utf8, pieceText, piecesText, replacementsIn, replacements, Range, range, within, First, readFrom, units, highSurrogates, lowSurrogates, pairOf, unitOf, utf16Pieces}
 use Rattle.utf.specs.Utf16Code.{unitAt, Utf16Next}
 use Rattle.unicode.specs.Unicode.{utf16Text}
-use Rattle.unicode.proofs.Reading.{read-cons}
+use Rattle.unicode.proofs.Reading.{read-cons, read-most}
 use Rattle.unicode.proofs.ScalarBytes.{utf8-one, utf8-two, utf8-three, utf8-four}
 use Rattle.utf.proofs.Utf8Laws.{past, short, inside}
 
@@ -33,9 +33,27 @@ few (a ∷ b ∷ l) h = let z : ⊥ = omega arith in absurd z
 units-end : (s : List ℕ) (i : ℕ) → length s ≤ i + 1 → units (drop i s) ≡ []
 units-end s i h = few (drop i s) (omega (arith, length-drop i s))
 
+pieces-end : (s : List ℕ) (i : ℕ) → length s ≤ i + 1 → utf16Pieces (drop i s) ≡ []
+unfolding readFrom
+pieces-end s i h = rw (units-end s i h)
+
 pub utf16-end : (s : List ℕ) (i : ℕ) → length s ≤ i + 1 → utf16Text (drop i s) ≡ []
-unfolding utf16Text piecesText readFrom
-utf16-end s i h = rw (units-end s i h)
+unfolding utf16Text piecesText
+utf16-end s i h = rw (pieces-end s i h)
+
+pub count-end : (s : List ℕ) (i : ℕ) → length s ≤ i + 1 → replacements (utf16Pieces (drop i s)) ≡ 0
+unfolding replacements
+count-end s i h = rw (pieces-end s i h)
+
+units-few : (l : List ℕ) → length (units l) ≤ length l
+unfolding units
+units-few [] = omega arith
+units-few (a ∷ []) = omega arith
+units-few (a ∷ b ∷ l) = omega (arith, units-few l)
+
+-- no more surrogates are unpaired than there are bytes
+pub utf16-few : (s : List ℕ) → replacements (utf16Pieces s) ≤ length s
+utf16-few s = omega (arith, read-most unitOf 0 (units s), units-few s)
 
 -- ---- what stands at i
 
@@ -46,44 +64,48 @@ module _ (s : List ℕ) (i : ℕ) (h : i + 1 < length s) where
   abbrev Us : List ℕ
   Us = units (drop (i + 2) s)
 
-  at-unit : utf16Text (drop i s) ≡ pieceText (unitOf U Us .piece) ++ piecesText (readFrom unitOf 0 (drop (unitOf U Us .more) Us))
-  unfolding utf16Text piecesText
+  at-unit : utf16Pieces (drop i s) ≡ unitOf U Us .piece ∷ readFrom unitOf 0 (drop (unitOf U Us .more) Us)
   at-unit = rw (units-next s i h, read-cons unitOf U Us)
 
-  -- one unit that is read as the piece p
-  one-unit : (v : ℕ) → pieceText (unitOf U Us .piece) ≡ utf8 v → unitOf U Us .more ≡ 0 → v < 0x110000 → Utf16Next s i v 2
-  unfolding utf16Text
-  one-unit v e m k = record {
-    here = at-unit ∙ rw (e, m);
-    fits = omega arith;
-    some = omega arith;
+  -- n bytes that are read as the piece p, whose text is that of v
+  read-as : (p : Piece) (v n : ℕ) → utf16Pieces (drop i s) ≡ p ∷ utf16Pieces (drop (i + n) s) → pieceText p ≡ utf8 v → i + n ≤ length s → 2 ≤ n → v < 0x110000 → Utf16Next s i v n (replacementsIn p)
+  unfolding utf16Text piecesText replacements
+  read-as p v n e t f m k = record {
+    here = ap piecesText e ∙ rw t;
+    fits = f;
+    some = m;
     scalar = k;
+    part = ap replacements e;
   }
 
-  module _ (u : ℕ) (q : u ≡ U) where
-    plain : within u highSurrogates ≡ false → within u lowSurrogates ≡ false → u < 0x110000 → Utf16Next s i u 2
-    unfolding unitOf pieceText
-    plain a b k = one-unit u (rw (← q, a, b)) (rw (← q, a)) k
+  -- one unit
+  one-unit : (p : Piece) (v : ℕ) → unitOf U Us ≡ record { piece = p; more = 0 } → pieceText p ≡ utf8 v → v < 0x110000 → Utf16Next s i v 2 (replacementsIn p)
+  one-unit p v e t k = read-as p v 2 (at-unit ∙ rw e) t (omega arith) (omega arith) k
 
-    pub below-surrogates : u < 0xD800 → Utf16Next s i u 2
+  module _ (u : ℕ) (q : u ≡ U) where
+    plain : within u highSurrogates ≡ false → within u lowSurrogates ≡ false → u < 0x110000 → Utf16Next s i u 2 0
+    unfolding unitOf pieceText
+    plain a b k = one-unit (scalar u) u (rw (← q, a, b)) refl k
+
+    pub below-surrogates : u < 0xD800 → Utf16Next s i u 2 0
     below-surrogates k = plain (short u highSurrogates k) (short u lowSurrogates (omega arith)) (omega arith)
 
-    pub above-surrogates : 0xDFFF < u → u < 0x10000 → Utf16Next s i u 2
+    pub above-surrogates : 0xDFFF < u → u < 0x10000 → Utf16Next s i u 2 0
     above-surrogates k l = plain (past u highSurrogates (omega arith)) (past u lowSurrogates k) (omega arith)
 
-    pub low-alone : 0xDC00 ≤ u → u ≤ 0xDFFF → Utf16Next s i 0xFFFD 2
+    pub low-alone : 0xDC00 ≤ u → u ≤ 0xDFFF → Utf16Next s i 0xFFFD 2 1
     unfolding unitOf pieceText
-    low-alone k l = one-unit 0xFFFD (rw (← q, past u highSurrogates k, inside u lowSurrogates k l)) (rw (← q, past u highSurrogates k)) (omega arith)
+    low-alone k l = one-unit malformed 0xFFFD (rw (← q, past u highSurrogates k, inside u lowSurrogates k l)) refl (omega arith)
 
     module _ (k : 0xD800 ≤ u) (l : u < 0xDC00) where
       is-high : within u highSurrogates ≡ true
       is-high = inside u highSurrogates k (omega arith)
 
-      alone : pairOf u Us ≡ record { piece = malformed; more = 0 } → Utf16Next s i 0xFFFD 2
+      alone : pairOf u Us ≡ record { piece = malformed; more = 0 } → Utf16Next s i 0xFFFD 2 1
       unfolding unitOf pieceText
-      alone e = one-unit 0xFFFD (rw (← q, is-high, e)) (rw (← q, is-high, e)) (omega arith)
+      alone e = one-unit malformed 0xFFFD (rw (← q, is-high, e)) refl (omega arith)
 
-      pub high-last : length s ≤ i + 3 → Utf16Next s i 0xFFFD 2
+      pub high-last : length s ≤ i + 3 → Utf16Next s i 0xFFFD 2 1
       unfolding pairOf
       high-last m = alone (rw (units-end s (i + 2) (omega arith)))
 
@@ -91,32 +113,27 @@ module _ (s : List ℕ) (i : ℕ) (h : i + 1 < length s) where
         after : Us ≡ v ∷ units (drop (i + 4) s)
         after = let e : i + 2 + 2 ≡ i + 4 = omega arith in units-next s (i + 2) (omega arith) ∙ rw (r, e)
 
-        pub high-below : v < 0xDC00 → Utf16Next s i 0xFFFD 2
+        pub high-below : v < 0xDC00 → Utf16Next s i 0xFFFD 2 1
         unfolding pairOf
         high-below x = alone (rw (after, short v lowSurrogates x))
 
-        pub high-above : 0xDFFF < v → Utf16Next s i 0xFFFD 2
+        pub high-above : 0xDFFF < v → Utf16Next s i 0xFFFD 2 1
         unfolding pairOf
         high-above x = alone (rw (after, past v lowSurrogates x))
 
-        pub pair : 0xDC00 ≤ v → v ≤ 0xDFFF → Utf16Next s i (0x10000 + (u - 0xD800) * 0x400 + (v - 0xDC00)) 4
-        unfolding utf16Text unitOf pairOf pieceText
-        pair x y = record {
-          here = at-unit ∙ rw (← q, is-high, after, inside v lowSurrogates x y);
-          fits = omega arith;
-          some = omega arith;
-          scalar = omega arith;
-        }
+        pub pair : 0xDC00 ≤ v → v ≤ 0xDFFF → Utf16Next s i (0x10000 + (u - 0xD800) * 0x400 + (v - 0xDC00)) 4 0
+        unfolding unitOf pairOf pieceText
+        pair x y = let w : ℕ = 0x10000 + (u - 0xD800) * 0x400 + (v - 0xDC00) in read-as (scalar w) w 4 (at-unit ∙ rw (← q, is-high, after, inside v lowSurrogates x y)) refl (omega arith) (omega arith) (omega arith)
 
 -- ---- how many bytes of the text a unit stands for, where a high surrogate before a low one has one, and the low one three, as if it were alone
 
 abbrev pub UnitLength : List ℕ → ℕ → ℕ → Type 0
 UnitLength s i n = length (utf16Text (drop i s)) ≡ n + length (utf16Text (drop (i + 2) s))
 
-by-value : (s : List ℕ) (i v n : ℕ) → Utf16Next s i v 2 → length (utf8 v) ≡ n → UnitLength s i n
+by-value : (s : List ℕ) (i v n : ℕ) {r : ℕ} → Utf16Next s i v 2 r → length (utf8 v) ≡ n → UnitLength s i n
 by-value s i v n t e = ap length (t .here) ∙ length-append (utf8 v) _ ∙ rw e
 
-pub replaced-length : (s : List ℕ) (i : ℕ) → Utf16Next s i 0xFFFD 2 → UnitLength s i 3
+pub replaced-length : (s : List ℕ) (i : ℕ) → Utf16Next s i 0xFFFD 2 1 → UnitLength s i 3
 unfolding utf8
 replaced-length s i t = by-value s i 0xFFFD 3 t refl
 

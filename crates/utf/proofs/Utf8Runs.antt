@@ -11,7 +11,7 @@ use borrow.Author.Tests.{ltb-true, ltb-false, leb-true}
 use lib.Dec.{T}
 use lib.ListN.{length, take, drop, getD, length-drop, drop-of-length-le, length-append}
 use lib.Seq.{drop-cons, drop-drop, take-add, take-at, length-take-le}
-use Rattle.unicode.specs.Unicode.{Piece, scalar, malformed, utf8, pieceText, piecesText, replacements, Range, Sequence, within, fit, First, firstBy, firstOf, sequenceIn, table-3-7, readFrom, utf8Pieces}
+use Rattle.unicode.specs.Unicode.{Piece, scalar, malformed, utf8, pieceText, piecesText, replacementsIn, replacements, Range, Sequence, within, fit, First, firstBy, firstOf, sequenceIn, table-3-7, readFrom, utf8Pieces}
 use Rattle.utf.specs.Utf8Code.{firstAt, isScalar, PieceAt, Good, Stop}
 use Rattle.unicode.specs.Unicode.{utf8Text}
 use Rattle.utf.specs.Ascii.{AsciiRun}
@@ -102,11 +102,21 @@ pub good-text : (n : ℕ) (l : List ℕ) → Good n l → utf8Text l ≡ take n 
 unfolding utf8Text
 good-text n l g = rw (g .split) (text-append (g .ps) (utf8Pieces (drop n l)) ∙ rw (g .text))
 
--- the text of the piece at i, and of what follows it
+pub good-count : (n : ℕ) (l : List ℕ) → Good n l → replacements (utf8Pieces l) ≡ replacements (utf8Pieces (drop n l))
+good-count n l g = rw (g .split) (replaced-append (g .ps) (utf8Pieces (drop n l)) ∙ omega (arith, g .none))
+
+-- the text of the piece at i, and of what follows it; and what is replaced
 module _ (s : List ℕ) (i n : ℕ) (ok : Bool) (h : i < length s) (p : PieceAt s i n ok) where
   pub piece-text : utf8Text (drop i s) ≡ pieceText (firstAt s i .piece) ++ utf8Text (drop (i + n) s)
   unfolding utf8Text piecesText firstAt
   piece-text =
+      let m : ℕ = firstOf (getD s i 0) (drop (suc i) s) .more in
+      let q : suc i + m ≡ i + n = omega (arith, p .0) in
+      rw (drop-cons s i 0 h, read-cons firstOf (getD s i 0) (drop (suc i) s), drop-drop m (suc i) s, q)
+
+  pub piece-count : replacements (utf8Pieces (drop i s)) ≡ replacementsIn (firstAt s i .piece) + replacements (utf8Pieces (drop (i + n) s))
+  unfolding replacements firstAt
+  piece-count =
       let m : ℕ = firstOf (getD s i 0) (drop (suc i) s) .more in
       let q : suc i + m ≡ i + n = omega (arith, p .0) in
       rw (drop-cons s i 0 h, read-cons firstOf (getD s i 0) (drop (suc i) s), drop-drop m (suc i) s, q)
@@ -126,6 +136,15 @@ unfolding pieceText
 replaced-text (scalar v) q = absurd (subst T q tt)
 replaced-text malformed q = refl
 
+-- a scalar value is not replaced, and a malformed part is
+kept-count : (p : Piece) → isScalar p ≡ true → replacementsIn p ≡ 0
+kept-count (scalar v) q = refl
+kept-count malformed q = absurd (subst T (sym q) tt)
+
+replaced-count : (p : Piece) → isScalar p ≡ false → replacementsIn p ≡ 1
+replaced-count (scalar v) q = absurd (subst T q tt)
+replaced-count malformed q = refl
+
 module _ (s : List ℕ) (i n : ℕ) where
   pub whole-text : i < length s → PieceAt s i n true → pieceText (firstAt s i .piece) ≡ take n (drop i s)
   unfolding firstAt
@@ -141,6 +160,12 @@ module _ (s : List ℕ) (i n : ℕ) where
   unfolding utf8
   broken-length p = ap length (broken-text p)
 
+  pub whole-count : PieceAt s i n true → replacementsIn (firstAt s i .piece) ≡ 0
+  whole-count p = kept-count (firstAt s i .piece) (sym (p .1))
+
+  pub broken-count : PieceAt s i n false → replacementsIn (firstAt s i .piece) ≡ 1
+  broken-count p = replaced-count (firstAt s i .piece) (sym (p .1))
+
 -- lengths
 pub good-length : (n : ℕ) (l : List ℕ) → Good n l → length (utf8Text l) ≡ n + length (utf8Text (drop n l))
 good-length n l g = ap length (good-text n l g) ∙ length-append (take n l) _ ∙ rw (length-take-le n l (g .fits))
@@ -155,6 +180,10 @@ module _ (s : List ℕ) (i n : ℕ) (h : i < length s) where
 pub text-end : (s : List ℕ) (i : ℕ) → length s ≤ i → utf8Text (drop i s) ≡ []
 unfolding utf8Text readFrom piecesText
 text-end s i h = rw (drop-of-length-le s h)
+
+pub count-end : (s : List ℕ) (i : ℕ) → length s ≤ i → replacements (utf8Pieces (drop i s)) ≡ 0
+unfolding readFrom replacements
+count-end s i h = rw (drop-of-length-le s h)
 
 -- ---- ASCII
 

@@ -5,7 +5,7 @@ use mathlib.Core.List.{List, [], _∷_}
 use mathlib.Core.Path.{_≡_}
 use lib.ListN.{length, drop, getD}
 use Rattle.buffer.specs.Filling.{Filling}
-use Rattle.unicode.specs.Unicode.{within, trail, utf8Text}
+use Rattle.unicode.specs.Unicode.{within, trail, replacements, utf8Pieces, utf8Text}
 
 -- no byte of l is a trail byte
 abbrev pub NoTrail : List ℕ → Type 0
@@ -28,7 +28,9 @@ pub record PartLength (s : List ℕ) (n m : ℕ) : Type 0 where
   pub text : length (utf8Text s) ≡ m + length (utf8Text (drop n s))
   pub most : m ≤ 3 * n
 
--- Of the text of s, as far as it is read from the first n bytes, m bytes stand at the beginning of a buffer, which was d and is out
-pub record Wrote (s d out : List ℕ) (n m : ℕ) : Type 0 where
+-- Of the text of s, as far as it is read from the first n bytes, m bytes stand at the beginning of a buffer, which was d and is out; r parts of
+-- these bytes were replaced
+pub record Wrote (s d out : List ℕ) (n m r : ℕ) : Type 0 where
   pub fits : n ≤ length s
   pub filling : Filling (utf8Text s) d (utf8Text (drop n s)) out m
+  pub parts : replacements (utf8Pieces s) ≡ r + replacements (utf8Pieces (drop n s))

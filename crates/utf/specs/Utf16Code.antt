@@ -7,18 +7,19 @@ use mathlib.Core.Path.{_≡_}
 use lib.Dec.{leb, eqb}
 use lib.ListN.{length, drop, getD}
 use Rattle.buffer.specs.Filling.{Filling}
-use Rattle.unicode.specs.Unicode.{range, within, utf8, utf16Text}
+use Rattle.unicode.specs.Unicode.{range, within, utf8, replacements, utf16Pieces, utf16Text}
 
 -- the code unit at i
 abbrev pub unitAt : List ℕ → ℕ → ℕ
 unitAt s i = getD s i 0 * 256 + getD s (i + 1) 0
 
--- At i the text goes on with the scalar value v, and then with what stands n bytes further
-pub record Utf16Next (s : List ℕ) (i v n : ℕ) : Type 0 where
+-- At i the text goes on with the scalar value v, and then with what stands n bytes further; r is 1 where v stands for an unpaired surrogate, else 0
+pub record Utf16Next (s : List ℕ) (i v n r : ℕ) : Type 0 where
   pub here : utf16Text (drop i s) ≡ utf8 v ++ utf16Text (drop (i + n) s)
   pub fits : i + n ≤ length s
   pub some : 2 ≤ n
   pub scalar : v < 0x110000
+  pub part : replacements (utf16Pieces (drop i s)) ≡ r + replacements (utf16Pieces (drop (i + n) s))
 
 abbrev pub bitOf : Bool → ℕ
 bitOf x = cond x 1 0
@@ -77,6 +78,7 @@ Laid s f g n k = (j : ℕ) → j < k → LaidAt s j (getD f j 0) (getD g j 0) (g
 abbrev pub BlockEnd : List ℕ → ℕ → Type 0
 BlockEnd s r = ((r ≡ 128) × (within (getD s 128 0) (range 0xD8 0xDB) ≡ false)) ⊎ ((r ≡ 126) × (within (getD s 128 0) (range 0xD8 0xDB) ≡ true))
 
--- the text after the first unit of s is written into d, which is now `out`, up to the unit that begins `read` bytes on
+-- the text after the first unit of s is written into d, which is now `out`, up to the unit that begins `read` bytes on; nothing was replaced
 abbrev pub AfterFirst : List ℕ → List ℕ → List ℕ → ℕ → ℕ → Type 0
-AfterFirst s d out read written = Filling (utf16Text (drop 2 s)) d (utf16Text (drop (read + 2) s)) out written
+AfterFirst s d out read written =
+    Filling (utf16Text (drop 2 s)) d (utf16Text (drop (read + 2) s)) out written × (replacements (utf16Pieces (drop 2 s)) ≡ replacements (utf16Pieces (drop (read + 2) s)))

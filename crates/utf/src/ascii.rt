@@ -169,7 +169,7 @@ fn copy_32(s: &[u8], out: &mut [u8])
 // In whole blocks of 32 bytes.
 fn copy_ascii_32s(s: &[u8], out: &mut [u8]) -> usize
     requires { ⌜ length (utf8Text (now s)) ≤ length (now out) ⌝ }
-    ensures { λ r. ⌜ Wrote (now (s .entry)) (now (out .entry)) (now (out .exit)) r r ⌝ }
+    ensures { λ r. ⌜ Wrote (now (s .entry)) (now (out .entry)) (now (out .exit)) r r 0 ⌝ }
 {
     let mut i = 0;
     loop {
@@ -189,7 +189,7 @@ fn copy_ascii_32s(s: &[u8], out: &mut [u8]) -> usize
 // will be written over, since the text is at least as long as what it is read from.
 fn copy_ascii_8s(s: &[u8], out: &mut [u8]) -> usize
     requires { ⌜ length (utf8Text (now s)) ≤ length (now out) ⌝ }
-    ensures { λ r. ⌜ Wrote (now (s .entry)) (now (out .entry)) (now (out .exit)) r r ⌝ }
+    ensures { λ r. ⌜ Wrote (now (s .entry)) (now (out .entry)) (now (out .exit)) r r 0 ⌝ }
 {
     let mut i = 0;
     loop {
@@ -225,7 +225,7 @@ fn copy_ascii_bytes(s: &[u8], out: &mut [u8]) -> usize
 // Up to the first byte that is not ASCII. Where one of the first eight is none, no larger block is looked at.
 pub fn copy_ascii(s: &[u8], out: &mut [u8]) -> usize
     requires { ⌜ length (utf8Text (now s)) ≤ length (now out) ⌝ }
-    ensures { λ r. ⌜ Wrote (now (s .entry)) (now (out .entry)) (now (out .exit)) r r ⌝ }
+    ensures { λ r. ⌜ Wrote (now (s .entry)) (now (out .entry)) (now (out .exit)) r r 0 ⌝ }
 {
     if s.len() < 8 {
         return copy_ascii_bytes(s, out);

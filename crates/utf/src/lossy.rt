@@ -9,6 +9,7 @@ use super::utf8::common_at;
 use super::utf8::first_at;
 use super::utf8::run_of;
 use super::utf8::step_at;
+use buffer::Written;
 use buffer::copy;
 ghost use mathlib.Core.Bool.{true, false};
 ghost use mathlib.Core.List.{List};
@@ -16,7 +17,7 @@ ghost use mathlib.Core.Path.{_≡_};
 ghost use Prim.Native.Nat.{ℕ, _+_, _<_, _≤_};
 ghost use lib.ListN.{length, take, drop, getD};
 ghost use Rattle.buffer.specs.Buffer.{overwritten};
-ghost use Rattle.unicode.specs.Unicode.{utf8, pieceText, utf8Text};
+ghost use Rattle.unicode.specs.Unicode.{utf8, pieceText, replacements, utf8Pieces, utf8Text};
 ghost use Rattle.utf.specs.Utf8Code.{firstAt, Coded, PieceAt};
 ghost use Rattle.utf.specs.Lossy.{Lone, PartLength, Wrote};
 
@@ -189,52 +190,72 @@ fn write_piece(s: &[u8], i: usize, out: &mut [u8]) -> Standing
     write_sequence(s, i, out)
 }
 
+// So many bytes are read, their text is so long, and so many parts of them were replaced.
+pub struct PartWritten {
+    pub bytes: usize,
+    pub len: usize,
+    pub replaced: usize,
+}
+
 // Writes the pieces at the beginning of s, one after the other: all, or up to a well-formed one, not ASCII, that ends 64 bytes after the last malformed part.
-fn write_some(s: &[u8], out: &mut [u8]) -> Part
+fn write_some(s: &[u8], out: &mut [u8]) -> PartWritten
     requires { ⌜ length (utf8Text (now s)) ≤ length (now out) ⌝ }
-    ensures { λ r. ⌜ Wrote (now (s .entry)) (now (out .entry)) (now (out .exit)) (r .bytes) (r .len) × (0 < length (now (s .entry)) → 0 < r .bytes) ⌝ }
+    ensures { λ r. ⌜ Wrote (now (s .entry)) (now (out .entry)) (now (out .exit)) (r .bytes) (r .len) (r .replaced) × (0 < length (now (s .entry)) → 0 < r .bytes) ⌝ }
 {
     let mut last = 0;
     let mut i = 0;
     let mut o = 0;
+    let mut replaced = 0;
     loop {
         let k = copy_ascii(&s[i..], &mut out[o..]);
         i += k;
         o += k;
         if s.len() <= i {
-            return Part { bytes: i, len: o };
+            return PartWritten {
+                bytes: i,
+                len: o,
+                replaced,
+            };
         }
         match write_piece(s, i, &mut out[o..]) {
-            Standing::Malformed(replaced) => {
-                i += replaced;
+            Standing::Malformed(bytes) => {
+                i += bytes;
                 o += 3;
+                replaced += 1;
                 last = i;
             }
             Standing::WellFormed(n) => {
                 i += n;
                 o += n;
                 if 64 <= i - last {
-                    return Part { bytes: i, len: o };
+                    return PartWritten {
+                        bytes: i,
+                        len: o,
+                        replaced,
+                    };
                 }
             }
         }
     }
 }
 
-// Writes the text of s into out, from its first byte, and returns the text's length: some pieces, then a run that is well-formed, and again.
-fn write_runs(s: &[u8], out: &mut [u8]) -> usize
+// Writes the text of s into out, from its first byte: some pieces, then a run that is well-formed, and again.
+fn write_runs(s: &[u8], out: &mut [u8]) -> Written
     requires { ⌜ length (utf8Text (now s)) ≤ length (now out) ⌝ }
-    ensures count { λ r. ⌜ r ≡ length (utf8Text (now (s .entry))) ⌝ }
+    ensures count { λ r. ⌜ r .len ≡ length (utf8Text (now (s .entry))) ⌝ }
     ensures bytes { λ _. ⌜ now (out .exit) ≡ overwritten (utf8Text (now (s .entry))) (now (out .entry)) ⌝ }
+    ensures replaced { λ r. ⌜ r .replaced ≡ replacements (utf8Pieces (now (s .entry))) ⌝ }
 {
     let mut i = 0;
     let mut o = 0;
+    let mut replaced = 0;
     loop {
         let p = write_some(&s[i..], &mut out[o..]);
         i += p.bytes;
         o += p.len;
+        replaced += p.replaced;
         if s.len() <= i {
-            return o;
+            return Written { len: o, replaced };
         }
         let g = good_blocks(&s[i..], 32);
         let e = i + g;
@@ -244,17 +265,26 @@ fn write_runs(s: &[u8], out: &mut [u8]) -> usize
     }
 }
 
-// Writes the text of s into out, from its first byte, and returns the text's length. What is well-formed, most often all, is copied at once.
-pub fn utf8_lossy_write(s: &[u8], out: &mut [u8]) -> usize
+// Writes the text of s into out, from its first byte. What is well-formed, most often all, is copied at once.
+pub fn utf8_lossy_write(s: &[u8], out: &mut [u8]) -> Written
     requires { ⌜ length (utf8Text (now s)) ≤ length (now out) ⌝ }
-    ensures count { λ r. ⌜ r ≡ length (utf8Text (now (s .entry))) ⌝ }
+    ensures count { λ r. ⌜ r .len ≡ length (utf8Text (now (s .entry))) ⌝ }
     ensures bytes { λ _. ⌜ now (out .exit) ≡ overwritten (utf8Text (now (s .entry))) (now (out .entry)) ⌝ }
+    ensures replaced { λ r. ⌜ r .replaced ≡ replacements (utf8Pieces (now (s .entry))) ⌝ }
 {
     let r = run_of(s);
     let e = r.end;
     copy(&s[0..e], out);
     if r.bad == 0 {
-        return e;
+        return Written {
+            len: e,
+            replaced: 0,
+        };
     }
-    e + write_runs(&s[e..], &mut out[e..])
+    let w = write_runs(&s[e..], &mut out[e..]);
+    let len = e + w.len;
+    Written {
+        len,
+        replaced: w.replaced,
+    }
 }

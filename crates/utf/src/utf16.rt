@@ -1,6 +1,7 @@
 // UTF-16, big-endian, read with one U+FFFD for each unpaired surrogate.
 use super::blocks::between;
 use super::scalar::write_scalar;
+use buffer::Written;
 ghost use mathlib.Core.Path.{_≡_};
 ghost use mathlib.Core.Bool.{false, cond};
 ghost use Prim.Native.Nat.{ℕ, _+_, _%_, _<_, _≤_};
@@ -8,12 +9,13 @@ ghost use lib.ListN.{length, drop, getD, replicate};
 ghost use Rattle.buffer.specs.Buffer.{overwritten};
 ghost use Rattle.buffer.specs.Filling.{Filling};
 ghost use Rattle.utf.specs.Utf16Code.{unitAt, Utf16Next, bitOf, Extra, starts, takesThree, unitBytes, Counted, Laid, BlockEnd, AfterFirst};
-ghost use Rattle.unicode.specs.Unicode.{range, within, utf16Text};
+ghost use Rattle.unicode.specs.Unicode.{range, within, replacements, utf16Pieces, utf16Text};
 
-// A scalar value, and how many bytes it takes.
+// A scalar value, how many bytes it takes, and whether it is U+FFFD for an unpaired surrogate, as 1 or 0.
 pub struct Next {
     pub value: u32,
     pub len: usize,
+    pub replaced: usize,
 }
 
 fn wide(b: u8) -> u32
@@ -35,12 +37,13 @@ fn unit_at(s: &[u8], i: usize) -> u32
 // The scalar value at i, where the high surrogate u stands.
 fn pair_at(s: &[u8], i: usize, u: u32) -> Next
     requires { ⌜ (i + 1 < length (now s)) × ((u ≡ unitAt (now s) i) × ((0xD800 ≤ u) × (u < 0xDC00))) ⌝ }
-    ensures { λ r. ⌜ Utf16Next (now (s .entry)) i (r .value) (r .len) ⌝ }
+    ensures { λ r. ⌜ Utf16Next (now (s .entry)) i (r .value) (r .len) (r .replaced) ⌝ }
 {
     if s.len() <= i + 3 {
         return Next {
             value: 0xFFFD,
             len: 2,
+            replaced: 1,
         };
     }
     let v = unit_at(s, i + 2);
@@ -48,24 +51,27 @@ fn pair_at(s: &[u8], i: usize, u: u32) -> Next
         return Next {
             value: 0xFFFD,
             len: 2,
+            replaced: 1,
         };
     }
     if v > 0xDFFF {
         return Next {
             value: 0xFFFD,
             len: 2,
+            replaced: 1,
         };
     }
     Next {
         value: 0x10000 + (u - 0xD800) * 0x400 + (v - 0xDC00),
         len: 4,
+        replaced: 0,
     }
 }
 
 // The surrogate u stands at i: the scalar value there, or U+FFFD where it is unpaired; and any unit from E000 on.
 fn above_at(s: &[u8], i: usize, u: u32) -> Next
     requires { ⌜ (i + 1 < length (now s)) × ((u ≡ unitAt (now s) i) × ((0xD800 ≤ u) × (u < 0x10000))) ⌝ }
-    ensures { λ r. ⌜ Utf16Next (now (s .entry)) i (r .value) (r .len) ⌝ }
+    ensures { λ r. ⌜ Utf16Next (now (s .entry)) i (r .value) (r .len) (r .replaced) ⌝ }
 {
     if u < 0xDC00 {
         return pair_at(s, i, u);
@@ -74,9 +80,14 @@ fn above_at(s: &[u8], i: usize, u: u32) -> Next
         return Next {
             value: 0xFFFD,
             len: 2,
+            replaced: 1,
         };
     }
-    Next { value: u, len: 2 }
+    Next {
+        value: u,
+        len: 2,
+        replaced: 0,
+    }
 }
 
 // How many bytes of the text the unit at i stands for. A pair has four: one for the high surrogate, and three for the low one, as if it were alone.
@@ -396,45 +407,60 @@ fn write_blocks(s: &[u8], out: &mut [u8]) -> Progress
 // The scalar value at i.
 fn next_at(s: &[u8], i: usize) -> Next
     requires { ⌜ i + 1 < length (now s) ⌝ }
-    ensures { λ r. ⌜ Utf16Next (now (s .entry)) i (r .value) (r .len) ⌝ }
+    ensures { λ r. ⌜ Utf16Next (now (s .entry)) i (r .value) (r .len) (r .replaced) ⌝ }
 {
     let u = unit_at(s, i);
     if u < 0xD800 {
-        return Next { value: u, len: 2 };
+        return Next {
+            value: u,
+            len: 2,
+            replaced: 0,
+        };
     }
     above_at(s, i, u)
 }
 
+// How many bytes were read and written, and how many unpaired surrogates were replaced.
+pub struct Begun {
+    pub read: usize,
+    pub written: usize,
+    pub replaced: usize,
+}
+
 // Writes the beginning of a long text: its first scalar value, and then blocks, for as long as the kinds of its characters alternate.
-fn write_varied(s: &[u8], out: &mut [u8]) -> Progress
+fn write_varied(s: &[u8], out: &mut [u8]) -> Begun
     requires { ⌜ length (utf16Text (now s)) ≤ length (now out) ⌝ }
-    ensures { λ r. ⌜ Filling (utf16Text (now (s .entry))) (now (out .entry)) (utf16Text (drop (r .read) (now (s .entry)))) (now (out .exit)) (r .written) × (r .read ≤ length (now (s .entry))) ⌝ }
+    ensures { λ r. ⌜ Filling (utf16Text (now (s .entry))) (now (out .entry)) (utf16Text (drop (r .read) (now (s .entry)))) (now (out .exit)) (r .written) × ((r .read ≤ length (now (s .entry))) × (replacements (utf16Pieces (now (s .entry))) ≡ r .replaced + replacements (utf16Pieces (drop (r .read) (now (s .entry)))))) ⌝ }
 {
     if s.len() < 16384 {
-        return Progress {
+        return Begun {
             read: 0,
             written: 0,
+            replaced: 0,
         };
     }
     let t = next_at(s, 0);
     let n = write_scalar(t.value, out);
     let k = t.len - 2;
     let v = write_blocks(&s[k..], &mut out[n..]);
-    Progress {
+    Begun {
         read: k + 2 + v.read,
         written: n + v.written,
+        replaced: t.replaced,
     }
 }
 
-// Writes the text of s into out, from its first byte, and returns its length. The units below the surrogates, most of them, go by themselves.
-pub fn utf16_lossy_write(s: &[u8], out: &mut [u8]) -> usize
+// Writes the text of s into out, from its first byte. The units below the surrogates, most of them, go by themselves.
+pub fn utf16_lossy_write(s: &[u8], out: &mut [u8]) -> Written
     requires { ⌜ length (utf16Text (now s)) ≤ length (now out) ⌝ }
-    ensures count { λ r. ⌜ r ≡ length (utf16Text (now (s .entry))) ⌝ }
+    ensures count { λ r. ⌜ r .len ≡ length (utf16Text (now (s .entry))) ⌝ }
     ensures bytes { λ _. ⌜ now (out .exit) ≡ overwritten (utf16Text (now (s .entry))) (now (out .entry)) ⌝ }
+    ensures replaced { λ r. ⌜ r .replaced ≡ replacements (utf16Pieces (now (s .entry))) ⌝ }
 {
     let t = write_varied(s, out);
     let mut o = t.written;
     let mut i = t.read;
+    let mut replaced = t.replaced;
     while i + 1 < s.len() {
         let u = unit_at(s, i);
         if u < 0xD800 {
@@ -445,6 +471,7 @@ pub fn utf16_lossy_write(s: &[u8], out: &mut [u8]) -> usize
         let t = above_at(s, i, u);
         o += write_scalar(t.value, &mut out[o..]);
         i += t.len;
+        replaced += t.replaced;
     }
-    o
+    Written { len: o, replaced }
 }

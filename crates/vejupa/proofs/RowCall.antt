@@ -45,29 +45,29 @@ found : (x : Option (List ColumnDescriptor)) (k : Bool) → Columns k ≡ checke
 found (some cs) k h = record { columns = cs; read = refl; floats = cc }
 found none k h = let z : _≡_ {A = ℕ} 0 1 = cc in absurd (omega arith)
 
--- what the call hands out: its number, the bytes used, the texts' length, refusal 8's values, the words of values and the text buffer
-abbrev pub Handed : OnWords → List ℕ → List ℕ → ℕ → ℕ → ℕ → ℕ → ℕ → List ℕ → List ℕ → Type 0
-Handed e v d r n m x y words out =
-    (r ≡ rowNumbers e .returned) × ((n ≡ rowNumbers e .used) × ((m ≡ rowNumbers e .textLength) × ((x ≡ rowNumbers e .expected) × ((y ≡ rowNumbers e .actual) × ((words ≡ wordsLeft e v) × (out ≡ textLeft e d))))))
+-- what the call hands out: its number, the bytes used, the texts' length, refusal 8's values, the words of values, the text buffer and how many U+FFFD were put in
+abbrev pub Handed : OnWords → List ℕ → List ℕ → ℕ → ℕ → ℕ → ℕ → ℕ → List ℕ → List ℕ → ℕ → Type 0
+Handed e v d r n m x y words out k =
+    (r ≡ rowNumbers e .returned) × ((n ≡ rowNumbers e .used) × ((m ≡ rowNumbers e .textLength) × ((x ≡ rowNumbers e .expected) × ((y ≡ rowNumbers e .actual) × ((words ≡ wordsLeft e v) × ((out ≡ textLeft e d) × (k ≡ rowNumbers e .replaced)))))))
 
 module _ (w s v d : List ℕ) where
-  pub too-many : maxColumns < length w / 2 → Handed (wordsDecision w s v d) v d 3 0 0 0 0 v d
+  pub too-many : maxColumns < length w / 2 → Handed (wordsDecision w s v d) v d 3 0 0 0 0 v d 0
   unfolding wordsDecision textAfter
-  too-many h = rw (lt-ltb maxColumns (length w / 2) h) (refl, (refl, (refl, (refl, (refl, (refl, refl))))))
+  too-many h = rw (lt-ltb maxColumns (length w / 2) h) (refl, (refl, (refl, (refl, (refl, (refl, (refl, refl)))))))
 
   module _ (few : length w / 2 ≤ maxColumns) where
-    pub too-few : length v < 3 * (length w / 2) → Handed (wordsDecision w s v d) v d tooFewNumber 0 0 0 0 v d
+    pub too-few : length v < 3 * (length w / 2) → Handed (wordsDecision w s v d) v d tooFewNumber 0 0 0 0 v d 0
     unfolding wordsDecision textAfter
-    too-few h = rw (le-ltb maxColumns (length w / 2) few, lt-ltb (length v) (3 * (length w / 2)) h) (refl, (refl, (refl, (refl, (refl, (refl, refl))))))
+    too-few h = rw (le-ltb maxColumns (length w / 2) few, lt-ltb (length v) (3 * (length w / 2)) h) (refl, (refl, (refl, (refl, (refl, (refl, (refl, refl)))))))
 
     module _ (room : 3 * (length w / 2) ≤ length v) where
       by-columns : wordsDecision w s v d ≡ decisionFor (readColumns w) s d
       unfolding wordsDecision
       by-columns = rw (le-ltb maxColumns (length w / 2) few, le-ltb (length v) (3 * (length w / 2)) room)
 
-      pub no-column : NoColumn ≡ checkedOf (readColumns w) → Handed (wordsDecision w s v d) v d noColumnNumber 0 0 0 0 v d
+      pub no-column : NoColumn ≡ checkedOf (readColumns w) → Handed (wordsDecision w s v d) v d noColumnNumber 0 0 0 0 v d 0
       unfolding textAfter
-      no-column h = rw (by-columns, no-columns (readColumns w) h) (refl, (refl, (refl, (refl, (refl, (refl, refl))))))
+      no-column h = rw (by-columns, no-columns (readColumns w) h) (refl, (refl, (refl, (refl, (refl, (refl, (refl, refl)))))))
 
       module _ (k : Bool) (h : Columns k ≡ checkedOf (readColumns w)) where
         here : Found (readColumns w) k
@@ -83,19 +83,19 @@ module _ (w s v d : List ℕ) where
         unfolding columnList
         count-fits = omega (arith, few, named-length w, ap length named)
 
-        pub too-long : inputLimit < length s → Handed (wordsDecision w s v d) v d 4 0 0 0 0 v d
+        pub too-long : inputLimit < length s → Handed (wordsDecision w s v d) v d 4 0 0 0 0 v d 0
         unfolding rowDecision textAfter
         too-long l =
             rw (as-row, le-ltb maxColumns (columnList (here .columns) .count) count-fits, lt-ltb inputLimit (length s) l)
-            (refl, (refl, (refl, (refl, (refl, (refl, refl))))))
+            (refl, (refl, (refl, (refl, (refl, (refl, (refl, refl)))))))
 
         module _ (short : length s ≤ inputLimit) where
-          pub dec-float : k ≡ true → Handed (wordsDecision w s v d) v d 5 0 0 0 0 v d
+          pub dec-float : k ≡ true → Handed (wordsDecision w s v d) v d 5 0 0 0 0 v d 0
           unfolding rowDecision textAfter
           dec-float l =
               let e : anyDecFloat (covered (columnList (here .columns))) ≡ true = rw (covered-list (here .columns)) (sym (here .floats) ∙ l) in
               rw (as-row, le-ltb maxColumns (columnList (here .columns) .count) count-fits, le-ltb inputLimit (length s) short, e)
-              (refl, (refl, (refl, (refl, (refl, (refl, refl))))))
+              (refl, (refl, (refl, (refl, (refl, (refl, (refl, refl)))))))
 
           module _ (l : k ≡ false) where
             as-body : wordsDecision w s v d ≡ decided (bodyDecision ported (columnsNamed w) (skipOf s) s d)
@@ -108,13 +108,13 @@ module _ (w s v d : List ℕ) where
 
             -- what the row after these tests leaves
             module _ (words out : List ℕ) (vs : words ≡ valuesAfter (bodyDecision ported (columnsNamed w) (skipOf s) s d) v) (ts : out ≡ textAfter ported (bodyDecision ported (columnsNamed w) (skipOf s) s d) d) where
-              pub accepted-row : (used m : ℕ) → Says (Accepted used m) (bodyDecision ported (columnsNamed w) (skipOf s) s d) → Handed (wordsDecision w s v d) v d 0 used m 0 0 words out
-              accepted-row used m a =
+              pub accepted-row : (used m replaced : ℕ) → Says (Accepted used m replaced) (bodyDecision ported (columnsNamed w) (skipOf s) s d) → Handed (wordsDecision w s v d) v d 0 used m 0 0 words out replaced
+              accepted-row used m replaced a =
                   let e = a .1 .0 in
-                  rw (as-body, e) (refl, (refl, (a .1 .1, (refl, (refl, (rw e at vs, rw e at ts))))))
+                  rw (as-body, e) (refl, (refl, (a .1 .1 .0, (refl, (refl, (rw e at vs, (rw e at ts, a .1 .1 .1)))))))
 
-              pub too-short : (x y : ℕ) → Says (TooShort x y) (bodyDecision ported (columnsNamed w) (skipOf s) s d) → Handed (wordsDecision w s v d) v d 8 0 0 x y words out
-              too-short x y e = rw (as-body, e) (refl, (refl, (refl, (refl, (refl, (rw e at vs, rw e at ts))))))
+              pub too-short : (x y : ℕ) → Says (TooShort x y) (bodyDecision ported (columnsNamed w) (skipOf s) s d) → Handed (wordsDecision w s v d) v d 8 0 0 x y words out 0
+              too-short x y e = rw (as-body, e) (refl, (refl, (refl, (refl, (refl, (rw e at vs, (rw e at ts, refl)))))))
 
-              pub text-short : (x : ℕ) → Says (TextTooShort x) (bodyDecision ported (columnsNamed w) (skipOf s) s d) → Handed (wordsDecision w s v d) v d 9 0 x 0 0 words out
-              text-short x e = rw (as-body, e) (refl, (refl, (refl, (refl, (refl, (rw e at vs, rw e at ts))))))
+              pub text-short : (x : ℕ) → Says (TextTooShort x) (bodyDecision ported (columnsNamed w) (skipOf s) s d) → Handed (wordsDecision w s v d) v d 9 0 x 0 0 words out 0
+              text-short x e = rw (as-body, e) (refl, (refl, (refl, (refl, (refl, (rw e at vs, (rw e at ts, refl)))))))

@@ -98,6 +98,11 @@ module _ (cs : List ColumnDescriptor) (fit : AllFit cs) (few : length cs ≤ max
   told-length (refuse n vs) = refl
   told-length (accept ps n) = sym (filled-together ported ps)
 
+  told-replaced : (e : Decision) → rowNumbers (decided e) .replaced ≡ answerOf ported e .replaced
+  unfolding answerOf
+  told-replaced (refuse n vs) = refl
+  told-replaced (accept ps n) = refl
+
   told-expected : (e : Decision) → rowNumbers (decided e) .expected ≡ besideAnswer 8 0 (answerOf ported e .outcome) 0
   unfolding answerOf
   told-expected (refuse n vs) = refl
@@ -108,8 +113,8 @@ module _ (cs : List ColumnDescriptor) (fit : AllFit cs) (few : length cs ≤ max
   told-actual (refuse n vs) = refl
   told-actual (accept ps n) = refl
 
-  -- the number returned is that of decode_row's outcome, and the bytes used are its; the texts' length is that of the texts that it hands out, or with refusal 9
-  -- its value; refusal 8's values are its values
+  -- the number returned is that of decode_row's outcome, and the bytes used and what was replaced are its; the texts' length is that of the texts that it hands
+  -- out, or with refusal 9 its value; refusal 8's values are its values
   pub same-number : rowNumbers (wordsDecision (packColumns cs) s v d) .returned ≡ toldNumber (rowAnswer (columnList cs) s d .outcome)
   unfolding rowAnswer
   same-number = rw same-decision (told-returned (rowDecision ported (columnList cs) s d))
@@ -121,6 +126,10 @@ module _ (cs : List ColumnDescriptor) (fit : AllFit cs) (few : length cs ≤ max
   pub same-text-length : rowNumbers (wordsDecision (packColumns cs) s v d) .textLength ≡ besideAnswer 9 0 (rowAnswer (columnList cs) s d .outcome) (textsTogether (rowAnswer (columnList cs) s d .places))
   unfolding rowAnswer
   same-text-length = rw same-decision (told-length (rowDecision ported (columnList cs) s d))
+
+  pub same-replaced : rowNumbers (wordsDecision (packColumns cs) s v d) .replaced ≡ rowAnswer (columnList cs) s d .replaced
+  unfolding rowAnswer
+  same-replaced = rw same-decision (told-replaced (rowDecision ported (columnList cs) s d))
 
   pub same-expected : rowNumbers (wordsDecision (packColumns cs) s v d) .expected ≡ besideAnswer 8 0 (rowAnswer (columnList cs) s d .outcome) 0
   unfolding rowAnswer

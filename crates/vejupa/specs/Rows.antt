@@ -7,7 +7,7 @@ use lib.Dec.{ltb}
 use lib.ListN.{length, getD}
 use Rattle.types.specs.declared.ColumnDescriptor.{ColumnDescriptor}
 use Rattle.types.specs.Places.{maxColumns, columnList}
-use Rattle.rules.specs.Row.{Decision, refuse, accept, rowTexts, rowDecision, textAfter}
+use Rattle.rules.specs.Row.{Decision, refuse, accept, rowTexts, rowReplaced, rowDecision, textAfter}
 use Rattle.rules.specs.Conversions.{ported}
 use Rattle.rules.specs.Value.{valueBytes}
 use Rattle.words.specs.Reading.{readColumns}
@@ -31,18 +31,19 @@ wordsDecision w s v d =
     (cond (ltb (length v) (3 * (length w / 2))) (ofWords tooFewNumber)
     (decisionFor (readColumns w) s d))
 
--- the numbers that the call hands out: the one returned, the bytes used, the length of the texts together (written, or needed with refusal 9), refusal 8's values
+-- the numbers that the call hands out: the one returned, the bytes used, the length of the texts (written, or needed with refusal 9), the U+FFFD put in, refusal 8's
 pub record RowNumbers : Type 0 where
   pub returned : ℕ
   pub used : ℕ
   pub textLength : ℕ
+  pub replaced : ℕ
   pub expected : ℕ
   pub actual : ℕ
 
 abbrev pub rowNumbers : OnWords → RowNumbers
-rowNumbers (ofWords n) = record { returned = n; used = 0; textLength = 0; expected = 0; actual = 0 }
-rowNumbers (decided (refuse n vs)) = record { returned = n; used = 0; textLength = valueWith 9 0 n vs; expected = valueWith 8 0 n vs; actual = valueWith 8 1 n vs }
-rowNumbers (decided (accept ps n)) = record { returned = 0; used = n; textLength = length (rowTexts ported ps); expected = 0; actual = 0 }
+rowNumbers (ofWords n) = record { returned = n; used = 0; textLength = 0; replaced = 0; expected = 0; actual = 0 }
+rowNumbers (decided (refuse n vs)) = record { returned = n; used = 0; textLength = valueWith 9 0 n vs; replaced = 0; expected = valueWith 8 0 n vs; actual = valueWith 8 1 n vs }
+rowNumbers (decided (accept ps n)) = record { returned = 0; used = n; textLength = length (rowTexts ported ps); replaced = rowReplaced ported ps; expected = 0; actual = 0 }
 
 -- what is left in the lent words v of values, and in the text buffer d
 abbrev pub wordsLeft : OnWords → List ℕ → List ℕ

@@ -23,9 +23,9 @@ use words::value_named;
 ghost use mathlib.Core.Path.{_≡_};
 ghost use mathlib.Core.Bool.{cond};
 ghost use Rattle.refusal.specs.Refusal.{toldNumber};
-ghost use Rattle.buffer.specs.Buffer.{toldText};
+ghost use Rattle.buffer.specs.Buffer.{unreplaced, toldText};
 ghost use Rattle.unicode.specs.Likely.{likelyText};
-ghost use Rattle.conversion.specs.Conversion.{characterText, graphicText, locatorText, rowIdText};
+ghost use Rattle.conversion.specs.Conversion.{characterText, graphicText, fromCharacters, fromGraphics, locatorText, rowIdText};
 ghost use Rattle.text.specs.Text.{conversionAnswer, conversionBuffer};
 ghost use Rattle.decimal.specs.Decimal.{decimalAnswer, decimalBuffer};
 ghost use Rattle.qrydsc.specs.Qrydsc.{description};
@@ -41,13 +41,13 @@ const NO_TYPE_WORD: u32 = 102;
 
 const NO_COLUMN: u32 = 102;
 
-// The version of these calls, 0.2.0 as 10000 * 0 + 100 * 2 + 0. The number stands in the name, which include/vejupa.h and bindings/rust refer to: what was
+// The version of these calls, 0.3.0 as 10000 * 0 + 100 * 3 + 0. The number stands in the name, which include/vejupa.h and bindings/rust refer to: what was
 // compiled for another version does not link.
 #[no_mangle]
-pub extern "C" fn vejupa_version_0_2_0() -> u32
-    ensures { λ r. ⌜ r ≡ 200 ⌝ }
+pub extern "C" fn vejupa_version_0_3_0() -> u32
+    ensures { λ r. ⌜ r ≡ 300 ⌝ }
 {
-    200
+    300
 }
 
 // Hands out an answer: its number returned, in text_length how long the text is, written or needed.
@@ -68,36 +68,50 @@ fn report(a: TextAnswer, text_length: &mut usize) -> u32
     }
 }
 
-// The text of a character value, by its CCSID.
+// The same with a third number: in replaced how many U+FFFD were put in for what was malformed.
+fn report_replaced(a: TextAnswer, text_length: &mut usize, replaced: &mut usize) -> u32
+    ensures number { λ r. ⌜ r ≡ toldNumber (toldText a .outcome) ⌝ }
+    ensures length { λ _. ⌜ now («text_length» .exit) ≡ lengthTold (toldText a) ⌝ }
+    ensures replaced { λ _. ⌜ now (replaced .exit) ≡ toldText a .replaced ⌝ }
+{
+    *replaced = a.replaced;
+    report(a, text_length)
+}
+
+// The text of a character value, by its CCSID; in replaced how many U+FFFD were put in for what was malformed.
 #[no_mangle]
 pub extern "C" fn vejupa_raw_decode_character_bytes(
     data: &[u8],
     ccsid: u16,
     text: &mut [u8],
     text_length: &mut usize,
+    replaced: &mut usize,
 ) -> u32
-    ensures number { λ r. ⌜ r ≡ toldNumber (conversionAnswer (now («data» .entry)) (characterText ccsid (now («data» .entry))) (now (text .entry)) .outcome) ⌝ }
-    ensures length { λ _. ⌜ now («text_length» .exit) ≡ lengthTold (conversionAnswer (now («data» .entry)) (characterText ccsid (now («data» .entry))) (now (text .entry))) ⌝ }
+    ensures number { λ r. ⌜ r ≡ toldNumber (conversionAnswer (now («data» .entry)) (fromCharacters ccsid (now («data» .entry))) (now (text .entry)) .outcome) ⌝ }
+    ensures length { λ _. ⌜ now («text_length» .exit) ≡ lengthTold (conversionAnswer (now («data» .entry)) (fromCharacters ccsid (now («data» .entry))) (now (text .entry))) ⌝ }
     ensures buffer { λ _. ⌜ now (text .exit) ≡ conversionBuffer (now («data» .entry)) (characterText ccsid (now («data» .entry))) (now (text .entry)) ⌝ }
+    ensures replaced { λ _. ⌜ now (replaced .exit) ≡ conversionAnswer (now («data» .entry)) (fromCharacters ccsid (now («data» .entry))) (now (text .entry)) .replaced ⌝ }
 {
     let a = text::decode_character_bytes(data, ccsid, text);
-    report(a, text_length)
+    report_replaced(a, text_length, replaced)
 }
 
-// The text of a graphic value, by its CCSID.
+// The same for a graphic value.
 #[no_mangle]
 pub extern "C" fn vejupa_raw_decode_graphic_bytes(
     data: &[u8],
     ccsid: u16,
     text: &mut [u8],
     text_length: &mut usize,
+    replaced: &mut usize,
 ) -> u32
-    ensures number { λ r. ⌜ r ≡ toldNumber (conversionAnswer (now («data» .entry)) (graphicText ccsid (now («data» .entry))) (now (text .entry)) .outcome) ⌝ }
-    ensures length { λ _. ⌜ now («text_length» .exit) ≡ lengthTold (conversionAnswer (now («data» .entry)) (graphicText ccsid (now («data» .entry))) (now (text .entry))) ⌝ }
+    ensures number { λ r. ⌜ r ≡ toldNumber (conversionAnswer (now («data» .entry)) (fromGraphics ccsid (now («data» .entry))) (now (text .entry)) .outcome) ⌝ }
+    ensures length { λ _. ⌜ now («text_length» .exit) ≡ lengthTold (conversionAnswer (now («data» .entry)) (fromGraphics ccsid (now («data» .entry))) (now (text .entry))) ⌝ }
     ensures buffer { λ _. ⌜ now (text .exit) ≡ conversionBuffer (now («data» .entry)) (graphicText ccsid (now («data» .entry))) (now (text .entry)) ⌝ }
+    ensures replaced { λ _. ⌜ now (replaced .exit) ≡ conversionAnswer (now («data» .entry)) (fromGraphics ccsid (now («data» .entry))) (now (text .entry)) .replaced ⌝ }
 {
     let a = text::decode_graphic_bytes(data, ccsid, text);
-    report(a, text_length)
+    report_replaced(a, text_length, replaced)
 }
 
 // `LOB locator 0x` and the bytes in hexadecimal.
@@ -107,8 +121,8 @@ pub extern "C" fn vejupa_raw_format_lob_locator(
     text: &mut [u8],
     text_length: &mut usize,
 ) -> u32
-    ensures number { λ r. ⌜ r ≡ toldNumber (conversionAnswer (now (bytes .entry)) (locatorText (now (bytes .entry))) (now (text .entry)) .outcome) ⌝ }
-    ensures length { λ _. ⌜ now («text_length» .exit) ≡ lengthTold (conversionAnswer (now (bytes .entry)) (locatorText (now (bytes .entry))) (now (text .entry))) ⌝ }
+    ensures number { λ r. ⌜ r ≡ toldNumber (conversionAnswer (now (bytes .entry)) (unreplaced (locatorText (now (bytes .entry)))) (now (text .entry)) .outcome) ⌝ }
+    ensures length { λ _. ⌜ now («text_length» .exit) ≡ lengthTold (conversionAnswer (now (bytes .entry)) (unreplaced (locatorText (now (bytes .entry)))) (now (text .entry))) ⌝ }
     ensures buffer { λ _. ⌜ now (text .exit) ≡ conversionBuffer (now (bytes .entry)) (locatorText (now (bytes .entry))) (now (text .entry)) ⌝ }
 {
     let a = text::format_lob_locator(bytes, text);
@@ -122,8 +136,8 @@ pub extern "C" fn vejupa_raw_format_rowid(
     text: &mut [u8],
     text_length: &mut usize,
 ) -> u32
-    ensures number { λ r. ⌜ r ≡ toldNumber (conversionAnswer (now (bytes .entry)) (rowIdText (now (bytes .entry))) (now (text .entry)) .outcome) ⌝ }
-    ensures length { λ _. ⌜ now («text_length» .exit) ≡ lengthTold (conversionAnswer (now (bytes .entry)) (rowIdText (now (bytes .entry))) (now (text .entry))) ⌝ }
+    ensures number { λ r. ⌜ r ≡ toldNumber (conversionAnswer (now (bytes .entry)) (unreplaced (rowIdText (now (bytes .entry)))) (now (text .entry)) .outcome) ⌝ }
+    ensures length { λ _. ⌜ now («text_length» .exit) ≡ lengthTold (conversionAnswer (now (bytes .entry)) (unreplaced (rowIdText (now (bytes .entry)))) (now (text .entry))) ⌝ }
     ensures buffer { λ _. ⌜ now (text .exit) ≡ conversionBuffer (now (bytes .entry)) (rowIdText (now (bytes .entry))) (now (text .entry)) ⌝ }
 {
     let a = text::format_rowid(bytes, text);
@@ -214,8 +228,8 @@ pub extern "C" fn vejupa_raw_fixed_length(
 }
 
 // A row's values by columns that stand in words, two words a column: three words a value, texts in the text buffer. used are the bytes used,
-// text_length the bytes of the row's texts, written or with 9 needed; expected and actual are 8's values. A number that does not apply is 0. It makes no list
-// of 128 places.
+// text_length the bytes of the row's texts, written or with 9 needed; replaced are the U+FFFD that were put in for what was malformed; expected and actual are
+// 8's values. A number that does not apply is 0. It makes no list of 128 places.
 #[no_mangle]
 pub extern "C" fn vejupa_raw_decode_row(
     column_words: &[u64],
@@ -224,6 +238,7 @@ pub extern "C" fn vejupa_raw_decode_row(
     text: &mut [u8],
     used: &mut usize,
     text_length: &mut usize,
+    replaced: &mut usize,
     expected: &mut usize,
     actual: &mut usize,
 ) -> u32
@@ -234,9 +249,11 @@ pub extern "C" fn vejupa_raw_decode_row(
     ensures actual { λ _. ⌜ now (actual .exit) ≡ rowNumbers (wordsDecision (now («column_words» .entry)) (now («data» .entry)) (now («value_words» .entry)) (now (text .entry))) .actual ⌝ }
     ensures values { λ _. ⌜ now («value_words» .exit) ≡ wordsLeft (wordsDecision (now («column_words» .entry)) (now («data» .entry)) (now («value_words» .entry)) (now (text .entry))) (now («value_words» .entry)) ⌝ }
     ensures text { λ _. ⌜ now (text .exit) ≡ textLeft (wordsDecision (now («column_words» .entry)) (now («data» .entry)) (now («value_words» .entry)) (now (text .entry))) (now (text .entry)) ⌝ }
+    ensures replaced { λ _. ⌜ now (replaced .exit) ≡ rowNumbers (wordsDecision (now («column_words» .entry)) (now («data» .entry)) (now («value_words» .entry)) (now (text .entry))) .replaced ⌝ }
 {
     *used = 0;
     *text_length = 0;
+    *replaced = 0;
     *expected = 0;
     *actual = 0;
     let count = column_words.len() / 2;
@@ -259,9 +276,11 @@ pub extern "C" fn vejupa_raw_decode_row(
         RowOutcome::Accepted {
             used: taken,
             written,
+            replaced: put_in,
         } => {
             *used = taken;
             *text_length = written;
+            *replaced = put_in;
             0
         }
         RowOutcome::TooShort {

@@ -41,11 +41,26 @@ fn print_value<'a>(name: &[u8], v: ValuePlace, row: &'a [u8], text: &'a [u8]) {
     shown.end().flush();
 }
 
+// A name may be another than the host's where part of its bytes was malformed: let someone look at it.
+fn print_replaced(replaced: usize) {
+    if replaced == 0 {
+        return;
+    }
+    Line::new()
+        .text(b"beware: ")
+        .decimal(replaced as u64)
+        .text(b" malformed in its texts, shown as U+FFFD")
+        .end()
+        .flush();
+}
+
 fn print_order<'a>(answer: RowAnswer, row: &'a [u8], text: &'a [u8]) {
+    print_replaced(answer.replaced);
     print_value(b"order    ", answer.places[0], row, text);
     print_value(b"pattern  ", answer.places[1], row, text);
     print_value(b"width    ", answer.places[3], row, text);
     print_value(b"picks    ", answer.places[5], row, text);
+    print_value(b"note     ", answer.places[8], row, text);
 }
 
 fn print_refusal(outcome: Outcome) {
@@ -80,6 +95,10 @@ fn main() {
         return;
     }
     print_row(columns, &ROW);
+    // A byte of the note was changed on its way: C3 begins a character, and none goes on behind it.
+    let mut damaged = ROW;
+    damaged[47] = 0xC3;
+    print_row(columns, &damaged);
     // Cut off within a text, the row is too short: refusal 8, with the bytes expected and those that are there.
     print_row(columns, &ROW[0..57]);
 }

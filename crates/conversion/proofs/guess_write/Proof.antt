@@ -98,7 +98,7 @@ returns c =
     let h : length (take (N d) (S d)) ≤ length (textIn Ebcdic037 (S d)) = omega (arith, ap length e, least d, front d, run d .fits) in
     let k : length (take (N d) (S d)) ≤ length (D d) = omega (arith, least d, room d, front d, run d .fits) in
     let p = c .before .before .text-write .ensures in
-    rw e (p .0, p .1 ∙ ap (overwritten (textIn Ebcdic037 (S d))) (left d) ∙ over (textIn Ebcdic037 (S d)) (take (N d) (S d)) (D d) h k)
+    rw e (p .0, p .1 .0 ∙ ap (overwritten (textIn Ebcdic037 (S d))) (left d) ∙ over (textIn Ebcdic037 (S d)) (take (N d) (S d)) (D d) h k)
 
 sub-copy : tie.Need-sub-copy
 sub-copy c = search needs

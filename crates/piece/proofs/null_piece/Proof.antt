@@ -6,7 +6,7 @@ use Rattle.piece.proofs.null_piece.Tie as tie
 
 returns : tie.Need-returns
 unfolding blankValue
-returns c = (refl, (refl, refl))
+returns c = (refl, (refl, (refl, refl)))
 
 pub null-piece-spec : {M : Type 1} → statement M
 null-piece-spec = tie.close (tie.spec returns)

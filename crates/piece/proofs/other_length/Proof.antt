@@ -5,6 +5,7 @@ use native.Mathlib.Omega.{arith}
 use lib.ListN.{length, take, drop}
 use lib.Seq.{length-take-le}
 use denote.Ref.{now}
+use Rattle.buffer.specs.Buffer.{unreplaced}
 use Rattle.piece.proofs.ItemLaws.{found-within, found-text, found-plain}
 use borrow.Author.Needs.{needs}
 use Rattle.piece.proofs.other_length.Statement.{statement}
@@ -23,7 +24,7 @@ item-len-requires : tie.Need-item-len-requires
 item-len-requires c κs = (omega (arith, length-take-le (c .before .before .decode-other-value .result .used) (now (c .before .before .before .before .args .rest)) (omega (arith, c .before .before .decode-other-value .ensures .1 .0, c .before .before .before .before .pre .0)), c .before .before .decode-other-value .ensures .1 .0, c .before .before .before .before .pre .0, c .before .before .before .before .pre .1 .0), found-within (c .before .before .decode-other-value .result) (c .before .before .before .before .args .column) (now (c .before .before .before .before .args .rest)) (c .before .before .decode-other-value .ensures))
 
 returns : tie.Need-returns
-returns c = (c .before .before .before .decode-other-value .ensures .1 .0, (c .item-len .ensures .0 ∙ ap length (found-text (c .before .before .before .decode-other-value .result) (c .before .before .before .before .before .args .column) (now (c .before .before .before .before .before .args .rest)) (c .before .before .before .decode-other-value .ensures)), λ h. found-plain (c .before .before .before .decode-other-value .result) (c .before .before .before .before .before .args .column) (now (c .before .before .before .before .before .args .rest)) (c .before .before .before .decode-other-value .ensures) (c .item-len .ensures .1 h ∙ ap (λ (f : ℕ). drop f (take (c .before .before .before .decode-other-value .result .used) (now (c .before .before .before .before .before .args .rest)))) (c .before .text-start .ensures))))
+returns c = (c .before .before .before .decode-other-value .ensures .1 .0, (c .item-len .ensures .0 ∙ ap length (found-text (c .before .before .before .decode-other-value .result) (c .before .before .before .before .before .args .column) (now (c .before .before .before .before .before .args .rest)) (c .before .before .before .decode-other-value .ensures)), λ h. found-plain (c .before .before .before .decode-other-value .result) (c .before .before .before .before .before .args .column) (now (c .before .before .before .before .before .args .rest)) (c .before .before .before .decode-other-value .ensures) (c .item-len .ensures .1 h ∙ ap (λ (f : ℕ). unreplaced (drop f (take (c .before .before .before .decode-other-value .result .used) (now (c .before .before .before .before .before .args .rest))))) (c .before .text-start .ensures))))
 
 pub other-length-spec : {M : Type 1} → statement M
 other-length-spec =

@@ -19,7 +19,7 @@ same-length : tie.Need-same-length
 same-length c = search needs
 
 returns : tie.Need-returns
-returns c = (ap (λ (v : Db2Value). record { value = v; external = (c .before .before .before .before .before .before .before .args .d) .external }) (c .before .before .item-write .ensures .0), (refl, (c .before .before .item-write .ensures .1 .0, c .before .before .item-write .ensures .1 .1)))
+returns c = (ap (λ (v : Db2Value). record { value = v; external = (c .before .before .before .before .before .before .before .args .d) .external }) (c .before .before .item-write .ensures .0), (refl, c .before .before .item-write .ensures .1))
 
 pub other-write-spec : {M : Type 1} → statement M
 other-write-spec =

@@ -1,5 +1,5 @@
 -- `piece::piece_write` meets its contract: there is no value, or the value is written. Assumes nothing.
-use Prim.Native.Nat.{ℕ, _≤_}
+use Prim.Native.Nat.{ℕ, _≤_, _<_}
 use mathlib.Core.Path.{sym, ap, _∙_, subst}
 use mathlib.Core.List.{List}
 use native.Mathlib.Omega.{arith}
@@ -10,7 +10,7 @@ use Rattle.rules.specs.Walk.{Cell}
 use Rattle.rules.specs.Row.{cellValue}
 use Rattle.rules.specs.Conversions.{ported}
 use Rattle.piece.specs.Piece.{PlainCell}
-use Rattle.piece.proofs.PieceLaws.{leadOf, all-after, null-takes, null-absent, absent-text, lead-within, value-takes, value-stands, value-reads}
+use Rattle.piece.proofs.PieceLaws.{leadOf, all-after, null-takes, null-absent, absent-text, absent-replaced, lead-within, value-takes, value-stands, value-reads, value-counts}
 use borrow.Author.Needs.{needs}
 use Rattle.piece.proofs.piece_write.Statement.{statement}
 use Rattle.piece.proofs.piece_write.Tie as tie
@@ -23,7 +23,16 @@ null-piece-requires c κs = search needs
 
 returns : tie.Need-returns
 unfolding cellValue
-returns c = (c .null-piece .ensures .0 ∙ ap (λ (p : Cell). cellValue ported p (c .before .before .before .before .before .args .next)) (sym (null-absent (c .before .before .before .before .before .args .column) (now (c .before .before .before .before .before .args .rest)) (sym (c .before .before .is-null .ensures) ∙ c .before .if1 .taken) (omega (arith, null-takes (c .before .before .before .before .before .args .column) (now (c .before .before .before .before .before .args .rest)) (sym (c .before .before .is-null .ensures) ∙ c .before .if1 .taken), c .before .before .before .before .before .pre .0)) (c .before .before .before .before .before .args .at))), (c .null-piece .ensures .1 .0 ∙ sym (null-takes (c .before .before .before .before .before .args .column) (now (c .before .before .before .before .before .args .rest)) (sym (c .before .before .is-null .ensures) ∙ c .before .if1 .taken)), (c .null-piece .ensures .1 .1 ∙ ap length (sym (absent-text (c .before .before .before .before .before .args .column) (now (c .before .before .before .before .before .args .rest)) (sym (c .before .before .is-null .ensures) ∙ c .before .if1 .taken) (omega (arith, null-takes (c .before .before .before .before .before .args .column) (now (c .before .before .before .before .before .args .rest)) (sym (c .before .before .is-null .ensures) ∙ c .before .if1 .taken), c .before .before .before .before .before .pre .0)))), ap (λ (t : List ℕ). overwritten t (now (c .before .before .before .before .before .args .out))) (sym (absent-text (c .before .before .before .before .before .args .column) (now (c .before .before .before .before .before .args .rest)) (sym (c .before .before .is-null .ensures) ∙ c .before .if1 .taken) (omega (arith, null-takes (c .before .before .before .before .before .args .column) (now (c .before .before .before .before .before .args .rest)) (sym (c .before .before .is-null .ensures) ∙ c .before .if1 .taken), c .before .before .before .before .before .pre .0)))))))
+returns c =
+    let a = c .before .before .before .before .before in
+    let d = a .args .column in
+    let s = now (a .args .rest) in
+    let h = sym (c .before .before .is-null .ensures) ∙ c .before .if1 .taken in
+    let one = null-takes d s h in
+    let some : 0 < length s = omega (arith, one, a .pre .0) in
+    let text = sym (absent-text d s h some) in
+    let n = c .null-piece .ensures in
+    (n .0 ∙ ap (λ (p : Cell). cellValue ported p (a .args .next)) (sym (null-absent d s h some (a .args .at))), (n .1 .0 ∙ sym one, (n .1 .1 .0 ∙ ap length text, (ap (λ (t : List ℕ). overwritten t (now (a .args .out))) text, n .1 .1 .1 ∙ sym (absent-replaced d s h some)))))
 
 lead-requires : tie.Need-lead-requires
 lead-requires c κs = search needs
@@ -51,9 +60,14 @@ same-length c = search needs
 
 returns-2 : tie.Need-returns-2
 returns-2 c =
-    let w = rw (all-after (c .before .before .before .before .before .before .before .lead .result) (now (c .before .before .before .before .before .before .before .before .before .before .before .before .args .rest)), c .before .before .before .before .before .before .before .lead .ensures .0) at (c .before .before .before .before .value-write .ensures) in
-    let text = sym (value-reads (c .before .before .before .before .before .before .before .before .before .before .before .before .args .column) (now (c .before .before .before .before .before .before .before .before .before .before .before .before .args .rest)) (sym (c .before .before .before .before .before .before .before .before .before .is-null .ensures) ∙ c .before .before .before .before .before .before .before .before .if1 .left)) in
-    (w .0 ∙ ap (λ (p : Cell). cellValue ported p (c .before .before .before .before .before .before .before .before .before .before .before .before .args .next)) (sym (value-stands (c .before .before .before .before .before .before .before .before .before .before .before .before .args .column) (now (c .before .before .before .before .before .before .before .before .before .before .before .before .args .rest)) (sym (c .before .before .before .before .before .before .before .before .before .is-null .ensures) ∙ c .before .before .before .before .before .before .before .before .if1 .left) (c .before .before .before .before .before .before .before .before .before .before .before .before .args .at))), (omega (arith, w .1 .0, c .before .before .before .before .before .before .before .lead .ensures .0, value-takes (c .before .before .before .before .before .before .before .before .before .before .before .before .args .column) (now (c .before .before .before .before .before .before .before .before .before .before .before .before .args .rest)) (sym (c .before .before .before .before .before .before .before .before .before .is-null .ensures) ∙ c .before .before .before .before .before .before .before .before .if1 .left)), (w .1 .1 .0 ∙ ap length text, w .1 .1 .1 ∙ ap (λ (t : List ℕ). overwritten t (now (c .before .before .before .before .before .before .before .before .before .before .before .before .args .out))) text)))
+    let a = c .before .before .before .before .before .before .before .before .before .before .before .before in
+    let l = c .before .before .before .before .before .before .before .lead in
+    let d = a .args .column in
+    let s = now (a .args .rest) in
+    let h = sym (c .before .before .before .before .before .before .before .before .before .is-null .ensures) ∙ c .before .before .before .before .before .before .before .before .if1 .left in
+    let w = rw (all-after (l .result) s, l .ensures .0) at (c .before .before .before .before .value-write .ensures) in
+    let text = sym (value-reads d s h) in
+    (w .0 ∙ ap (λ (p : Cell). cellValue ported p (a .args .next)) (sym (value-stands d s h (a .args .at))), (omega (arith, w .1 .0, l .ensures .0, value-takes d s h), (w .1 .1 .0 ∙ ap length text, (w .1 .1 .1 .0 ∙ ap (λ (t : List ℕ). overwritten t (now (a .args .out))) text, w .1 .1 .1 .1 ∙ sym (value-counts d s h)))))
 
 pub piece-write-spec : {M : Type 1} → statement M
 piece-write-spec =

@@ -5,10 +5,10 @@ use mathlib.Core.List.{List}
 use native.Mathlib.Omega.{arith}
 use lib.ListN.{length, take, drop}
 use denote.Ref.{now}
-use Rattle.buffer.specs.Buffer.{overwritten}
+use Rattle.buffer.specs.Buffer.{unreplaced, overwritten}
 use Rattle.cell.specs.declared.ColumnValue.{ColumnValue}
 use Rattle.cell.specs.Cell.{ValueIs}
-use Rattle.piece.proofs.ItemLaws.{found-within, found-text, found-place, plain-found, number-text, number-place}
+use Rattle.piece.proofs.ItemLaws.{found-within, found-text, found-replaced, found-place, plain-found, number-text, number-replaced, number-place}
 use borrow.Author.Needs.{needs}
 use Rattle.piece.proofs.value_write.Statement.{statement}
 use Rattle.piece.proofs.value_write.Tie as tie
@@ -38,7 +38,7 @@ other-write-requires c κs =
           found-within (c .before .before .before .d .given .0 .0) (c .before .before .before .before .before .before .before .before .args .column) (now (c .before .before .before .before .before .before .before .before .args .rest)) o,
           (
             subst (λ (t : List ℕ). length t ≤ length (now (c .before .before .before .before .before .before .before .before .args .out))) (sym (found-text (c .before .before .before .d .given .0 .0) (c .before .before .before .before .before .before .before .before .args .column) (now (c .before .before .before .before .before .before .before .before .args .rest)) o)) (c .before .before .before .before .before .before .before .before .pre .1 .1 .0),
-            (c .before .before .before .before .before .before .before .before .pre .1 .1 .1 .0, λ m. plain-found (c .before .before .before .d .given .0 .0) (c .before .before .before .before .before .before .before .before .args .column) (now (c .before .before .before .before .before .before .before .before .args .rest)) o (c .before .before .before .before .before .before .before .before .args .at) (c .before .before .before .before .before .before .before .before .pre .1 .1 .1 .1 m) ∙ ap (λ (f : ℕ). drop f (take ((c .before .before .before .d .given .0 .0) .used) (now (c .before .before .before .before .before .before .before .before .args .rest)))) (sym (c .before .text-start .ensures))),
+            (c .before .before .before .before .before .before .before .before .pre .1 .1 .1 .0, λ m. plain-found (c .before .before .before .d .given .0 .0) (c .before .before .before .before .before .before .before .before .args .column) (now (c .before .before .before .before .before .before .before .before .args .rest)) o (c .before .before .before .before .before .before .before .before .args .at) (c .before .before .before .before .before .before .before .before .pre .1 .1 .1 .1 m) ∙ ap (λ (f : ℕ). unreplaced (drop f (take ((c .before .before .before .d .given .0 .0) .used) (now (c .before .before .before .before .before .before .before .before .args .rest))))) (sym (c .before .text-start .ensures))),
           ),
         ),
       ),
@@ -51,7 +51,7 @@ returns c =
       c .number-piece .ensures .0 ∙ number-place (c .before .before .value .given .0 .0) (c .before .before .before .before .before .before .before .args .column) (now (c .before .before .before .before .before .before .before .args .rest)) (o .0) (c .before .before .before .before .before .before .before .args .at) (c .before .before .before .before .before .before .before .args .next),
       (
         c .number-piece .ensures .1 .0 ∙ o .1,
-        (c .number-piece .ensures .1 .1 ∙ sym (ap length text), ap (λ (t : List ℕ). overwritten t (now (c .before .before .before .before .before .before .before .args .out))) (sym text)),
+        (c .number-piece .ensures .1 .1 .0 ∙ sym (ap length text), (ap (λ (t : List ℕ). overwritten t (now (c .before .before .before .before .before .before .before .args .out))) (sym text), c .number-piece .ensures .1 .1 .1 ∙ sym (number-replaced (c .before .before .value .given .0 .0) (c .before .before .before .before .before .before .before .args .column) (now (c .before .before .before .before .before .before .before .args .rest)) (o .0)))),
       ),
     )
 
@@ -65,7 +65,7 @@ returns-2 c =
       c .before .before .other-write .ensures .0 ∙ found-place (c .before .before .before .before .before .before .d .given .0 .0) (c .before .before .before .before .before .before .before .before .before .before .before .args .column) (now (c .before .before .before .before .before .before .before .before .before .before .before .args .rest)) o (c .before .before .before .before .before .before .before .before .before .before .before .args .at) (c .before .before .before .before .before .before .before .before .before .before .before .args .next),
       (
         c .before .before .other-write .ensures .1 .0 ∙ o .1 .0,
-        (c .before .before .other-write .ensures .1 .1 .0 ∙ ap length text, c .before .before .other-write .ensures .1 .1 .1 ∙ ap (λ (t : List ℕ). overwritten t (now (c .before .before .before .before .before .before .before .before .before .before .before .args .out))) text),
+        (c .before .before .other-write .ensures .1 .1 .0 ∙ ap length text, (c .before .before .other-write .ensures .1 .1 .1 .0 ∙ ap (λ (t : List ℕ). overwritten t (now (c .before .before .before .before .before .before .before .before .before .before .before .args .out))) text, c .before .before .other-write .ensures .1 .1 .1 .1 ∙ found-replaced (c .before .before .before .before .before .before .d .given .0 .0) (c .before .before .before .before .before .before .before .before .before .before .before .args .column) (now (c .before .before .before .before .before .before .before .before .before .before .before .args .rest)) o)),
       ),
     )
 

@@ -14,6 +14,7 @@ use Rattle.rules.specs.Row.{covered, rowTexts, answerOf, textAfter}
 use Rattle.rules.specs.Conversions.{ported}
 use Rattle.rules.proofs.Walks.{piecesOf}
 use Rattle.rules.proofs.Progress.{Walking, walking-start, walking-step, walking-short, walking-end, placing-there, placing-room, placing-within, covered-at, rest-is}
+use Rattle.rules.proofs.Replaced.{placing-few}
 use Rattle.piece.specs.Marks.{markAt, PlainMarks}
 use Rattle.piece.specs.Texts.{textsOf}
 use Rattle.piece.proofs.MarkLaws.{plain-none, plain-here}
@@ -33,11 +34,11 @@ abbrev μ-loop : tie.MeasureT-loop
 μ-loop «data» start text columns count end₀ j₀ end j = count - j
 
 abbrev Inv-loop2 : tie.InvT-loop2
-Inv-loop2 «data» start text₀ columns count end j room marks places₀ at₀ next₀ k₀ text places at next k =
-    (k ≤ columns .count) × Filling (covered columns) start «data» end text₀ places k at next text
+Inv-loop2 «data» start text₀ columns count end j room marks places₀ at₀ next₀ replaced₀ k₀ text places at next replaced k =
+    (k ≤ columns .count) × Filling (covered columns) start «data» end text₀ places k at next replaced text
 
 abbrev μ-loop2 : tie.MeasureT-loop2
-μ-loop2 «data» start text₀ columns count end j room marks places₀ at₀ next₀ k₀ text places at next k = count - k
+μ-loop2 «data» start text₀ columns count end j room marks places₀ at₀ next₀ replaced₀ k₀ text places at next replaced k = count - k
 
 -- what is known from the start
 module _ (c : tie.Start Inv-loop μ-loop Inv-loop2 μ-loop2) where
@@ -233,7 +234,7 @@ add-at : tie.Need-add-at Inv-loop μ-loop Inv-loop2 μ-loop2
 add-at c =
     let t = c .before .before .before .before .before .before .before .before .before in
     let w = c .before .before .before .before .piece-write .ensures in
-    let f = filling-step _ _ _ _ _ (t .before .loop2 .inv .1) _ (here2 t _) _ (rest2 t) (omega (arith, c .before .before .before .before .before .before .before .before .before .before .before .before .before .before .before .before .before .pre .0)) _ (w .0) _ _ (w .1 .0) (w .1 .1 .0) _ (w .1 .1 .1) in
+    let f = filling-step _ _ _ _ _ (t .before .loop2 .inv .1) _ (here2 t _) _ (rest2 t) (omega (arith, c .before .before .before .before .before .before .before .before .before .before .before .before .before .before .before .before .before .pre .0)) _ (w .0) _ _ _ (w .1 .0) (w .1 .1 .0) (w .1 .1 .1 .1) _ (w .1 .1 .1 .0) in
     omega (arith, f .placing .going .within, c .before .before .before .before .before .before .before .before .before .before .before .before .before .before .before .before .before .pre .1 .1)
 
 add-next : tie.Need-add-next Inv-loop μ-loop Inv-loop2 μ-loop2
@@ -243,17 +244,26 @@ add-next c =
     let h = placing-within ported _ _ _ _ _ _ p _ (here2 t _) _ (rest2 t) _ (c .before .before .before .before .before .piece-write .ensures .1 .1 .0) in
     omega (arith, h, c .before .before .before .before .before .before .before .before .before .before .before .before .before .before .before .before .before .before .good .1 .1 .1 .0 .0)
 
+add-replaced : tie.Need-add-replaced Inv-loop μ-loop Inv-loop2 μ-loop2
+add-replaced c =
+    let t = c .before .before .before .before .before .before .before .before .before .before .before in
+    let p = t .before .loop2 .inv .1 .placing in
+    let w = c .before .before .before .before .before .before .piece-write .ensures in
+    let h = placing-within ported _ _ _ _ _ _ p _ (here2 t _) _ (rest2 t) _ (w .1 .1 .0) in
+    let few = placing-few _ _ _ _ _ _ p _ _ _ _ (w .1 .1 .0) (w .1 .1 .1 .1) in
+    omega (arith, h, few, c .before .before .before .before .before .before .before .before .before .before .before .before .before .before .before .before .before .before .before .good .1 .1 .1 .0 .0)
+
 add-k : tie.Need-add-k Inv-loop μ-loop Inv-loop2 μ-loop2
-add-k c = omega (arith, c .before .before .before .before .before .before .before .before .before .before .before .before .before .before .before .before .before .before .pre .0)
+add-k c = omega (arith, c .before .before .before .before .before .before .before .before .before .before .before .before .before .before .before .before .before .before .before .pre .0)
 
 loop2-less : tie.Need-loop2-less Inv-loop μ-loop Inv-loop2 μ-loop2
 loop2-less c = omega arith
 
 loop2-again : tie.Need-loop2-again Inv-loop μ-loop Inv-loop2 μ-loop2
 loop2-again c =
-    let t = c .before .before .before .before .before .before .before .before .before .before in
-    let w = c .before .before .before .before .before .piece-write .ensures in
-    (omega arith, filling-step _ _ _ _ _ (t .before .loop2 .inv .1) _ (here2 t _) _ (rest2 t) (omega (arith, c .before .before .before .before .before .before .before .before .before .before .before .before .before .before .before .before .before .before .pre .0)) _ (w .0) _ _ (w .1 .0) (w .1 .1 .0) _ (w .1 .1 .1))
+    let t = c .before .before .before .before .before .before .before .before .before .before .before in
+    let w = c .before .before .before .before .before .before .piece-write .ensures in
+    (omega arith, filling-step _ _ _ _ _ (t .before .loop2 .inv .1) _ (here2 t _) _ (rest2 t) (omega (arith, c .before .before .before .before .before .before .before .before .before .before .before .before .before .before .before .before .before .before .before .pre .0)) _ (w .0) _ _ _ (w .1 .0) (w .1 .1 .0) (w .1 .1 .1 .1) _ (w .1 .1 .1 .0))
 
 same-length : tie.Need-same-length Inv-loop μ-loop Inv-loop2 μ-loop2
 same-length c = as-long (c .before .loop2 .inv .1 .placing .texts)
@@ -262,7 +272,7 @@ returns-3 : tie.Need-returns-3 Inv-loop μ-loop Inv-loop2 μ-loop2
 unfolding answerOf textAfter
 returns-3 c =
     let e = filling-end _ _ _ _ _ (c .before .loop2 .inv .1) (omega (arith, all-covered (c .before .before .before .before .before .before .before .before))) in
-    rw (decided-accepted _ _ _ _ (done-is (c .before .before .before .before)) (fits (c .before .before .before)), e .0, e .1) (refl, e .2)
+    rw (decided-accepted _ _ _ _ (done-is (c .before .before .before .before)) (fits (c .before .before .before)), e .0, e .1, e .3) (refl, e .2)
 
 pub decode-row-body-spec : {M : Type 1} → statement M
 decode-row-body-spec =
@@ -309,6 +319,7 @@ decode-row-body-spec =
     array-set-from-places
     add-at
     add-next
+    add-replaced
     add-k
     loop2-less
     loop2-again

@@ -45,7 +45,7 @@ same-length-2 : tie.Need-same-length-2
 same-length-2 c = search needs
 
 returns-3 : tie.Need-returns-3
-returns-3 c = told-accepted (columnsNamed (now (c .before .before .before .before .before .before .before .before .before .before .before .before .before .before .before .before .before .before .before .before .args .columns))) (now (c .before .before .before .before .before .before .before .before .before .before .before .before .before .before .before .before .before .before .before .before .args .«data»)) (now (c .before .before .before .before .before .before .before .before .before .before .before .before .before .before .before .before .before .before .before .before .args .text)) (now (c .before .before .before .before .before .before .before .before .before .before .before .before .before .before .before .before .before .before .before .before .args .values)) (c .before .before .before .before .before .before .before .before .before .before .before .before .before .before .before .skip-of .result) (c .before .before .before .before .before .before .before .before .before .before .before .before .before .before .before .skip-of .ensures) _ (sym (c .before .before .before .before .before .before .before .before .before .before .before .before .end .given .1) ∙ c .before .before .before .before .before .before .before .before .before .before .before .before .before .before .walk-columns .ensures) (c .before .before .before .before .before .before .before .before .before .text-needed .result) (c .before .before .before .before .before .before .before .before .before .text-needed .ensures .0) (c .before .before .before .before .before .before .before .before .if1 .left) (c .before .before .before .before .write-columns .result) (c .before .before .before .before .write-columns .ensures .0) _ _ (c .before .before .before .before .write-columns .ensures .1 .0) (c .before .before .before .before .write-columns .ensures .1 .1)
+returns-3 c = told-accepted (columnsNamed (now (c .before .before .before .before .before .before .before .before .before .before .before .before .before .before .before .before .before .before .before .before .args .columns))) (now (c .before .before .before .before .before .before .before .before .before .before .before .before .before .before .before .before .before .before .before .before .args .«data»)) (now (c .before .before .before .before .before .before .before .before .before .before .before .before .before .before .before .before .before .before .before .before .args .text)) (now (c .before .before .before .before .before .before .before .before .before .before .before .before .before .before .before .before .before .before .before .before .args .values)) (c .before .before .before .before .before .before .before .before .before .before .before .before .before .before .before .skip-of .result) (c .before .before .before .before .before .before .before .before .before .before .before .before .before .before .before .skip-of .ensures) _ (sym (c .before .before .before .before .before .before .before .before .before .before .before .before .end .given .1) ∙ c .before .before .before .before .before .before .before .before .before .before .before .before .before .before .walk-columns .ensures) (c .before .before .before .before .before .before .before .before .before .text-needed .result) (c .before .before .before .before .before .before .before .before .before .text-needed .ensures .0) (c .before .before .before .before .before .before .before .before .if1 .left) (c .before .before .before .before .write-columns .result .len) (c .before .before .before .before .write-columns .ensures .0) (c .before .before .before .before .write-columns .result .replaced) (c .before .before .before .before .write-columns .ensures .1 .1 .1) _ _ (c .before .before .before .before .write-columns .ensures .1 .0) (c .before .before .before .before .write-columns .ensures .1 .1 .0)
 
 pub decode-row-spec : {M : Type 1} → statement M
 decode-row-spec =

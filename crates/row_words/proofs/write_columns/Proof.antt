@@ -11,11 +11,12 @@ use Rattle.rules.specs.Row.{accept, rowTexts, bodyDecision, textAfter}
 use Rattle.rules.specs.Conversions.{ported}
 use Rattle.rules.proofs.Walks.{piecesOf}
 use Rattle.rules.proofs.Progress.{placing-there, placing-room, placing-within, rest-is}
+use Rattle.rules.proofs.Replaced.{placing-few}
 use Rattle.row_words.specs.Passes.{columnsNamed}
 use Rattle.piece.specs.Marks.{markAt}
 use Rattle.piece.specs.Texts.{textsOf}
 use Rattle.piece.proofs.MarkLaws.{plain-here}
-use Rattle.piece.proofs.Texts.{texts-are}
+use Rattle.piece.proofs.Texts.{texts-are, replaced-are}
 use Rattle.row_words.proofs.Named.{named-length, named-at}
 use Rattle.row_words.proofs.Outlines.{endOf, done-ends, is-done, decided-accepted}
 use Rattle.row_words.proofs.Putting.{Putting, putting-start, putting-step, putting-end, as-many}
@@ -23,11 +24,11 @@ use Rattle.row_words.proofs.write_columns.Statement.{statement}
 use Rattle.row_words.proofs.write_columns.Tie as tie
 
 abbrev Inv-loop : tie.InvT-loop
-Inv-loop columns «data» start marks values₀ text₀ count at₀ next₀ i₀ values text at next i =
-    (i ≤ length columns / 2) × Putting (columnsNamed columns) start «data» (piecesOf (walkBody (columnsNamed columns) start «data»)) (endOf (walkBody (columnsNamed columns) start «data»)) text₀ values₀ i at next text values
+Inv-loop columns «data» start marks values₀ text₀ count at₀ next₀ replaced₀ i₀ values text at next replaced i =
+    (i ≤ length columns / 2) × Putting (columnsNamed columns) start «data» (piecesOf (walkBody (columnsNamed columns) start «data»)) (endOf (walkBody (columnsNamed columns) start «data»)) text₀ values₀ i at next replaced text values
 
 abbrev μ-loop : tie.MeasureT-loop
-μ-loop columns «data» start marks values₀ text₀ count at₀ next₀ i₀ values text at next i = length columns / 2 - i
+μ-loop columns «data» start marks values₀ text₀ count at₀ next₀ replaced₀ i₀ values text at next replaced i = length columns / 2 - i
 
 -- what is known from the start
 module _ (c : tie.Start Inv-loop μ-loop) where
@@ -94,14 +95,17 @@ add-at c = omega (arith, c .before .before .before .before .before .before .befo
 add-next : tie.Need-add-next Inv-loop μ-loop
 add-next c = omega (arith, c .before .before .before .before .before .before .before .before .before .before .before .before .before .before .before .before .before .before .good, placing-within ported _ _ _ _ _ _ (c .before .before .before .before .before .before .before .before .before .before .before .before .before .loop .inv .1 .placing) _ (named-at _ _ (c .before .before .before .before .before .before .before .before .before .before .before .before .loop-test .taken) refl) _ (rest-is (c .before .before .before .before .before .before .before .before .before .before .before .before .before .before .before .before .before .before .args .«data» .now) (c .before .before .before .before .before .before .before .before .before .before .before .before .before .loop .at)) _ (c .before .before .before .before .before .before .put-column .ensures .1 .0))
 
+add-replaced : tie.Need-add-replaced Inv-loop μ-loop
+add-replaced c = omega (arith, c .before .before .before .before .before .before .before .before .before .before .before .before .before .before .before .before .before .before .before .good, placing-within ported _ _ _ _ _ _ (c .before .before .before .before .before .before .before .before .before .before .before .before .before .before .loop .inv .1 .placing) _ (named-at _ _ (c .before .before .before .before .before .before .before .before .before .before .before .before .before .loop-test .taken) refl) _ (rest-is (c .before .before .before .before .before .before .before .before .before .before .before .before .before .before .before .before .before .before .before .args .«data» .now) (c .before .before .before .before .before .before .before .before .before .before .before .before .before .before .loop .at)) _ (c .before .before .before .before .before .before .before .put-column .ensures .1 .0), placing-few _ _ _ _ _ _ (c .before .before .before .before .before .before .before .before .before .before .before .before .before .before .loop .inv .1 .placing) _ _ _ _ (c .before .before .before .before .before .before .before .put-column .ensures .1 .0) (c .before .before .before .before .before .before .before .put-column .ensures .1 .1 .1 .1))
+
 add-i : tie.Need-add-i Inv-loop μ-loop
-add-i c = omega (arith, c .before .before .before .before .before .before .before .before .before .before .before .before .before .before .before .before .before .before .good, c .before .before .before .before .before .before .before .before .before .before .before .before .loop-test .taken, c .before .before .before .before .before .before .before .before .before .before .before .before .before .before .before .before .before .before .pre .1 .1 .1 .0)
+add-i c = omega (arith, c .before .before .before .before .before .before .before .before .before .before .before .before .before .before .before .before .before .before .before .good, c .before .before .before .before .before .before .before .before .before .before .before .before .before .loop-test .taken, c .before .before .before .before .before .before .before .before .before .before .before .before .before .before .before .before .before .before .before .pre .1 .1 .1 .0)
 
 loop-less : tie.Need-loop-less Inv-loop μ-loop
-loop-less c = omega (arith, c .before .before .before .before .before .before .before .before .before .before .before .before .loop-test .taken)
+loop-less c = omega (arith, c .before .before .before .before .before .before .before .before .before .before .before .before .before .loop-test .taken)
 
 loop-again : tie.Need-loop-again Inv-loop μ-loop
-loop-again c = (omega (arith, c .before .before .before .before .before .before .before .before .before .before .before .before .loop-test .taken), (rw (c .before .before .before .before .before .before .put-column .ensures .1 .1 .1) (putting-step _ _ _ _ _ _ _ (c .before .before .before .before .before .before .before .before .before .before .before .before .before .loop .inv .1) _ (named-at _ _ (c .before .before .before .before .before .before .before .before .before .before .before .before .loop-test .taken) refl) _ (rest-is (c .before .before .before .before .before .before .before .before .before .before .before .before .before .before .before .before .before .before .args .«data» .now) (c .before .before .before .before .before .before .before .before .before .before .before .before .before .loop .at)) _ _ (c .before .before .before .before .before .before .put-column .ensures .0) (c .before .before .before .before .before .before .put-column .ensures .1 .0) _ (c .before .before .before .before .before .before .put-column .ensures .1 .1 .0) (omega (arith, c .before .before .before .before .before .before .before .before .before .before .before .before .before .before .before .before .before .before .pre .1 .1 .1 .0, c .before .before .before .before .before .before .before .before .before .before .before .before .loop-test .taken)) _ refl)))
+loop-again c = (omega (arith, c .before .before .before .before .before .before .before .before .before .before .before .before .before .loop-test .taken), (rw (c .before .before .before .before .before .before .before .put-column .ensures .1 .1 .1 .0) (putting-step _ _ _ _ _ _ _ (c .before .before .before .before .before .before .before .before .before .before .before .before .before .before .loop .inv .1) _ (named-at _ _ (c .before .before .before .before .before .before .before .before .before .before .before .before .before .loop-test .taken) refl) _ (rest-is (c .before .before .before .before .before .before .before .before .before .before .before .before .before .before .before .before .before .before .before .args .«data» .now) (c .before .before .before .before .before .before .before .before .before .before .before .before .before .before .loop .at)) _ _ _ (c .before .before .before .before .before .before .before .put-column .ensures .0) (c .before .before .before .before .before .before .before .put-column .ensures .1 .0) (c .before .before .before .before .before .before .before .put-column .ensures .1 .1 .1 .1) _ (c .before .before .before .before .before .before .before .put-column .ensures .1 .1 .0) (omega (arith, c .before .before .before .before .before .before .before .before .before .before .before .before .before .before .before .before .before .before .before .pre .1 .1 .1 .0, c .before .before .before .before .before .before .before .before .before .before .before .before .before .loop-test .taken)) _ refl)))
 
 same-length : tie.Need-same-length Inv-loop μ-loop
 same-length c = as-many _ _ _ _ _ _ _ (c .before .loop .inv .1) (omega (arith, c .before .loop .inv .0, c .before .before .before .before .before .before .pre .1 .1 .1 .0))
@@ -113,7 +117,7 @@ returns : tie.Need-returns Inv-loop μ-loop
 unfolding textAfter
 returns c =
     let p = putting-end _ _ _ _ _ _ _ (c .before .loop .inv .1) (omega (arith, c .loop-test .left, named-length (c .before .before .before .before .before .before .args .columns .now))) in
-    rw (texts (c .before .before .before .before .before .before), decided (c .before .before .before .before .before .before)) (p .sum, (p .words-are, p .texts))
+    rw (texts (c .before .before .before .before .before .before), replaced-are _, decided (c .before .before .before .before .before .before)) (p .sum, (p .words-are, (p .texts, p .counted)))
 
 pub write-columns-spec : {M : Type 1} → statement M
 write-columns-spec =
@@ -138,6 +142,7 @@ write-columns-spec =
     put-column-requires
     add-at
     add-next
+    add-replaced
     add-i
     loop-less
     loop-again

@@ -1,10 +1,11 @@
 -- `text::convert_guess` meets its contract: any text of so many bytes fits. Assumes nothing.
 use Prim.Native.Nat.{ℕ, _≤_}
-use mathlib.Core.Path.{sym, subst}
+use mathlib.Core.Path.{refl, sym, subst}
 use native.Mathlib.Omega.{arith}
 use borrow.Author.Needs.{needs}
 use denote.Ref.{now}
 use lib.ListN.{length}
+use Rattle.buffer.specs.Buffer.{unreplaced}
 use Rattle.buffer.proofs.Answer.{room}
 use Rattle.conversion.specs.Guess.{guess, guessText}
 use Rattle.conversion.proofs.PlainText.{text-bound}
@@ -26,7 +27,7 @@ same-length c = search needs
 returns : tie.Need-returns
 returns c =
     let w = c .before .before .guess-write .ensures in
-    room (guessText (now (c .before .before .before .before .before .before .args .s))) _ _ (w .0) (subst (λ (n : ℕ). n ≤ length (now (c .before .before .before .before .before .before .args .text))) (sym (w .0)) (roomy (c .before .before .before))) _ (w .1)
+    room (unreplaced (guessText (now (c .before .before .before .before .before .before .args .s)))) _ _ (w .0) (subst (λ (n : ℕ). n ≤ length (now (c .before .before .before .before .before .before .args .text))) (sym (w .0)) (roomy (c .before .before .before))) _ (w .1) _ refl
 
 pub convert-guess-spec : {M : Type 1} → statement M
 convert-guess-spec = tie.close (tie.spec guess-write-requires same-length returns)

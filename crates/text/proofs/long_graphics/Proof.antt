@@ -1,9 +1,9 @@
 -- `text::long_graphics` meets its contract: refused as too long, or converted, by a guess or not. Assumes nothing.
-use mathlib.Core.Path.{sym}
+use mathlib.Core.Path.{sym, _∙_}
 use borrow.Author.Needs.{needs}
 use denote.Ref.{now}
-use Rattle.conversion.specs.Guess.{guessText}
 use Rattle.conversion.proofs.Picks.{graphics-by}
+use Rattle.conversion.proofs.Guesses.{guess-unreplaced}
 use Rattle.text.proofs.Alone.{too-long, picked}
 use Rattle.text.proofs.long_graphics.Statement.{statement}
 use Rattle.text.proofs.long_graphics.Tie as tie
@@ -24,10 +24,9 @@ same-length : tie.Need-same-length
 same-length c = search needs
 
 returns-2 : tie.Need-returns-2
-unfolding guessText
 returns-2 c =
     let g = c .before .before .before .before .before .is-roomy-guess .ensures (c .before .before .before .before .if2 .taken) .1 in
-    picked _ _ (graphics-by _ _ (sym (g .graphics (now (c .before .before .before .before .before .before .before .before .before .args .s))))) (c .before .before .before .before .before .before .if1 .left) _ (c .before .before .convert-guess .ensures)
+    picked _ _ (sym (guess-unreplaced (now (c .before .before .before .before .before .before .before .before .before .args .s))) ∙ graphics-by _ _ (sym (g .graphics (now (c .before .before .before .before .before .before .before .before .before .args .s))))) (c .before .before .before .before .before .before .if1 .left) _ (c .before .before .convert-guess .ensures)
 
 graphic-conversion-requires : tie.Need-graphic-conversion-requires
 graphic-conversion-requires c κs = search needs

@@ -1,16 +1,13 @@
 -- `piece::items::conversion_of` meets its contract: in each arm the encoding is known. Assumes nothing.
-use mathlib.Core.Path.{refl, sym, ap}
+use mathlib.Core.Path.{sym, _∙_}
 use denote.Ref.{now}
-use Rattle.conversion.specs.Picked.{textIn}
-use Rattle.conversion.specs.Conversion.{locatorText, rowIdText}
-use Rattle.conversion.proofs.Picks.{characters-by, graphics-by}
+use Rattle.conversion.proofs.Picks.{plain-picked, utf8-picked, locator-picked, row-id-picked, characters-by, graphics-by}
 use borrow.Author.Needs.{needs}
 use Rattle.piece.proofs.items.conversion_of.Statement.{statement}
 use Rattle.piece.proofs.items.conversion_of.Tie as tie
 
 returns : tie.Need-returns
-unfolding textIn
-returns c = sym (c .before .before .pre (c .if1 .taken))
+returns c = plain-picked (now (c .before .before .args .s)) ∙ sym (c .before .before .pre (c .if1 .taken))
 
 enum-known-encoding : tie.Need-enum-known-encoding
 enum-known-encoding c = search needs
@@ -40,16 +37,13 @@ returns-3 : tie.Need-returns-3
 returns-3 c = rw (c .before .before .encoding2 .given .1) (graphics-by (c .before .before .encoding2 .given .0 .0) (now (c .before .before .before .before .before .before .args .s)) (c .graphic-conversion .ensures))
 
 returns-4 : tie.Need-returns-4
-unfolding textIn
-returns-4 c = rw (c .enum-told .given .1) refl
+returns-4 c = rw (c .enum-told .given .1) (utf8-picked _)
 
 returns-5 : tie.Need-returns-5
-unfolding textIn locatorText
-returns-5 c = rw (c .enum-told2 .given .1) refl
+returns-5 c = rw (c .enum-told2 .given .1) (locator-picked _)
 
 returns-6 : tie.Need-returns-6
-unfolding textIn rowIdText
-returns-6 c = rw (c .enum-told3 .given .1) refl
+returns-6 c = rw (c .enum-told3 .given .1) (row-id-picked _)
 
 pub conversion-of-spec : {M : Type 1} → statement M
 conversion-of-spec =

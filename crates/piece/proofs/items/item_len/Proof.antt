@@ -7,6 +7,7 @@ use lib.ListN.{length}
 use denote.Ref.{now}
 use Rattle.types.proofs.Keys.{one-of}
 use Rattle.cell.proofs.CellItem.{enum}
+use Rattle.buffer.specs.Buffer.{Converted}
 use Rattle.piece.specs.Piece.{textHeld}
 use Rattle.piece.proofs.ItemLaws.{text-within, text-readable, text-shorter, text-cut, plain-cut}
 use borrow.Author.Needs.{needs}
@@ -37,10 +38,10 @@ is-all-from-requires c κs = search needs
 returns : tie.Need-returns
 returns c =
     let all = c .before .is-all-from .ensures (c .if1 .taken) in
-    (c .before .before .reading-len .ensures .0 ∙ ap length (text-cut (c .before .before .before .before .before .before .before .before .args .item) (now (c .before .before .before .before .before .before .before .before .args .bytes)) (c .before .before .before .before .before .item .given .0 .0) (c .before .before .before .before .before .item .given .0 .1 .0) (c .before .before .before .before .before .item .given .0 .1 .1 .0) (c .before .before .before .before .before .item .given .0 .1 .1 .1 .0) (c .before .before .before .before .before .item .given .1) (c .before .before .before .before .before .before .before .before .pre .1)), λ h. plain-cut (c .before .before .before .before .before .before .before .before .args .item) (now (c .before .before .before .before .before .before .before .before .args .bytes)) (c .before .before .before .before .before .item .given .0 .0) (c .before .before .before .before .before .item .given .0 .1 .0) (c .before .before .before .before .before .item .given .0 .1 .1 .0) (c .before .before .before .before .before .item .given .0 .1 .1 .1 .0) (c .before .before .before .before .before .before .before .before .args .from) (c .before .before .before .before .before .item .given .1) all (c .before .before .reading-len .ensures .1 h))
+    (c .before .before .reading-len .ensures .0 ∙ ap (λ (x : Converted). length (x .textBytes)) (text-cut (c .before .before .before .before .before .before .before .before .args .item) (now (c .before .before .before .before .before .before .before .before .args .bytes)) (c .before .before .before .before .before .item .given .0 .0) (c .before .before .before .before .before .item .given .0 .1 .0) (c .before .before .before .before .before .item .given .0 .1 .1 .0) (c .before .before .before .before .before .item .given .0 .1 .1 .1 .0) (c .before .before .before .before .before .item .given .1) (c .before .before .before .before .before .before .before .before .pre .1)), λ h. plain-cut (c .before .before .before .before .before .before .before .before .args .item) (now (c .before .before .before .before .before .before .before .before .args .bytes)) (c .before .before .before .before .before .item .given .0 .0) (c .before .before .before .before .before .item .given .0 .1 .0) (c .before .before .before .before .before .item .given .0 .1 .1 .0) (c .before .before .before .before .before .item .given .0 .1 .1 .1 .0) (c .before .before .before .before .before .before .before .before .args .from) (c .before .before .before .before .before .item .given .1) all (c .before .before .reading-len .ensures .1 h))
 
 returns-2 : tie.Need-returns-2
-returns-2 c = (c .before .before .reading-len .ensures .0 ∙ ap length (text-cut (c .before .before .before .before .before .before .before .before .args .item) (now (c .before .before .before .before .before .before .before .before .args .bytes)) (c .before .before .before .before .before .item .given .0 .0) (c .before .before .before .before .before .item .given .0 .1 .0) (c .before .before .before .before .before .item .given .0 .1 .1 .0) (c .before .before .before .before .before .item .given .0 .1 .1 .1 .0) (c .before .before .before .before .before .item .given .1) (c .before .before .before .before .before .before .before .before .pre .1)), λ h. absurd (true≢false (sym h)))
+returns-2 c = (c .before .before .reading-len .ensures .0 ∙ ap (λ (x : Converted). length (x .textBytes)) (text-cut (c .before .before .before .before .before .before .before .before .args .item) (now (c .before .before .before .before .before .before .before .before .args .bytes)) (c .before .before .before .before .before .item .given .0 .0) (c .before .before .before .before .before .item .given .0 .1 .0) (c .before .before .before .before .before .item .given .0 .1 .1 .0) (c .before .before .before .before .before .item .given .0 .1 .1 .1 .0) (c .before .before .before .before .before .item .given .1) (c .before .before .before .before .before .before .before .before .pre .1)), λ h. absurd (true≢false (sym h)))
 
 returns-3 : tie.Need-returns-3
 returns-3 c = (one-of enum (λ x. 0 ≡ length (textHeld x (now (c .before .before .args .bytes)))) 0 (1 ∷ 2 ∷ []) (c .before .before .args .item) (c .match .keys2) ((λ v. refl), ((λ v. refl), (λ v. refl))), λ h. absurd (true≢false (sym h)))

@@ -1,11 +1,10 @@
 -- `piece::items::item_write` meets its contract: in each arm the item is known. Assumes nothing.
-use Prim.Native.Nat.{ℕ, _≤_}
+use Prim.Native.Nat.{_≤_}
 use mathlib.Core.Path.{refl, sym, ap, _∙_, subst}
-use mathlib.Core.List.{List}
 use native.Mathlib.Omega.{arith}
 use lib.ListN.{length}
 use denote.Ref.{now}
-use Rattle.buffer.specs.Buffer.{overwritten}
+use Rattle.buffer.specs.Buffer.{Converted, overwritten}
 use Rattle.cell.specs.declared.CellItem.{CellItem}
 use Rattle.piece.specs.Piece.{LiesWithin}
 use Rattle.piece.proofs.ItemLaws.{text-within, text-readable, text-cut, text-value, copied-cut}
@@ -51,7 +50,7 @@ reading-write-requires c κs = (
   text-readable (c .before .before .before .before .before .before .before .before .args .item) (now (c .before .before .before .before .before .before .before .before .args .bytes)) (c .before .before .before .before .item3 .given .0 .0) (c .before .before .before .before .item3 .given .0 .1 .0) (c .before .before .before .before .item3 .given .0 .1 .1 .0) (c .before .before .before .before .item3 .given .0 .1 .1 .1 .0) (c .before .before .before .before .item3 .given .1) (c .before .before .before .before .before .before .before .before .pre .0 .1 .0),
   (
     (λ h. copied-cut (c .before .before .before .before .before .before .before .before .args .item) (now (c .before .before .before .before .before .before .before .before .args .bytes)) (c .before .before .before .before .item3 .given .0 .0) (c .before .before .before .before .item3 .given .0 .1 .0) (c .before .before .before .before .item3 .given .0 .1 .1 .0) (c .before .before .before .before .item3 .given .0 .1 .1 .1 .0) (c .before .before .before .before .before .before .before .before .args .from) (c .before .before .before .before .item3 .given .1) (c .before .before .is-copied .ensures h .1) (c .before .before .before .before .before .before .before .before .pre .1 .1 (c .before .before .is-copied .ensures h .0))),
-    subst (λ (t : List ℕ). length t ≤ length (now (c .before .before .before .before .before .before .before .before .args .out))) (sym (text-cut (c .before .before .before .before .before .before .before .before .args .item) (now (c .before .before .before .before .before .before .before .before .args .bytes)) (c .before .before .before .before .item3 .given .0 .0) (c .before .before .before .before .item3 .given .0 .1 .0) (c .before .before .before .before .item3 .given .0 .1 .1 .0) (c .before .before .before .before .item3 .given .0 .1 .1 .1 .0) (c .before .before .before .before .item3 .given .1) (c .before .before .before .before .before .before .before .before .pre .0 .1 .0))) (c .before .before .before .before .before .before .before .before .pre .0 .1 .1),
+    subst (λ (x : Converted). length (x .textBytes) ≤ length (now (c .before .before .before .before .before .before .before .before .args .out))) (sym (text-cut (c .before .before .before .before .before .before .before .before .args .item) (now (c .before .before .before .before .before .before .before .before .args .bytes)) (c .before .before .before .before .item3 .given .0 .0) (c .before .before .before .before .item3 .given .0 .1 .0) (c .before .before .before .before .item3 .given .0 .1 .1 .0) (c .before .before .before .before .item3 .given .0 .1 .1 .1 .0) (c .before .before .before .before .item3 .given .1) (c .before .before .before .before .before .before .before .before .pre .0 .1 .0))) (c .before .before .before .before .before .before .before .before .pre .0 .1 .1),
   ),
 )
 
@@ -59,13 +58,13 @@ text-value-requires : tie.Need-text-value-requires
 text-value-requires c κs = search needs
 
 returns : tie.Need-returns
-returns c = rw (c .enum-told .given .1) (refl, (refl, refl))
+returns c = rw (c .enum-told .given .1) (refl, (refl, (refl, refl)))
 
 returns-2 : tie.Need-returns-2
-returns-2 c = rw (c .before .item .given .1) (refl, (refl, refl))
+returns-2 c = rw (c .before .item .given .1) (refl, (refl, (refl, refl)))
 
 returns-3 : tie.Need-returns-3
-returns-3 c = rw (c .before .before .item2 .given .1) (c .part-value .ensures, (refl, refl))
+returns-3 c = rw (c .before .before .item2 .given .1) (c .part-value .ensures, (refl, (refl, refl)))
 
 same-length : tie.Need-same-length
 same-length c = search needs
@@ -73,8 +72,8 @@ same-length c = search needs
 returns-4 : tie.Need-returns-4
 returns-4 c =
     let cut = text-cut (c .before .before .before .before .before .before .before .before .before .before .before .before .args .item) (now (c .before .before .before .before .before .before .before .before .before .before .before .before .args .bytes)) (c .before .before .before .before .before .before .before .before .item3 .given .0 .0) (c .before .before .before .before .before .before .before .before .item3 .given .0 .1 .0) (c .before .before .before .before .before .before .before .before .item3 .given .0 .1 .1 .0) (c .before .before .before .before .before .before .before .before .item3 .given .0 .1 .1 .1 .0) (c .before .before .before .before .before .before .before .before .item3 .given .1) (c .before .before .before .before .before .before .before .before .before .before .before .before .pre .0 .1 .0) in
-    let n = c .before .before .before .reading-write .ensures .0 ∙ ap length cut in
-    (c .text-value .ensures ∙ text-value (c .before .before .before .before .before .before .before .before .before .before .before .before .args .item) (now (c .before .before .before .before .before .before .before .before .before .before .before .before .args .bytes)) (c .before .before .before .before .before .before .before .before .item3 .given .0 .0) (c .before .before .before .before .before .before .before .before .item3 .given .0 .1 .0) (c .before .before .before .before .before .before .before .before .item3 .given .0 .1 .1 .0) (c .before .before .before .before .before .before .before .before .item3 .given .0 .1 .1 .1 .0) (c .before .before .before .before .before .before .before .before .item3 .given .1) (c .before .before .before .before .before .before .before .before .before .before .before .before .pre .0 .1 .0) (c .before .before .before .before .before .before .before .before .before .before .before .before .args .at) (c .before .before .before .before .before .before .before .before .before .before .before .before .args .next) (c .before .before .before .reading-write .result) n, (n, c .before .before .before .reading-write .ensures .1 ∙ ap (λ (t : List ℕ). overwritten t (now (c .before .before .before .before .before .before .before .before .before .before .before .before .args .out))) cut))
+    let n = c .before .before .before .reading-write .ensures .0 ∙ ap (λ (x : Converted). length (x .textBytes)) cut in
+    (c .text-value .ensures ∙ text-value (c .before .before .before .before .before .before .before .before .before .before .before .before .args .item) (now (c .before .before .before .before .before .before .before .before .before .before .before .before .args .bytes)) (c .before .before .before .before .before .before .before .before .item3 .given .0 .0) (c .before .before .before .before .before .before .before .before .item3 .given .0 .1 .0) (c .before .before .before .before .before .before .before .before .item3 .given .0 .1 .1 .0) (c .before .before .before .before .before .before .before .before .item3 .given .0 .1 .1 .1 .0) (c .before .before .before .before .before .before .before .before .item3 .given .1) (c .before .before .before .before .before .before .before .before .before .before .before .before .pre .0 .1 .0) (c .before .before .before .before .before .before .before .before .before .before .before .before .args .at) (c .before .before .before .before .before .before .before .before .before .before .before .before .args .next) (c .before .before .before .reading-write .result .len) n, (n, (c .before .before .before .reading-write .ensures .1 .0 ∙ ap (λ (x : Converted). overwritten (x .textBytes) (now (c .before .before .before .before .before .before .before .before .before .before .before .before .args .out))) cut, c .before .before .before .reading-write .ensures .1 .1 ∙ ap (λ (x : Converted). x .replaced) cut)))
 
 pub item-write-spec : {M : Type 1} → statement M
 item-write-spec =

@@ -1,12 +1,12 @@
 -- `piece::items::reading_len` meets its contract: in each arm the reading is known. Assumes nothing.
 use mathlib.Core.Path.{sym, ap, _∙_}
 use mathlib.Core.Bool.{true≢false}
-use mathlib.Core.List.{List}
-use Prim.Native.Nat.{ℕ}
 use lib.ListN.{length}
 use denote.Ref.{now}
 use Rattle.conversion.specs.declared.Conversion.{Conversion}
-use Rattle.conversion.specs.Picked.{textIn}
+use Rattle.conversion.specs.Picked.{convertedIn}
+use Rattle.conversion.proofs.Picks.{plain-picked}
+use Rattle.buffer.specs.Buffer.{Converted}
 use borrow.Author.Needs.{needs}
 use Rattle.piece.proofs.items.reading_len.Statement.{statement}
 use Rattle.piece.proofs.items.reading_len.Tie as tie
@@ -30,11 +30,11 @@ decimal-len-requires : tie.Need-decimal-len-requires
 decimal-len-requires c κs = rw (c .before .reading2 .given .1) at (c .before .before .before .before .pre .1)
 
 returns : tie.Need-returns
-unfolding textIn
 returns c =
     let same = c .before .before .conversion-of .ensures in
+    let s = now (c .before .before .before .before .before .before .before .args .s) in
     rw (c .before .before .before .before .reading .given .1)
-    (c .before .text-measure .ensures .counts ∙ ap length same, λ h. sym same ∙ sym (c .before .text-measure .ensures .alike) ∙ ap (λ (k : Conversion). textIn k (now (c .before .before .before .before .before .before .before .args .s))) (c .is-plain .ensures h))
+    (c .before .text-measure .ensures .counts ∙ ap (λ (x : Converted). length (x .textBytes)) same, λ h. sym same ∙ sym (c .before .text-measure .ensures .alike) ∙ ap (λ (k : Conversion). convertedIn k s) (c .is-plain .ensures h) ∙ plain-picked s)
 
 returns-2 : tie.Need-returns-2
 returns-2 c = rw (c .before .before .reading2 .given .1) (c .decimal-len .ensures, λ h. absurd (true≢false (sym h)))

@@ -11,7 +11,7 @@ use Rattle.rules.specs.Row.{cellValue}
 use Rattle.rules.specs.Conversions.{ported}
 use Rattle.words.specs.Reading.{columnNamed}
 use Rattle.piece.specs.Piece.{PlainCell}
-use Rattle.piece.proofs.PieceLaws.{leadOf, all-after, null-takes, null-absent, absent-text, lead-within, value-takes, value-stands, value-reads}
+use Rattle.piece.proofs.PieceLaws.{leadOf, all-after, null-takes, null-absent, absent-text, absent-replaced, lead-within, value-takes, value-stands, value-reads, value-counts}
 use Rattle.row_words.specs.Passes.{threeSet}
 use Rattle.row_words.proofs.Indicators.{at-most, absent-words, null-named, lead-named, plain-takes, plain-stands, plain-reads}
 use borrow.Author.Needs.{needs}
@@ -35,7 +35,7 @@ returns c = let h = null-named (c .before .before .before .before .before .befor
     let one = null-takes (columnNamed (c .before .before .before .before .before .before .before .before .before .before .args .first) (c .before .before .before .before .before .before .before .before .before .before .args .second)) (now (c .before .before .before .before .before .before .before .before .before .before .args .rest)) h in
     let some = at-most (sym one) (c .before .before .before .before .before .before .before .before .before .before .pre .0) in
     let text = sym (absent-text (columnNamed (c .before .before .before .before .before .before .before .before .before .before .args .first) (c .before .before .before .before .before .before .before .before .before .before .args .second)) (now (c .before .before .before .before .before .before .before .before .before .before .args .rest)) h some) in
-    (sym one, (ap length text, (rw (← text), c .before .before .put-words .ensures ∙ absent-words (now (c .before .before .before .before .before .before .before .before .before .before .args .values)) (c .before .before .before .before .before .before .before .before .before .before .args .place) (c .before .before .before .before .before .before .before .before .before .before .args .next) ∙ ap (λ (p : Cell). threeSet (now (c .before .before .before .before .before .before .before .before .before .before .args .values)) (c .before .before .before .before .before .before .before .before .before .before .args .place) (cellValue ported p (c .before .before .before .before .before .before .before .before .before .before .args .next))) (sym (null-absent (columnNamed (c .before .before .before .before .before .before .before .before .before .before .args .first) (c .before .before .before .before .before .before .before .before .before .before .args .second)) (now (c .before .before .before .before .before .before .before .before .before .before .args .rest)) h some (c .before .before .before .before .before .before .before .before .before .before .args .at))))))
+    (sym one, (ap length text, (rw (← text), (c .before .before .put-words .ensures ∙ absent-words (now (c .before .before .before .before .before .before .before .before .before .before .args .values)) (c .before .before .before .before .before .before .before .before .before .before .args .place) (c .before .before .before .before .before .before .before .before .before .before .args .next) ∙ ap (λ (p : Cell). threeSet (now (c .before .before .before .before .before .before .before .before .before .before .args .values)) (c .before .before .before .before .before .before .before .before .before .before .args .place) (cellValue ported p (c .before .before .before .before .before .before .before .before .before .before .args .next))) (sym (null-absent (columnNamed (c .before .before .before .before .before .before .before .before .before .before .args .first) (c .before .before .before .before .before .before .before .before .before .before .args .second)) (now (c .before .before .before .before .before .before .before .before .before .before .args .rest)) h some (c .before .before .before .before .before .before .before .before .before .before .args .at))), sym (absent-replaced (columnNamed (c .before .before .before .before .before .before .before .before .before .before .args .first) (c .before .before .before .before .before .before .before .before .before .before .args .second)) (now (c .before .before .before .before .before .before .before .before .before .before .args .rest)) h some)))))
 
 lead-requires : tie.Need-lead-requires
 lead-requires c κs = search needs
@@ -75,7 +75,7 @@ returns-2 c = let h = null-named (c .before .before .before .before .before .bef
     let n = lead-named (c .before .before .before .before .before .before .before .before .before .before .before .before .before .before .before .before .args .first) (c .before .before .before .before .before .before .before .before .before .before .before .before .before .before .before .before .args .second) _ (c .before .before .before .before .before .before .before .before .before .before .before .before .is-nullable .ensures) _ (c .before .before .before .before .before .before .before .before .before .lead .ensures .0) in
     let w = rw (all-after (c .before .before .before .before .before .before .before .before .before .lead .result) (now (c .before .before .before .before .before .before .before .before .before .before .before .before .before .before .before .before .args .rest)), n) at (c .before .before .before .before .before .put-there .ensures) in
     let text = sym (value-reads (columnNamed (c .before .before .before .before .before .before .before .before .before .before .before .before .before .before .before .before .args .first) (c .before .before .before .before .before .before .before .before .before .before .before .before .before .before .before .before .args .second)) (now (c .before .before .before .before .before .before .before .before .before .before .before .before .before .before .before .before .args .rest)) h) in
-    (omega (arith, w .0, n, value-takes (columnNamed (c .before .before .before .before .before .before .before .before .before .before .before .before .before .before .before .before .args .first) (c .before .before .before .before .before .before .before .before .before .before .before .before .before .before .before .before .args .second)) (now (c .before .before .before .before .before .before .before .before .before .before .before .before .before .before .before .before .args .rest)) h), (w .1 .0 ∙ ap length text, (w .1 .1 .0 ∙ ap (λ (t : List ℕ). overwritten t (now (c .before .before .before .before .before .before .before .before .before .before .before .before .before .before .before .before .args .out))) text, w .1 .1 .1 ∙ ap (λ (p : Cell). threeSet (now (c .before .before .before .before .before .before .before .before .before .before .before .before .before .before .before .before .args .values)) (c .before .before .before .before .before .before .before .before .before .before .before .before .before .before .before .before .args .place) (cellValue ported p (c .before .before .before .before .before .before .before .before .before .before .before .before .before .before .before .before .args .next))) (sym (value-stands (columnNamed (c .before .before .before .before .before .before .before .before .before .before .before .before .before .before .before .before .args .first) (c .before .before .before .before .before .before .before .before .before .before .before .before .before .before .before .before .args .second)) (now (c .before .before .before .before .before .before .before .before .before .before .before .before .before .before .before .before .args .rest)) h (c .before .before .before .before .before .before .before .before .before .before .before .before .before .before .before .before .args .at))))))
+    (omega (arith, w .0, n, value-takes (columnNamed (c .before .before .before .before .before .before .before .before .before .before .before .before .before .before .before .before .args .first) (c .before .before .before .before .before .before .before .before .before .before .before .before .before .before .before .before .args .second)) (now (c .before .before .before .before .before .before .before .before .before .before .before .before .before .before .before .before .args .rest)) h), (w .1 .0 ∙ ap length text, (w .1 .1 .0 ∙ ap (λ (t : List ℕ). overwritten t (now (c .before .before .before .before .before .before .before .before .before .before .before .before .before .before .before .before .args .out))) text, (w .1 .1 .1 .0 ∙ ap (λ (p : Cell). threeSet (now (c .before .before .before .before .before .before .before .before .before .before .before .before .before .before .before .before .args .values)) (c .before .before .before .before .before .before .before .before .before .before .before .before .before .before .before .before .args .place) (cellValue ported p (c .before .before .before .before .before .before .before .before .before .before .before .before .before .before .before .before .args .next))) (sym (value-stands (columnNamed (c .before .before .before .before .before .before .before .before .before .before .before .before .before .before .before .before .args .first) (c .before .before .before .before .before .before .before .before .before .before .before .before .before .before .before .before .args .second)) (now (c .before .before .before .before .before .before .before .before .before .before .before .before .before .before .before .before .args .rest)) h (c .before .before .before .before .before .before .before .before .before .before .before .before .before .before .before .before .args .at))), w .1 .1 .1 .1 ∙ sym (value-counts (columnNamed (c .before .before .before .before .before .before .before .before .before .before .before .before .before .before .before .before .args .first) (c .before .before .before .before .before .before .before .before .before .before .before .before .before .before .before .before .args .second)) (now (c .before .before .before .before .before .before .before .before .before .before .before .before .before .before .before .before .args .rest)) h)))))
 
 pub put-column-spec : {M : Type 1} → statement M
 put-column-spec =

@@ -5,11 +5,11 @@ use mathlib.Core.List.{List}
 use native.Mathlib.Omega.{arith}
 use lib.ListN.{length, take, drop}
 use denote.Ref.{now}
-use Rattle.buffer.specs.Buffer.{overwritten}
+use Rattle.buffer.specs.Buffer.{unreplaced, overwritten}
 use Rattle.types.specs.declared.ValuePlace.{ValuePlace}
 use Rattle.words.specs.Reading.{columnNamed}
 use Rattle.piece.specs.Piece.{textStart}
-use Rattle.piece.proofs.ItemLaws.{found-within, found-text, found-place, plain-found, number-text, number-place}
+use Rattle.piece.proofs.ItemLaws.{found-within, found-text, found-replaced, found-place, plain-found, number-text, number-replaced, number-place}
 use Rattle.row_words.specs.Passes.{threeSet}
 use Rattle.row_words.proofs.Typed.{no-number, type-is, number-same}
 use Rattle.row_words.proofs.Indicators.{at-most}
@@ -35,7 +35,7 @@ returns c =
         sym (ap length text),
         (
           ap (λ (t : List ℕ). overwritten t (now (c .before .before .before .before .before .before .before .before .before .args .out))) (sym text),
-          c .before .before .put-value .ensures ∙ ap (threeSet (now (c .before .before .before .before .before .before .before .before .before .args .values)) (c .before .before .before .before .before .before .before .before .before .args .place)) (number-place (c .before .before .before .before .decode-number .result .value) (columnNamed (c .before .before .before .before .before .before .before .before .before .args .first) (c .before .before .before .before .before .before .before .before .before .args .second)) (now (c .before .before .before .before .before .before .before .before .before .args .rest)) (o .0) (c .before .before .before .before .before .before .before .before .before .args .at) (c .before .before .before .before .before .before .before .before .before .args .next)),
+          (c .before .before .put-value .ensures ∙ ap (threeSet (now (c .before .before .before .before .before .before .before .before .before .args .values)) (c .before .before .before .before .before .before .before .before .before .args .place)) (number-place (c .before .before .before .before .decode-number .result .value) (columnNamed (c .before .before .before .before .before .before .before .before .before .args .first) (c .before .before .before .before .before .before .before .before .before .args .second)) (now (c .before .before .before .before .before .before .before .before .before .args .rest)) (o .0) (c .before .before .before .before .before .before .before .before .before .args .at) (c .before .before .before .before .before .before .before .before .before .args .next)), sym (number-replaced (c .before .before .before .before .decode-number .result .value) (columnNamed (c .before .before .before .before .before .before .before .before .before .args .first) (c .before .before .before .before .before .before .before .before .before .args .second)) (now (c .before .before .before .before .before .before .before .before .before .args .rest)) (o .0))),
         ),
       ),
     )
@@ -59,14 +59,14 @@ other-write-requires c κs =
           found-within (c .before .decode-other .result) (columnNamed (c .before .before .before .before .before .before .before .before .args .first) (c .before .before .before .before .before .before .before .before .args .second)) (now (c .before .before .before .before .before .before .before .before .args .rest)) o,
           (
             subst (λ (t : List ℕ). length t ≤ length (now (c .before .before .before .before .before .before .before .before .args .out))) (sym (found-text (c .before .decode-other .result) (columnNamed (c .before .before .before .before .before .before .before .before .args .first) (c .before .before .before .before .before .before .before .before .args .second)) (now (c .before .before .before .before .before .before .before .before .args .rest)) o)) (c .before .before .before .before .before .before .before .before .pre .1 .1 .0),
-            (c .before .before .before .before .before .before .before .before .pre .1 .1 .1 .1 .0, λ m. plain-found (c .before .decode-other .result) (columnNamed (c .before .before .before .before .before .before .before .before .args .first) (c .before .before .before .before .before .before .before .before .args .second)) (now (c .before .before .before .before .before .before .before .before .args .rest)) o (c .before .before .before .before .before .before .before .before .args .at) (c .before .before .before .before .before .before .before .before .pre .1 .1 .1 .1 .1 m) ∙ ap (λ (f : ℕ). drop f (take ((c .before .decode-other .result) .used) (now (c .before .before .before .before .before .before .before .before .args .rest)))) (sym (c .before .before .text-start .ensures ∙ ap textStart (type-is (c .before .before .before .before .before .before .before .before .args .first) (c .before .before .before .before .before .before .before .before .args .second) (c .before .before .before .type-of .ensures))))),
+            (c .before .before .before .before .before .before .before .before .pre .1 .1 .1 .1 .0, λ m. plain-found (c .before .decode-other .result) (columnNamed (c .before .before .before .before .before .before .before .before .args .first) (c .before .before .before .before .before .before .before .before .args .second)) (now (c .before .before .before .before .before .before .before .before .args .rest)) o (c .before .before .before .before .before .before .before .before .args .at) (c .before .before .before .before .before .before .before .before .pre .1 .1 .1 .1 .1 m) ∙ ap (λ (f : ℕ). unreplaced (drop f (take ((c .before .decode-other .result) .used) (now (c .before .before .before .before .before .before .before .before .args .rest))))) (sym (c .before .before .text-start .ensures ∙ ap textStart (type-is (c .before .before .before .before .before .before .before .before .args .first) (c .before .before .before .before .before .before .before .before .args .second) (c .before .before .before .type-of .ensures))))),
           ),
         ),
       ),
     )
 
 put-value-requires-2 : tie.Need-put-value-requires-2
-put-value-requires-2 c κs = search needs
+put-value-requires-2 c κs = c .before .before .before .before .before .before .before .before .before .before .before .before .before .pre .1 .1 .1 .0
 
 same-length-2 : tie.Need-same-length-2
 same-length-2 c = search needs
@@ -82,8 +82,8 @@ returns-2 c =
       (
         c .before .before .before .before .before .before .before .other-write .ensures .1 .1 .0 ∙ ap length text,
         (
-          c .before .before .before .before .before .before .before .other-write .ensures .1 .1 .1 ∙ ap (λ (t : List ℕ). overwritten t (now (c .before .before .before .before .before .before .before .before .before .before .before .before .before .before .before .before .args .out))) text,
-          c .before .before .put-value2 .ensures ∙ ap (threeSet (now (c .before .before .before .before .before .before .before .before .before .before .before .before .before .before .before .before .args .values)) (c .before .before .before .before .before .before .before .before .before .before .before .before .before .before .before .before .args .place)) (c .before .before .before .before .before .before .before .other-write .ensures .0 ∙ found-place (c .before .before .before .before .before .before .before .before .before .decode-other .result) (columnNamed (c .before .before .before .before .before .before .before .before .before .before .before .before .before .before .before .before .args .first) (c .before .before .before .before .before .before .before .before .before .before .before .before .before .before .before .before .args .second)) (now (c .before .before .before .before .before .before .before .before .before .before .before .before .before .before .before .before .args .rest)) o (c .before .before .before .before .before .before .before .before .before .before .before .before .before .before .before .before .args .at) (c .before .before .before .before .before .before .before .before .before .before .before .before .before .before .before .before .args .next)),
+          c .before .before .before .before .before .before .before .other-write .ensures .1 .1 .1 .0 ∙ ap (λ (t : List ℕ). overwritten t (now (c .before .before .before .before .before .before .before .before .before .before .before .before .before .before .before .before .args .out))) text,
+          (c .before .before .put-value2 .ensures ∙ ap (threeSet (now (c .before .before .before .before .before .before .before .before .before .before .before .before .before .before .before .before .args .values)) (c .before .before .before .before .before .before .before .before .before .before .before .before .before .before .before .before .args .place)) (c .before .before .before .before .before .before .before .other-write .ensures .0 ∙ found-place (c .before .before .before .before .before .before .before .before .before .decode-other .result) (columnNamed (c .before .before .before .before .before .before .before .before .before .before .before .before .before .before .before .before .args .first) (c .before .before .before .before .before .before .before .before .before .before .before .before .before .before .before .before .args .second)) (now (c .before .before .before .before .before .before .before .before .before .before .before .before .before .before .before .before .args .rest)) o (c .before .before .before .before .before .before .before .before .before .before .before .before .before .before .before .before .args .at) (c .before .before .before .before .before .before .before .before .before .before .before .before .before .before .before .before .args .next)), c .before .before .before .before .before .before .before .other-write .ensures .1 .1 .1 .1 ∙ found-replaced (c .before .before .before .before .before .before .before .before .before .decode-other .result) (columnNamed (c .before .before .before .before .before .before .before .before .before .before .before .before .before .before .before .before .args .first) (c .before .before .before .before .before .before .before .before .before .before .before .before .before .before .before .before .args .second)) (now (c .before .before .before .before .before .before .before .before .before .before .before .before .before .before .before .before .args .rest)) o),
         ),
       ),
     )

@@ -64,7 +64,7 @@ module _ (c : tie.After-copy-ascii-32s) where
   abbrev Ys : List ℕ
   Ys = c .copy-ascii-32s .last .1 .0
 
-  w : Wrote S D Ys N N
+  w : Wrote S D Ys N N 0
   w = c .copy-ascii-32s .ensures
 
 sub-copy-ascii-8s : tie.Need-sub-copy-ascii-8s
@@ -77,16 +77,16 @@ part-copy-ascii-8s-end : tie.Need-part-copy-ascii-8s-end
 part-copy-ascii-8s-end c = omega arith
 
 sub-copy-ascii-8s-2 : tie.Need-sub-copy-ascii-8s-2
-sub-copy-ascii-8s-2 c = let d = c .before .before .before in omega (arith, wrote-fits (S d) (D d) (Ys d) (N d) (N d) (w d))
+sub-copy-ascii-8s-2 c = let d = c .before .before .before in omega (arith, wrote-fits (S d) (D d) (Ys d) (N d) (N d) 0 (w d))
 
 part-copy-ascii-8s-start-2 : tie.Need-part-copy-ascii-8s-start-2
-part-copy-ascii-8s-start-2 c = let d = c .before .before .before in omega (arith, wrote-fits (S d) (D d) (Ys d) (N d) (N d) (w d))
+part-copy-ascii-8s-start-2 c = let d = c .before .before .before in omega (arith, wrote-fits (S d) (D d) (Ys d) (N d) (N d) 0 (w d))
 
 part-copy-ascii-8s-end-2 : tie.Need-part-copy-ascii-8s-end-2
 part-copy-ascii-8s-end-2 c = omega arith
 
 copy-ascii-8s-requires : tie.Need-copy-ascii-8s-requires
-copy-ascii-8s-requires c κs = let d = c .before .before .before .before in wrote-room (S d) (D d) (Ys d) (N d) (N d) (w d)
+copy-ascii-8s-requires c κs = let d = c .before .before .before .before in wrote-room (S d) (D d) (Ys d) (N d) (N d) 0 (w d)
 
 -- after the blocks of eight
 module _ (c : tie.After-copy-ascii-8s) where
@@ -99,8 +99,8 @@ module _ (c : tie.After-copy-ascii-8s) where
   abbrev Zs : List ℕ
   Zs = take (N at) (Ys at) ++ (c .copy-ascii-8s .last .1 .0 ++ drop (length (Ys at) - N at) (drop (N at) (Ys at)))
 
-  w₁ : Wrote (S at) (D at) Zs M M
-  w₁ = wrote-lent (S at) (D at) (Ys at) (N at) (N at) (w at) _ _ _ (c .copy-ascii-8s .ensures)
+  w₁ : Wrote (S at) (D at) Zs M M 0
+  w₁ = wrote-lent (S at) (D at) (Ys at) (N at) (N at) 0 (w at) _ _ _ 0 (c .copy-ascii-8s .ensures)
 
 add-m : tie.Need-add-m
 add-m c = omega (arith, w₁ (c .before .before) .fits)
@@ -124,16 +124,16 @@ part-copy-ascii-bytes-end : tie.Need-part-copy-ascii-bytes-end
 part-copy-ascii-bytes-end c = omega arith
 
 sub-copy-ascii-bytes-2 : tie.Need-sub-copy-ascii-bytes-2
-sub-copy-ascii-bytes-2 c = let d = c .before .before .before .before in omega (arith, wrote-fits (S (at d)) (D (at d)) (Zs d) (M d) (M d) (w₁ d))
+sub-copy-ascii-bytes-2 c = let d = c .before .before .before .before in omega (arith, wrote-fits (S (at d)) (D (at d)) (Zs d) (M d) (M d) 0 (w₁ d))
 
 part-copy-ascii-bytes-start-2 : tie.Need-part-copy-ascii-bytes-start-2
-part-copy-ascii-bytes-start-2 c = let d = c .before .before .before .before in omega (arith, wrote-fits (S (at d)) (D (at d)) (Zs d) (M d) (M d) (w₁ d))
+part-copy-ascii-bytes-start-2 c = let d = c .before .before .before .before in omega (arith, wrote-fits (S (at d)) (D (at d)) (Zs d) (M d) (M d) 0 (w₁ d))
 
 part-copy-ascii-bytes-end-2 : tie.Need-part-copy-ascii-bytes-end-2
 part-copy-ascii-bytes-end-2 c = omega arith
 
 copy-ascii-bytes-requires-2 : tie.Need-copy-ascii-bytes-requires-2
-copy-ascii-bytes-requires-2 c κs = let d = c .before .before .before .before .before in wrote-room (S (at d)) (D (at d)) (Zs d) (M d) (M d) (w₁ d)
+copy-ascii-bytes-requires-2 c κs = let d = c .before .before .before .before .before in wrote-room (S (at d)) (D (at d)) (Zs d) (M d) (M d) 0 (w₁ d)
 
 -- after the bytes
 module _ (c : tie.After-copy-ascii-bytes2) where
@@ -146,8 +146,8 @@ module _ (c : tie.After-copy-ascii-bytes2) where
   left : M at₁ + K ≤ length (S (at at₁))
   left = omega (arith, w₁ at₁ .fits, c .copy-ascii-bytes2 .ensures .0 .fits, rest-length (S (at at₁)) (M at₁))
 
-  w₂ : Wrote (S (at at₁)) (D (at at₁)) (take (M at₁) (Zs at₁) ++ (c .copy-ascii-bytes2 .last .1 .0 ++ drop (length (Zs at₁) - M at₁) (drop (M at₁) (Zs at₁)))) (M at₁ + K) (M at₁ + K)
-  w₂ = copied-lent (S (at at₁)) (D (at at₁)) (Zs at₁) (M at₁) (M at₁) (w₁ at₁) K left _ K (omega arith) (ascii-good K _ (c .copy-ascii-bytes2 .ensures .0)) (c .copy-ascii-bytes2 .ensures .1)
+  w₂ : Wrote (S (at at₁)) (D (at at₁)) (take (M at₁) (Zs at₁) ++ (c .copy-ascii-bytes2 .last .1 .0 ++ drop (length (Zs at₁) - M at₁) (drop (M at₁) (Zs at₁)))) (M at₁ + K) (M at₁ + K) 0
+  w₂ = copied-lent (S (at at₁)) (D (at at₁)) (Zs at₁) (M at₁) (M at₁) 0 (w₁ at₁) K left _ K (omega arith) (ascii-good K _ (c .copy-ascii-bytes2 .ensures .0)) (c .copy-ascii-bytes2 .ensures .1)
 
 add-result : tie.Need-add-result
 add-result c = omega (arith, left (c .before .before))

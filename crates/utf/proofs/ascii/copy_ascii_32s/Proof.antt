@@ -17,7 +17,7 @@ use Rattle.utf.proofs.ascii.copy_ascii_32s.Statement.{statement}
 use Rattle.utf.proofs.ascii.copy_ascii_32s.Tie as tie
 
 abbrev Inv-loop : tie.InvT-loop
-Inv-loop s out₀ i₀ out i = Wrote s out₀ out i i
+Inv-loop s out₀ i₀ out i = Wrote s out₀ out i i 0
 
 abbrev μ-loop : tie.MeasureT-loop
 μ-loop s out₀ i₀ out i = length s - i
@@ -91,10 +91,10 @@ part-copy-32-end : tie.Need-part-copy-32-end Inv-loop μ-loop
 part-copy-32-end c = omega arith
 
 sub-copy-32-2 : tie.Need-sub-copy-32-2 Inv-loop μ-loop
-sub-copy-32-2 c = let d = c .before in omega (arith, wrote-fits (S d) (D d) (Out d) (I d) (I d) (at d .loop .inv))
+sub-copy-32-2 c = let d = c .before in omega (arith, wrote-fits (S d) (D d) (Out d) (I d) (I d) 0 (at d .loop .inv))
 
 part-copy-32-start-2 : tie.Need-part-copy-32-start-2 Inv-loop μ-loop
-part-copy-32-start-2 c = let d = c .before in omega (arith, wrote-fits (S d) (D d) (Out d) (I d) (I d) (at d .loop .inv))
+part-copy-32-start-2 c = let d = c .before in omega (arith, wrote-fits (S d) (D d) (Out d) (I d) (I d) 0 (at d .loop .inv))
 
 part-copy-32-end-2 : tie.Need-part-copy-32-end-2 Inv-loop μ-loop
 part-copy-32-end-2 c = omega arith
@@ -102,7 +102,7 @@ part-copy-32-end-2 c = omega arith
 copy-32-requires : tie.Need-copy-32-requires Inv-loop μ-loop
 copy-32-requires c κs =
     let d = c .before .before in
-    (omega (arith, rest-length (S d) (I d), left d), copy-room (S d) (D d) (Out d) (I d) (I d) (at d .loop .inv) 32 (left d))
+    (omega (arith, rest-length (S d) (I d), left d), copy-room (S d) (D d) (Out d) (I d) (I d) 0 (at d .loop .inv) 32 (left d))
 
 loop-less : tie.Need-loop-less Inv-loop μ-loop
 loop-less c = omega (arith, left (c .before .before .before .before .before))
@@ -110,7 +110,7 @@ loop-less c = omega (arith, left (c .before .before .before .before .before))
 loop-again : tie.Need-loop-again Inv-loop μ-loop
 loop-again c =
     let d = c .before .before .before .before .before in
-    copied-lent (S d) (D d) (Out d) (I d) (I d) (at d .loop .inv) 32 (left d) (c .before .before .copy-32 .last .1 .0) 32 (omega arith) (ascii-good 32 _ (run d)) (c .before .before .copy-32 .ensures)
+    copied-lent (S d) (D d) (Out d) (I d) (I d) 0 (at d .loop .inv) 32 (left d) (c .before .before .copy-32 .last .1 .0) 32 (omega arith) (ascii-good 32 _ (run d)) (c .before .before .copy-32 .ensures)
 
 pub copy-ascii-32s-spec : {M : Type 1} → statement M
 copy-ascii-32s-spec =

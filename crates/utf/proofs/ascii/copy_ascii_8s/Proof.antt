@@ -15,7 +15,7 @@ use Rattle.utf.proofs.ascii.copy_ascii_8s.Statement.{statement}
 use Rattle.utf.proofs.ascii.copy_ascii_8s.Tie as tie
 
 abbrev Inv-loop : tie.InvT-loop
-Inv-loop s out₀ i₀ out i = Wrote s out₀ out i i
+Inv-loop s out₀ i₀ out i = Wrote s out₀ out i i 0
 
 abbrev μ-loop : tie.MeasureT-loop
 μ-loop s out₀ i₀ out i = length s - i
@@ -62,10 +62,10 @@ part-copy-8-end : tie.Need-part-copy-8-end Inv-loop μ-loop
 part-copy-8-end c = omega arith
 
 sub-copy-8-2 : tie.Need-sub-copy-8-2 Inv-loop μ-loop
-sub-copy-8-2 c = let d = c .before in omega (arith, wrote-fits (S d) (D d) (Out d) (I d) (I d) (at d .loop .inv))
+sub-copy-8-2 c = let d = c .before in omega (arith, wrote-fits (S d) (D d) (Out d) (I d) (I d) 0 (at d .loop .inv))
 
 part-copy-8-start-2 : tie.Need-part-copy-8-start-2 Inv-loop μ-loop
-part-copy-8-start-2 c = let d = c .before in omega (arith, wrote-fits (S d) (D d) (Out d) (I d) (I d) (at d .loop .inv))
+part-copy-8-start-2 c = let d = c .before in omega (arith, wrote-fits (S d) (D d) (Out d) (I d) (I d) 0 (at d .loop .inv))
 
 part-copy-8-end-2 : tie.Need-part-copy-8-end-2 Inv-loop μ-loop
 part-copy-8-end-2 c = omega arith
@@ -73,7 +73,7 @@ part-copy-8-end-2 c = omega arith
 copy-8-requires : tie.Need-copy-8-requires Inv-loop μ-loop
 copy-8-requires c κs =
     let d = c .before .before in
-    (omega (arith, rest-length (S d) (I d), left d), copy-room (S d) (D d) (Out d) (I d) (I d) (at d .loop .inv) 8 (left d))
+    (omega (arith, rest-length (S d) (I d), left d), copy-room (S d) (D d) (Out d) (I d) (I d) 0 (at d .loop .inv) 8 (left d))
 
 -- where they are copied
 module _ (c : tie.After-copy-8 Inv-loop μ-loop) where
@@ -84,8 +84,8 @@ module _ (c : tie.After-copy-8 Inv-loop μ-loop) where
   Ys = c .copy-8 .last .1 .0
 
   copied : (k : ℕ) → k ≤ 8 → AsciiRun k (take (length (S of) - I of) (drop (I of) (S of)))
-      → Wrote (S of) (D of) (take (I of) (Out of) ++ (Ys ++ drop (length (Out of) - I of) (drop (I of) (Out of)))) (I of + k) (I of + k)
-  copied k h r = copied-lent (S of) (D of) (Out of) (I of) (I of) (at of .loop .inv) 8 (left of) Ys k h (ascii-good k _ r) (c .copy-8 .ensures)
+      → Wrote (S of) (D of) (take (I of) (Out of) ++ (Ys ++ drop (length (Out of) - I of) (drop (I of) (Out of)))) (I of + k) (I of + k) 0
+  copied k h r = copied-lent (S of) (D of) (Out of) (I of) (I of) 0 (at of .loop .inv) 8 (left of) Ys k h (ascii-good k _ r) (c .copy-8 .ensures)
 
 sub-ascii-8 : tie.Need-sub-ascii-8 Inv-loop μ-loop
 sub-ascii-8 c = omega (arith, left (of (c .before .before)))

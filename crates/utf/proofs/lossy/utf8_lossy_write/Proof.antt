@@ -5,10 +5,10 @@ use mathlib.Core.Path.{_≡_, refl, sym, ap}
 use denote.Ref.{now}
 use lib.ListN.{length, take, drop, length-append}
 use lib.Seq.{length-take-le}
-use Rattle.unicode.specs.Unicode.{utf8Text}
+use Rattle.unicode.specs.Unicode.{replacements, utf8Pieces, utf8Text}
 use Rattle.buffer.proofs.Writing.{Writing, wrote-first, wrote-rest, fits, as-long, all, end}
 use Rattle.utf.proofs.AsciiLaws.{rest, rest-length}
-use Rattle.utf.proofs.Utf8Runs.{good-text, text-end}
+use Rattle.utf.proofs.Utf8Runs.{good-text, good-count, text-end, count-end}
 use native.Mathlib.Omega.{arith}
 use borrow.Author.Needs.{needs}
 use Rattle.utf.proofs.lossy.utf8_lossy_write.Statement.{statement}
@@ -59,7 +59,8 @@ returns : tie.Need-returns
 returns c =
     let d = c .before .before .before .before in
     let done = text-end (S (d .before .before .before)) (E (d .before .before .before)) (omega (arith, d .before .before .before .run-of .ensures .1 .done (c .if1 .taken))) in
-    (all (w d) done, end (w d) done)
+    let k = count-end (S (d .before .before .before)) (E (d .before .before .before)) (omega (arith, d .before .before .before .run-of .ensures .1 .done (c .if1 .taken))) in
+    (all (w d) done, (end (w d) done, omega (arith, good-count (E (d .before .before .before)) (S (d .before .before .before)) (d .before .before .before .run-of .ensures .0), k)))
 
 sub-write-runs : tie.Need-sub-write-runs
 sub-write-runs c = search needs
@@ -82,20 +83,32 @@ part-write-runs-end-2 c = search needs
 write-runs-requires : tie.Need-write-runs-requires
 write-runs-requires c κs = rw (rest (S (c .before .before .before .before .before .before .before .before .before)) (E (c .before .before .before .before .before .before .before .before .before))) (omega (arith, fits (w (c .before .before .before .before .before .before)), rest-length (Ys (c .before .before .before .before .before .before)) (E (c .before .before .before .before .before .before .before .before .before))))
 
-count : (c : tie.After-slice-known3) → c .before .before .write-runs .result ≡ length (utf8Text (drop (E (c .before .before .before .before .before .before .before .before .before .before .before .before)) (S (c .before .before .before .before .before .before .before .before .before .before .before .before))))
-count c = rw (rest (S (c .before .before .before .before .before .before .before .before .before .before .before .before)) (E (c .before .before .before .before .before .before .before .before .before .before .before .before))) at (c .before .before .write-runs .ensures .0)
+-- where the rest is written
+module _ (c : tie.After-struct-known2) where
+  abbrev at : tie.After-copy
+  at = c .before .before .before .before .before .before .before .before .before .before
 
-add-result : tie.Need-add-result
-add-result c = omega (arith, count c, fits (w (c .before .before .before .before .before .before .before .before .before)), as-long (w (c .before .before .before .before .before .before .before .before .before)), c .before .before .before .before .before .before .before .before .before .before .before .before .before .before .before .good .1 .0 .0)
+  abbrev of : tie.After-run-of
+  of = c .before .before .before .before .before .before .before .before .before .before .before .before .before
+
+  count : c .before .before .before .write-runs .result .len ≡ length (utf8Text (drop (E of) (S of)))
+  count = rw (rest (S of) (E of)) at (c .before .before .before .write-runs .ensures .0)
+
+  replaced : c .before .before .before .write-runs .result .replaced ≡ replacements (utf8Pieces (drop (E of) (S of)))
+  replaced = rw (rest (S of) (E of)) at (c .before .before .before .write-runs .ensures .1 .1)
+
+add-len : tie.Need-add-len
+add-len c = omega (arith, count c, fits (w (at c)), as-long (w (at c)), c .before .before .before .before .before .before .before .before .before .before .before .before .before .before .before .before .good .1 .0 .0)
 
 same-length-2 : tie.Need-same-length-2
 same-length-2 c = search needs
 
 returns-2 : tie.Need-returns-2
 returns-2 c =
-    let d = c .before .before .before .before .before .before .before .before .before in
-    let done = wrote-rest (w d) (utf8Text (drop (E (c .before .before .before .before .before .before .before .before .before .before .before .before)) (S (c .before .before .before .before .before .before .before .before .before .before .before .before)))) [] (sym (append-nil (utf8Text (drop (E (c .before .before .before .before .before .before .before .before .before .before .before .before)) (S (c .before .before .before .before .before .before .before .before .before .before .before .before)))))) (c .before .before .write-runs .last .1 .0) (rw (rest (S (c .before .before .before .before .before .before .before .before .before .before .before .before)) (E (c .before .before .before .before .before .before .before .before .before .before .before .before))) at (c .before .before .write-runs .ensures .1)) (c .before .before .write-runs .result) (count c) in
-    (all done refl, end done refl)
+    let left = utf8Text (drop (E (of c)) (S (of c))) in
+    let bytes = rw (rest (S (of c)) (E (of c))) at (c .before .before .before .write-runs .ensures .1 .0) in
+    let done = wrote-rest (w (at c)) left [] (sym (append-nil left)) (c .before .before .before .write-runs .last .1 .0) bytes (c .before .before .before .write-runs .result .len) (count c) in
+    (all done refl, (end done refl, omega (arith, replaced c, good-count (E (of c)) (S (of c)) (of c .run-of .ensures .0))))
 
 pub utf8-lossy-write-spec : {M : Type 1} → statement M
 utf8-lossy-write-spec =
@@ -115,6 +128,6 @@ utf8-lossy-write-spec =
     part-write-runs-start-2
     part-write-runs-end-2
     write-runs-requires
-    add-result
+    add-len
     same-length-2
     returns-2)

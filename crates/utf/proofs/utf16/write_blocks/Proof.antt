@@ -1,4 +1,4 @@
--- `utf::utf16::write_blocks` meets its contract. The loop's invariant: what is not yet written is the text after the unit at i. Assumes nothing.
+-- `utf::utf16::write_blocks` meets its contract. The loop's invariant: what is not yet written is the text after the unit at i, and all unpaired surrogates are there. Assumes nothing.
 use Prim.Native.Nat.{ℕ, _+_, _-_, _≤_, _<_}
 use mathlib.Core.List.{List, _++_}
 use mathlib.Core.Path.{_≡_, refl, sym, ap, _∙_}
@@ -9,21 +9,21 @@ use denote.Ref.{now}
 use lib.Dec.{ltb}
 use lib.ListN.{length, take, drop, getD}
 use Rattle.unicode.specs.Unicode.{range, within, utf16Text}
-use Rattle.buffer.specs.Filling.{Filling}
+use Rattle.utf.specs.Utf16Code.{AfterFirst}
 use Rattle.buffer.proofs.Filling.{start, fits, wrote-filling}
 use Rattle.utf.proofs.AsciiLaws.{rest-length}
-use Rattle.utf.proofs.Utf16LaneLaws.{neither, lent-first, lent-text, lent-filling}
+use Rattle.utf.proofs.Utf16LaneLaws.{neither, lent-first, lent-drop, lent-after}
 use Rattle.utf.proofs.utf16.write_blocks.Statement.{statement}
 use Rattle.utf.proofs.utf16.write_blocks.Tie as tie
 
 abbrev Inv-loop : tie.InvT-loop
-Inv-loop s out₀ credit₀ o₀ i₀ out credit o i = (i + 2 ≤ length s) × ((credit ≤ 64) × Filling (utf16Text (drop 2 s)) out₀ (utf16Text (drop (i + 2) s)) out o)
+Inv-loop s out₀ credit₀ o₀ i₀ out credit o i = (i + 2 ≤ length s) × ((credit ≤ 64) × AfterFirst s out₀ out i o)
 
 abbrev μ-loop : tie.MeasureT-loop
 μ-loop s out₀ credit₀ o₀ i₀ out credit o i = length s - i
 
 loop-holds : tie.Need-loop-holds Inv-loop μ-loop
-loop-holds c = (c .before .before .pre .0, (omega arith, start _ _ (c .before .before .pre .1)))
+loop-holds c = (c .before .before .pre .0, (omega arith, (start _ _ (c .before .before .pre .1), refl)))
 
 sub-loop : tie.Need-sub-loop Inv-loop μ-loop
 sub-loop c = omega arith
@@ -35,7 +35,7 @@ between-requires : tie.Need-between-requires Inv-loop μ-loop
 between-requires c κs = search needs
 
 same-length : tie.Need-same-length Inv-loop μ-loop
-same-length c = c .before .before .before .before .loop .inv .1 .1 .long
+same-length c = c .before .before .before .before .loop .inv .1 .1 .0 .long
 
 returns : tie.Need-returns Inv-loop μ-loop
 returns c = (c .before .before .before .before .loop .inv .1 .1, c .before .before .before .before .loop .inv .0)
@@ -50,10 +50,10 @@ part-write-block-end : tie.Need-part-write-block-end Inv-loop μ-loop
 part-write-block-end c = omega arith
 
 sub-write-block-2 : tie.Need-sub-write-block-2 Inv-loop μ-loop
-sub-write-block-2 c = omega (arith, fits (c .before .before .before .before .before .loop .inv .1 .1))
+sub-write-block-2 c = omega (arith, fits (c .before .before .before .before .before .loop .inv .1 .1 .0))
 
 part-write-block-start-2 : tie.Need-part-write-block-start-2 Inv-loop μ-loop
-part-write-block-start-2 c = omega (arith, fits (c .before .before .before .before .before .loop .inv .1 .1))
+part-write-block-start-2 c = omega (arith, fits (c .before .before .before .before .before .loop .inv .1 .1 .0))
 
 part-write-block-end-2 : tie.Need-part-write-block-end-2 Inv-loop μ-loop
 part-write-block-end-2 c = omega arith
@@ -65,7 +65,7 @@ write-block-requires c κs =
       omega (arith, rest-length s (at .loop .i), c .before .before .before .before .before .loop-test .taken),
       (
         rw (lent-first s (at .loop .i)) (sym (c .before .before .before .between .ensures) ∙ c .before .before .if1 .left),
-        rw (lent-text s (at .loop .i) 2) (omega (arith, fits (at .loop .inv .1 .1), rest-length (at .loop .out) (at .loop .o))),
+        rw (lent-drop s (at .loop .i) 2) (omega (arith, fits (at .loop .inv .1 .1 .0), rest-length (at .loop .out) (at .loop .o))),
       ),
     )
 
@@ -83,12 +83,15 @@ module _ (c : tie.After-write-block Inv-loop μ-loop) where
   left : at .loop .i + 144 ≤ length S
   left = omega (arith, c .before .before .before .before .before .before .loop-test .taken, at .loop .inv .0)
 
-  w₁ : Filling (utf16Text (drop 2 S)) (now (at .before .before .before .args .out)) (utf16Text (drop (at .loop .i + c .write-block .result .read + 2) S))
-      (take (at .loop .o) (at .loop .out) ++ (c .write-block .last .1 .0 ++ drop (length (at .loop .out) - at .loop .o) (drop (at .loop .o) (at .loop .out)))) (at .loop .o + c .write-block .result .written)
-  w₁ = wrote-filling (at .loop .inv .1 .1) (lent-filling S (at .loop .i) _ (c .write-block .last .1 .0) (c .write-block .result .read) (c .write-block .result .written) (c .write-block .ensures .0))
+  w₁ : AfterFirst S (now (at .before .before .before .args .out))
+      (take (at .loop .o) (at .loop .out) ++ (c .write-block .last .1 .0 ++ drop (length (at .loop .out) - at .loop .o) (drop (at .loop .o) (at .loop .out))))
+      (at .loop .i + c .write-block .result .read) (at .loop .o + c .write-block .result .written)
+  w₁ =
+      let v = lent-after S (at .loop .i) _ (c .write-block .last .1 .0) (c .write-block .result .read) (c .write-block .result .written) (c .write-block .ensures .0) in
+      (wrote-filling (at .loop .inv .1 .1 .0) (v .0), at .loop .inv .1 .1 .1 ∙ v .1)
 
 add-o : tie.Need-add-o Inv-loop μ-loop
-add-o c = omega (arith, w₁ (c .before .before .before) .before, w₁ (c .before .before .before) .room)
+add-o c = omega (arith, w₁ (c .before .before .before) .0 .before, w₁ (c .before .before .before) .0 .room)
 
 add-i : tie.Need-add-i Inv-loop μ-loop
 add-i c = omega (arith, few (c .before .before .before .before), left (c .before .before .before .before))
@@ -97,7 +100,7 @@ add-if2 : tie.Need-add-if2 Inv-loop μ-loop
 add-if2 c = omega (arith, c .before .before .before .before .before .before .write-block .ensures .1 .1, c .before .before .before .before .before .before .before .before .before .before .before .before .before .loop .inv .1 .0)
 
 same-length-2 : tie.Need-same-length-2 Inv-loop μ-loop
-same-length-2 c = w₁ (c .before .before .before .before .before .before .before) .long
+same-length-2 c = w₁ (c .before .before .before .before .before .before .before) .0 .long
 
 returns-2 : tie.Need-returns-2 Inv-loop μ-loop
 returns-2 c =
@@ -122,7 +125,7 @@ loop-again c =
     (omega (arith, few d, left d), (c .kept .ensures, w₁ d))
 
 same-length-3 : tie.Need-same-length-3 Inv-loop μ-loop
-same-length-3 c = c .before .loop .inv .1 .1 .long
+same-length-3 c = c .before .loop .inv .1 .1 .0 .long
 
 returns-3 : tie.Need-returns-3 Inv-loop μ-loop
 returns-3 c = (c .before .loop .inv .1 .1, c .before .loop .inv .0)

@@ -1,4 +1,5 @@
--- `utf::utf16::write_laid` meets its contract. The loop's invariant: what is not yet written is the text after the unit at i, and a high surrogate there is paired.
+-- `utf::utf16::write_laid` meets its contract. The loop's invariant: what is not yet written is the text after the unit at i, all unpaired surrogates are there, and
+-- a high surrogate at i is paired.
 -- Three bytes of text are left wherever the loop stores three. Assumes nothing.
 use Prim.Native.Nat.{ℕ, _+_, _-_, _%_, _≤_, _<_}
 use mathlib.Core.Bool.{true, false, not}
@@ -10,18 +11,18 @@ use borrow.Author.Needs.{needs}
 use denote.Ref.{now}
 use lib.Dec.{eqb}
 use lib.ListN.{length, drop, getD, set, length-set}
-use Rattle.unicode.specs.Unicode.{range, within, utf16Text}
+use Rattle.unicode.specs.Unicode.{range, within, replacements, utf16Pieces, utf16Text}
 use Rattle.unicode.proofs.Ranges.{never}
 use Rattle.buffer.specs.Filling.{Filling}
 use Rattle.buffer.proofs.Filling.{start, left-length, three-stored}
 use Rattle.utf.specs.Utf16Code.{unitBytes, LaidAt}
 use Rattle.utf.proofs.Utf16BlockLaws.{bit-most}
-use Rattle.utf.proofs.Utf16LaneLaws.{restAfter, rest-whole, rest-three, third-byte, unit-step, stopped, ended, end-most, even-end}
+use Rattle.utf.proofs.Utf16LaneLaws.{restAfter, aloneAfter, rest-whole, rest-three, third-byte, unit-step, stopped, ended, end-most, even-end}
 use Rattle.utf.proofs.utf16.write_laid.Statement.{statement}
 use Rattle.utf.proofs.utf16.write_laid.Tie as tie
 
 abbrev Inv-loop : tie.InvT-loop
-Inv-loop first second count s out₀ e changes₀ last₀ o₀ i₀ out changes last o i = (i ≤ e) × ((i % 2 ≡ 0) × ((changes ≤ i) × ((within (getD s i 0) (range 0xD8 0xDB) ≡ true → within (getD s (i + 2) 0) (range 0xDC 0xDF) ≡ true) × Filling (utf16Text (drop 2 s)) out₀ (restAfter s i) out o)))
+Inv-loop first second count s out₀ e changes₀ last₀ o₀ i₀ out changes last o i = (i ≤ e) × ((i % 2 ≡ 0) × ((changes ≤ i) × ((within (getD s i 0) (range 0xD8 0xDB) ≡ true → within (getD s (i + 2) 0) (range 0xDC 0xDF) ≡ true) × (Filling (utf16Text (drop 2 s)) out₀ (restAfter s i) out o × (replacements (utf16Pieces (drop 2 s)) ≡ aloneAfter s i)))))
 
 abbrev μ-loop : tie.MeasureT-loop
 μ-loop first second count s out₀ e changes₀ last₀ o₀ i₀ out changes last o i = e - i
@@ -38,7 +39,10 @@ loop-holds c = (
       omega arith,
       (
         λ h. never (sym (c .before .before .before .pre .1 .1 .0) ∙ h),
-        rw (rest-whole (now (c .before .before .before .args .s)) 0 (c .before .before .before .pre .1 .1 .0)) (start _ _ (c .before .before .before .pre .1 .1 .1)),
+        (
+          rw (rest-whole (now (c .before .before .before .args .s)) 0 (c .before .before .before .pre .1 .1 .0) .0) (start _ _ (c .before .before .before .pre .1 .1 .1)),
+          sym (rest-whole (now (c .before .before .before .args .s)) 0 (c .before .before .before .pre .1 .1 .0) .1),
+        ),
       ),
     ),
   ),
@@ -48,14 +52,14 @@ element-copy-out-n : tie.Need-element-copy-out-n Inv-loop μ-loop
 element-copy-out-n c = omega (arith, c .before .loop .inv .0, end-most (now (c .before .before .before .before .before .args .s)) _ (c .before .before .block-end .ensures))
 
 same-length : tie.Need-same-length Inv-loop μ-loop
-same-length c = c .before .before .before .loop .inv .1 .1 .1 .1 .long
+same-length c = c .before .before .before .loop .inv .1 .1 .1 .1 .0 .long
 
 returns : tie.Need-returns Inv-loop μ-loop
 returns c =
     let at = c .before .before .before in
     let s : List ℕ = now (at .before .before .before .before .args .s) in
     let whole = stopped _ _ _ _ _ (c .before .before .before .before .before .before .before .pre .0 (at .loop .i) (omega (arith, c .before .before .loop-test .taken, end-most s _ (at .before .block-end .ensures))) .count) (c .if1 .taken) (at .loop .inv .1 .1 .1 .0) in
-    (rw (rest-whole s (at .loop .i) whole) at (at .loop .inv .1 .1 .1 .1), (omega (arith, at .loop .inv .0, end-most s _ (at .before .block-end .ensures)), omega (arith, at .loop .inv .0, at .loop .inv .1 .1 .0, end-most s _ (at .before .block-end .ensures))))
+    ((rw (rest-whole s (at .loop .i) whole .0) at (at .loop .inv .1 .1 .1 .1 .0), at .loop .inv .1 .1 .1 .1 .1 ∙ rest-whole s (at .loop .i) whole .1), (omega (arith, at .loop .inv .0, end-most s _ (at .before .block-end .ensures)), omega (arith, at .loop .inv .0, at .loop .inv .1 .1 .0, end-most s _ (at .before .block-end .ensures))))
 
 -- where the unit at i + 2 counts
 module _ (c : tie.Else1 Inv-loop μ-loop) where
@@ -78,7 +82,7 @@ module _ (c : tie.Else1 Inv-loop μ-loop) where
   N = getD (now (c .before .before .before .before .before .before .before .args .count)) I 0
 
   w : Filling (utf16Text (drop 2 S)) D (restAfter S I) Out O
-  w = c .before .before .before .loop .inv .1 .1 .1 .1
+  w = c .before .before .before .loop .inv .1 .1 .1 .1 .0
 
   inside : (I < 128) × (144 ≤ length S)
   inside = (omega (arith, c .before .before .loop-test .taken, end-most S _ (c .before .before .before .before .block-end .ensures)), c .before .before .before .before .before .before .before .pre .1 .0)
@@ -104,7 +108,7 @@ module _ (c : tie.Else1 Inv-loop μ-loop) where
   abbrev Bytes : List ℕ
   Bytes = unitBytes (getD S (I + 1) 0) (getD S (I + 2) 0) (getD S (I + 3) 0)
 
-  step : restAfter S I ≡ Bytes ++ restAfter S (I + 2)
+  step : (restAfter S I ≡ Bytes ++ restAfter S (I + 2)) × (aloneAfter S I ≡ aloneAfter S (I + 2))
   step = unit-step S I small (omega (arith, inside)) N some (laid .count) carry
 
   -- the next unit, where this is a high surrogate
@@ -165,7 +169,7 @@ module _ (c : tie.After-bit Inv-loop μ-loop) where
       (set (set (set (Out at) (O at + 2) (c .before .before .before .third-of .result)) (O at + 1) (getD (now (at .before .before .before .before .before .before .before .args .second)) (I at) 0)) (O at) (getD (now (at .before .before .before .before .before .before .before .args .first)) (I at) 0))
       (O at + N at)
   w₁ =
-      three-stored (w at) (room at) (Bytes at) (restAfter (S at) (I at + 2)) (step at) (N at) (laid at .count .size (some at) (getD (S at) (I at + 1) 0)) (some at) (laid at .count .most) _ _ _
+      three-stored (w at) (room at) (Bytes at) (restAfter (S at) (I at + 2)) (step at .0) (N at) (laid at .count .size (some at) (getD (S at) (I at + 1) 0)) (some at) (laid at .count .most) _ _ _
       (laid at .first) (laid at .second) (λ h. c .before .before .before .third-of .ensures ∙ third-byte (getD (S at) (I at + 1) 0) (getD (S at) (I at + 2) 0) (getD (S at) (I at + 3) 0) h)
 
 cast-changes : tie.Need-cast-changes Inv-loop μ-loop
@@ -185,12 +189,12 @@ loop-again c = (
   even (at c) (at c .before .before .before .loop .inv .1 .0),
   (
     omega (arith, at c .before .before .before .loop .inv .1 .0),
-    (omega (arith, turned c, at c .before .before .before .loop .inv .1 .1 .0), (onward (at c), w₁ c)),
+    (omega (arith, turned c, at c .before .before .before .loop .inv .1 .1 .0), (onward (at c), (w₁ c, at c .before .before .before .loop .inv .1 .1 .1 .1 .1 ∙ step (at c) .1))),
   ),
 )
 
 same-length-2 : tie.Need-same-length-2 Inv-loop μ-loop
-same-length-2 c = c .before .loop .inv .1 .1 .1 .1 .long
+same-length-2 c = c .before .loop .inv .1 .1 .1 .1 .0 .long
 
 returns-2 : tie.Need-returns-2 Inv-loop μ-loop
 returns-2 c =
@@ -198,7 +202,7 @@ returns-2 c =
     let s : List ℕ = now (at .before .before .before .before .args .s) in
     let e : at .loop .i ≡ at .before .block-end .result = omega (arith, at .loop .inv .0, c .loop-test .left) in
     let whole = ended s (at .loop .i) (rw (← e) at (at .before .block-end .ensures)) (at .loop .inv .1 .1 .1 .0) in
-    (rw (rest-whole s (at .loop .i) whole) at (at .loop .inv .1 .1 .1 .1), (omega (arith, at .loop .inv .0, end-most s _ (at .before .block-end .ensures)), omega (arith, at .loop .inv .0, at .loop .inv .1 .1 .0, end-most s _ (at .before .block-end .ensures))))
+    ((rw (rest-whole s (at .loop .i) whole .0) at (at .loop .inv .1 .1 .1 .1 .0), at .loop .inv .1 .1 .1 .1 .1 ∙ rest-whole s (at .loop .i) whole .1), (omega (arith, at .loop .inv .0, end-most s _ (at .before .block-end .ensures)), omega (arith, at .loop .inv .0, at .loop .inv .1 .1 .0, end-most s _ (at .before .block-end .ensures))))
 
 pub write-laid-spec : {M : Type 1} → statement M
 write-laid-spec =

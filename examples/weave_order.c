@@ -23,7 +23,7 @@ static const uint8_t DESCRIPTION[] = {
     0xCA, 0x80, 0x04,                               /* the drawing: a Clob that is sent apart, with 4 bytes to refer to it */
 };
 
-/* And then a block: two rows, and the end of the query. This host sends FF 00 before each row. */
+/* And then a block: three rows, and the end of the query. This host sends FF 00 before each row. In the third a byte of a text was lost. */
 static const uint8_t BLOCK[] = {
     0xFF, 0x00,                                           /* a row begins */
     0x00, 0x01, 0x13, 0x0C,                               /* 70412 */
@@ -47,6 +47,17 @@ static const uint8_t BLOCK[] = {
     0xFF,                                             /* null */
     0x00, 0x00,                                       /* no yarns */
     0x00, 0x00, 0x00, 0x00,                           /* no drawing */
+
+    0xFF, 0x00,                                           /* a row begins */
+    0x00, 0x01, 0x13, 0x0E,                               /* 70414 */
+    0x00, 0xD2, 0xC1, 0xE2, 0xC2, 0xC1, 0xC8, 0x60, 0xF5, /* not null, KASBAH-5 */
+    0x00, 0x08, 0x00, 0x0C,                               /* 80.00 */
+    0x00, 0x00, 0x04,                                     /* not null, 4 */
+    0x40, 0x34, 0x00, 0x00, 0x00, 0x00, 0x00, 0x00,       /* 20 */
+    '2', '0', '2', '6', '-', '0', '3', '-', '1', '6',     /* 2026-03-16 */
+    0x00, 0x00, 0x05, 'c', 'r', 0xC3, 'm', 'e',           /* not null, 5 bytes of UTF-8, of which C3 lacks the byte behind it */
+    0x00, 0x01, 0x4D,                                     /* one yarn */
+    0x00, 0x00, 0x01, 0x08,                               /* where the drawing is */
 
     0x00, 0x00, 0x00, 0x00, 0x64, '0', '2', '0', '0', '0', /* a status (SQLCA), not a row: no more rows */
     'C', 'S', 'S', '1', '0', '1', '4', '0', 0x00,          /* */
@@ -143,6 +154,9 @@ static size_t print_row(const struct vejupa_column *columns, size_t count, const
         return 0;
     }
     printf("%zu bytes used, %zu bytes of text\n", row.used, row.text_length);
+    if (row.replaced > 0) { /* a name may be another than the host's: let someone look at it */
+        printf("beware: %zu malformed in its texts, shown as U+FFFD\n", row.replaced);
+    }
     for (size_t k = 0; k < count; k++) {
         printf("%zu ", k);
         print_value(&values[k], vejupa_value_bytes(&values[k], data, data_len, text, row.text_length));

@@ -43,7 +43,7 @@ extern "C" {
 #endif
 
 /* The version of these calls. CHANGELOG.md says what changed. */
-#define VEJUPA_VERSION "0.2.0"
+#define VEJUPA_VERSION "0.3.0"
 
 /* Answers. 1 to 9 are the refusals of docs/RULES.md. */
 #define VEJUPA_ACCEPTED 0
@@ -161,17 +161,17 @@ enum vejupa_sort {
 
 uint32_t vejupa_raw_parse_qrydsc(const uint8_t *data, size_t data_len, uint64_t *column_words, size_t column_words_len, size_t *count) VEJUPA_NONNULL;
 uint32_t vejupa_raw_decode_row(const uint64_t *column_words, size_t column_words_len, const uint8_t *data, size_t data_len, uint64_t *value_words,
-                               size_t value_words_len, uint8_t *text, size_t text_len, size_t *used, size_t *text_length, size_t *expected,
-                               size_t *actual) VEJUPA_NONNULL;
+                               size_t value_words_len, uint8_t *text, size_t text_len, size_t *used, size_t *text_length, size_t *replaced,
+                               size_t *expected, size_t *actual) VEJUPA_NONNULL;
 /* *bytes is {data, 0}, or any slice, before the call too. */
 void vejupa_raw_value_bytes(const uint64_t *value_words, size_t value_words_len, const uint8_t *data, size_t data_len, const uint8_t *text,
                             size_t text_len, struct vejupa_bytes *bytes) VEJUPA_NONNULL;
 /* `type_word` is the low 24 bits of a column's first word. */
 uint32_t vejupa_raw_fixed_length(uint64_t type_word, uint32_t *fixed, size_t *length) VEJUPA_NONNULL;
-uint32_t vejupa_raw_decode_character_bytes(const uint8_t *data, size_t data_len, uint16_t ccsid, uint8_t *text, size_t text_len,
-                                           size_t *text_length) VEJUPA_NONNULL;
-uint32_t vejupa_raw_decode_graphic_bytes(const uint8_t *data, size_t data_len, uint16_t ccsid, uint8_t *text, size_t text_len,
-                                         size_t *text_length) VEJUPA_NONNULL;
+uint32_t vejupa_raw_decode_character_bytes(const uint8_t *data, size_t data_len, uint16_t ccsid, uint8_t *text, size_t text_len, size_t *text_length,
+                                           size_t *replaced) VEJUPA_NONNULL;
+uint32_t vejupa_raw_decode_graphic_bytes(const uint8_t *data, size_t data_len, uint16_t ccsid, uint8_t *text, size_t text_len, size_t *text_length,
+                                         size_t *replaced) VEJUPA_NONNULL;
 uint32_t vejupa_raw_format_lob_locator(const uint8_t *bytes, size_t bytes_len, uint8_t *text, size_t text_len, size_t *text_length) VEJUPA_NONNULL;
 uint32_t vejupa_raw_format_rowid(const uint8_t *bytes, size_t bytes_len, uint8_t *text, size_t text_len, size_t *text_length) VEJUPA_NONNULL;
 uint32_t vejupa_raw_decode_packed_decimal(const uint8_t *data, size_t data_len, uint8_t precision, uint8_t scale, uint8_t *text, size_t text_len,
@@ -180,7 +180,7 @@ uint32_t vejupa_raw_bytes_are_likely_text(const uint8_t *bytes, size_t bytes_len
 
 /* The version as a number: 10000 times the first part, 100 times the second, and the third. Each file that includes this header refers to this symbol: with
  * an archive of another version it does not link. */
-uint32_t vejupa_version_0_2_0(void);
+uint32_t vejupa_version_0_3_0(void);
 #if defined(__GNUC__)
 #if defined(__has_attribute)
 #if __has_attribute(retain)
@@ -189,7 +189,7 @@ __attribute__((retain)) /* also where the linker drops unused sections */
 #endif
 __attribute__((used))
 #endif
-static uint32_t (*const vejupa_version_wanted)(void) = vejupa_version_0_2_0;
+static uint32_t (*const vejupa_version_wanted)(void) = vejupa_version_0_3_0;
 
 /* An address for an array without elements, which may come with NULL; of any other array its own. */
 static inline const void *vejupa_given(const void *p, size_t n) {
@@ -221,6 +221,7 @@ static inline uint32_t vejupa_parse_qrydsc(const uint8_t *data, size_t data_len,
 struct vejupa_row {
     size_t used;        /* accepted: the bytes used, from data's first byte, the two leading ones included. It may be 0 */
     size_t text_length; /* accepted: the bytes of text written. With 9: the length that `text` must have; nothing is written */
+    size_t replaced;    /* accepted: how many U+FFFD the texts hold that stand for what was malformed, not counting those that the host itself sent */
     size_t expected;    /* with 8: the bytes that a value needs, */
     size_t actual;      /* and the bytes there are for it. For an indicator both count from the row's first byte behind the two leading ones */
 };
@@ -245,7 +246,7 @@ static inline uint32_t vejupa_decode_row(const struct vejupa_column *columns, si
                                  VEJUPA_COLUMN_WORDS * vejupa_at_most(column_count, VEJUPA_MAX_COLUMNS + 1),
                                  (const uint8_t *)vejupa_given(data, data_len), data_len, (uint64_t *)vejupa_lent(values, values_room),
                                  VEJUPA_VALUE_WORDS * vejupa_at_most(values_room, VEJUPA_MAX_COLUMNS), (uint8_t *)vejupa_lent(text, text_room),
-                                 text_room, &row->used, &row->text_length, &row->expected, &row->actual);
+                                 text_room, &row->used, &row->text_length, &row->replaced, &row->expected, &row->actual);
 }
 
 /* The bytes of a value: a part of `data` or of `text`, which are those of the call that gave the value. There are none for a number, a Boolean, Null, a sort
@@ -261,20 +262,21 @@ static inline struct vejupa_bytes vejupa_value_bytes(const struct vejupa_value *
 }
 
 /* The text of a character value, by its CCSID: 1208 is UTF-8, 819 ISO 8859-1, 37 and 500 code page 037; any other is ASCII where all bytes are below 80 in
- * hexadecimal, else code page 037. What is malformed becomes U+FFFD. *text_length is the length of the text, written or with 9 needed, so that a call without
- * a buffer measures; 3 data_len + 14 bytes are always enough, here and in the next three. Answers 0, 4 or 9. */
+ * hexadecimal, else code page 037. What is malformed becomes U+FFFD: *replaced says how many were put in so, one for each malformed part that is as long as can
+ * be; a U+FFFD that the host itself sent is not counted. *text_length is the length of the text, written or with 9 needed, so that a call without a buffer
+ * measures; 3 data_len + 14 bytes are always enough, here and in the next three. Answers 0, 4 or 9. */
 static inline uint32_t vejupa_decode_character_bytes(const uint8_t *data, size_t data_len, uint16_t ccsid, uint8_t *text, size_t text_room,
-                                                     size_t *text_length) {
+                                                     size_t *text_length, size_t *replaced) {
     return vejupa_raw_decode_character_bytes((const uint8_t *)vejupa_given(data, data_len), data_len, ccsid, (uint8_t *)vejupa_lent(text, text_room),
-                                             text_room, text_length);
+                                             text_room, text_length, replaced);
 }
 
-/* The text of a graphic value, by its CCSID: 1200 and 13488 are big-endian UTF-16 where the number of bytes is even; any other goes as characters. The
- * length and answers as above. */
+/* The text of a graphic value, by its CCSID: 1200 and 13488 are big-endian UTF-16 where the number of bytes is even; any other goes as characters. An
+ * unpaired surrogate becomes U+FFFD, and counts. The numbers and answers as above. */
 static inline uint32_t vejupa_decode_graphic_bytes(const uint8_t *data, size_t data_len, uint16_t ccsid, uint8_t *text, size_t text_room,
-                                                   size_t *text_length) {
+                                                   size_t *text_length, size_t *replaced) {
     return vejupa_raw_decode_graphic_bytes((const uint8_t *)vejupa_given(data, data_len), data_len, ccsid, (uint8_t *)vejupa_lent(text, text_room),
-                                           text_room, text_length);
+                                           text_room, text_length, replaced);
 }
 
 /* The text "LOB locator 0x" and the bytes in upper-case hexadecimal. The length and answers as above. */

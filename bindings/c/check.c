@@ -24,9 +24,9 @@ static struct vejupa_value values[VEJUPA_MAX_COLUMNS + 1];
 static uint8_t text[64];
 static struct vejupa_row row;
 
-/* Whether the row call's numbers are these. */
+/* Whether the row call's numbers are these, and no character was replaced. */
 static int numbers(size_t used, size_t text_length, size_t expected, size_t actual) {
-    return row.used == used && row.text_length == text_length && row.expected == expected && row.actual == actual;
+    return row.used == used && row.text_length == text_length && row.replaced == 0 && row.expected == expected && row.actual == actual;
 }
 
 /* The fields of a column's words, each unlike its neighbours. */
@@ -179,11 +179,11 @@ static void rows(void) {
     CHECK(decode(129, ten, 4, 0) == VEJUPA_COUNT_TOO_LARGE && numbers(0, 0, 0, 0));
     CHECK(decode(SIZE_MAX / 2 + 1, ten, 4, 0) == VEJUPA_COUNT_TOO_LARGE && decode(SIZE_MAX, ten, 4, 0) == VEJUPA_COUNT_TOO_LARGE);
     CHECK(vejupa_decode_row(columns, 2, ten, 4, values, 1, text, 0, &row) == VEJUPA_TOO_LITTLE_ROOM && numbers(0, 0, 0, 0));
-    CHECK(vejupa_raw_decode_row(columns->words, 4, ten, 4, values->words, 5, text, 0, &row.used, &row.text_length, &row.expected, &row.actual) ==
-              VEJUPA_TOO_LITTLE_ROOM &&
+    CHECK(vejupa_raw_decode_row(columns->words, 4, ten, 4, values->words, 5, text, 0, &row.used, &row.text_length, &row.replaced, &row.expected,
+                                &row.actual) == VEJUPA_TOO_LITTLE_ROOM &&
           numbers(0, 0, 0, 0));
-    CHECK(vejupa_raw_decode_row(columns->words, 3, ten, 4, values->words, 6, text, 0, &row.used, &row.text_length, &row.expected, &row.actual) ==
-              VEJUPA_NO_COLUMN &&
+    CHECK(vejupa_raw_decode_row(columns->words, 3, ten, 4, values->words, 6, text, 0, &row.used, &row.text_length, &row.replaced, &row.expected,
+                                &row.actual) == VEJUPA_NO_COLUMN &&
           numbers(0, 0, 0, 0));
     CHECK(decode(1, large, sizeof large, 0) == VEJUPA_INPUT_TOO_LONG && numbers(0, 0, 0, 0));
     for (k = 2; k <= 128; k++) {
@@ -236,16 +236,84 @@ static void rows_one_after_the_other(void) {
 
 static int is_text(size_t len, const char *expected) { return len == strlen(expected) && memcmp(text, expected, len) == 0; }
 
+typedef uint32_t (*conversion)(const uint8_t *, size_t, uint16_t, uint8_t *, size_t, size_t *, size_t *);
+
+/* A text with so many U+FFFD put in, in a buffer of its length and in longer ones; 0 in shorter ones, and for too many bytes. */
+static void comes_out(conversion call, const char *bytes, size_t bytes_len, uint16_t ccsid, const char *expected, size_t put_in) {
+    const uint8_t *data = (const uint8_t *)bytes;
+    size_t needed = strlen(expected), room, len, replaced;
+    for (room = needed; room <= sizeof text; room++) {
+        memset(text, 0xA5, sizeof text);
+        len = replaced = SIZE_MAX;
+        CHECK(call(data, bytes_len, ccsid, text, room, &len, &replaced) == VEJUPA_ACCEPTED && is_text(len, expected) && replaced == put_in);
+    }
+    for (room = 0; room < needed; room++) {
+        len = replaced = SIZE_MAX;
+        CHECK(call(data, bytes_len, ccsid, text, room, &len, &replaced) == VEJUPA_TEXT_BUFFER_TOO_SHORT && len == needed && replaced == 0);
+    }
+    len = replaced = SIZE_MAX;
+    CHECK(call(large, sizeof large, ccsid, text, sizeof text, &len, &replaced) == VEJUPA_INPUT_TOO_LONG && len == 0 && replaced == 0);
+}
+
+#define FFFD "\xEF\xBF\xBD"
+
+/* One for a part that is as long as can be and one for an unpaired surrogate; the host's own are not counted, nor is anything in the other code pages. */
+static void replaced_characters(void) {
+    comes_out(vejupa_decode_character_bytes, "A\xC3\xA9", 3, 1208, "A\xC3\xA9", 0);
+    comes_out(vejupa_decode_character_bytes, "\xC1z", 2, 1208, FFFD "z", 1);
+    comes_out(vejupa_decode_character_bytes, "\xE2\x82z\xF0\x9F\x98", 6, 1208, FFFD "z" FFFD, 2);
+    comes_out(vejupa_decode_character_bytes, "\xED\xA0\x80", 3, 1208, FFFD FFFD FFFD, 3);
+    comes_out(vejupa_decode_character_bytes, FFFD, 3, 1208, FFFD, 0);
+    comes_out(vejupa_decode_character_bytes, FFFD "\xEF\xBF", 5, 1208, FFFD FFFD, 1);
+    comes_out(vejupa_decode_character_bytes, "\xEF\xBF", 2, 819, "\xC3\xAF\xC2\xBF", 0);
+    comes_out(vejupa_decode_character_bytes, "\xC1\x4A", 2, 37, "A\xC2\xA2", 0);
+    comes_out(vejupa_decode_character_bytes, "\xC1\x4A", 2, 1047, "A\xC2\xA2", 0);
+    comes_out(vejupa_decode_graphic_bytes, "\xD8\x3D\xDE\x00", 4, 1200, "\xF0\x9F\x98\x80", 0);
+    comes_out(vejupa_decode_graphic_bytes, "\xDE\x00\xD8\x3D", 4, 1200, FFFD FFFD, 2);
+    comes_out(vejupa_decode_graphic_bytes, "\xD8\x3D\xFF\xFD", 4, 13488, FFFD FFFD, 1);
+    comes_out(vejupa_decode_graphic_bytes, "\xC1z\xC1", 3, 1208, FFFD "z" FFFD, 2);
+}
+
+/* The sum over a row's texts, in a text buffer of each length; 0 after every refusal. */
+static void replaced_in_rows(void) {
+    static const uint8_t data[] = {0xC1, 'A', 0x00, 0x04, 0xEF, 0xBF, 0xBD, 0xF0, 0xD8, 0x3D, 0x00, 0x00, 0x00, 0x02, 0x80, 0x81, 0xFF, 0xC1, 0xC2};
+    const size_t needed = 19;
+    size_t room;
+    columns[0] = vejupa_make_column(VEJUPA_TYPE_CHAR, 2, 0, 1208);     /* 1 */
+    columns[1] = vejupa_make_column(VEJUPA_TYPE_VAR_CHAR, 9, 0, 1208); /* the host's own, and 1 */
+    columns[2] = vejupa_make_column(VEJUPA_TYPE_GRAPHIC, 2, 0, 1200);  /* 1 */
+    columns[3] = vejupa_make_column(VEJUPA_TYPE_CLOB, 100, 0, 37);     /* 2: within the row, UTF-8 whatever the CCSID */
+    columns[4] = vejupa_make_column(VEJUPA_TYPE_VAR_CHAR, 9, 1, 1208); /* null */
+    columns[5] = vejupa_make_column(VEJUPA_TYPE_BINARY, 2, 0, 1208);   /* no text */
+    for (room = 0; room <= sizeof text; room++) {
+        memset(&row, 0xA5, sizeof row);
+        if (room < needed) {
+            CHECK(decode(6, data, sizeof data, room) == VEJUPA_TEXT_BUFFER_TOO_SHORT && numbers(0, needed, 0, 0));
+        } else {
+            CHECK(decode(6, data, sizeof data, room) == VEJUPA_ACCEPTED && row.used == sizeof data && row.text_length == needed && row.replaced == 5);
+            CHECK(is_text(row.text_length, FFFD "A" FFFD FFFD FFFD FFFD FFFD));
+        }
+    }
+    memset(&row, 0xA5, sizeof row);
+    CHECK(decode(6, data, sizeof data - 1, sizeof text) == VEJUPA_BUFFER_TOO_SHORT && numbers(0, 0, 2, 1));
+    memset(&row, 0xA5, sizeof row);
+    CHECK(decode(6, large, sizeof large, sizeof text) == VEJUPA_INPUT_TOO_LONG && numbers(0, 0, 0, 0));
+    memset(&row, 0xA5, sizeof row);
+    CHECK(decode(129, data, sizeof data, sizeof text) == VEJUPA_COUNT_TOO_LARGE && numbers(0, 0, 0, 0));
+    memset(&row, 0xA5, sizeof row);
+    CHECK(vejupa_decode_row(columns, 6, data, sizeof data, values, 5, text, sizeof text, &row) == VEJUPA_TOO_LITTLE_ROOM && numbers(0, 0, 0, 0));
+}
+
 static void texts(void) {
     static const uint8_t abc[] = {0xC1, 0xC2, 0xC3}, grin[] = {0xD8, 0x3D, 0xDE, 0x00}, packed[] = {0x00, 0x5C}, no_digits[] = {0xAB, 0xCD, 0xEF, 0x0C};
-    size_t len;
-    CHECK(vejupa_decode_character_bytes(abc, 3, 37, text, 3, &len) == VEJUPA_ACCEPTED && is_text(len, "ABC"));
-    CHECK(vejupa_decode_character_bytes(abc, 3, 37, text, 2, &len) == VEJUPA_TEXT_BUFFER_TOO_SHORT && len == 3);
-    CHECK(vejupa_decode_character_bytes(abc, 3, 37, NULL, 0, &len) == VEJUPA_TEXT_BUFFER_TOO_SHORT && len == 3);
-    CHECK(vejupa_decode_character_bytes(NULL, 0, 37, NULL, 0, &len) == VEJUPA_ACCEPTED && len == 0);
-    CHECK(vejupa_decode_character_bytes(large, sizeof large, 37, text, 2, &len) == VEJUPA_INPUT_TOO_LONG && len == 0);
-    CHECK(vejupa_decode_graphic_bytes(grin, 4, 1200, text, sizeof text, &len) == VEJUPA_ACCEPTED && is_text(len, "\xF0\x9F\x98\x80"));
-    CHECK(vejupa_decode_graphic_bytes(NULL, 0, 1200, NULL, 0, &len) == VEJUPA_ACCEPTED && len == 0);
+    size_t len, put_in;
+    CHECK(vejupa_decode_character_bytes(abc, 3, 37, text, 3, &len, &put_in) == VEJUPA_ACCEPTED && is_text(len, "ABC"));
+    CHECK(vejupa_decode_character_bytes(abc, 3, 37, text, 2, &len, &put_in) == VEJUPA_TEXT_BUFFER_TOO_SHORT && len == 3);
+    CHECK(vejupa_decode_character_bytes(abc, 3, 37, NULL, 0, &len, &put_in) == VEJUPA_TEXT_BUFFER_TOO_SHORT && len == 3);
+    CHECK(vejupa_decode_character_bytes(NULL, 0, 37, NULL, 0, &len, &put_in) == VEJUPA_ACCEPTED && len == 0);
+    CHECK(vejupa_decode_character_bytes(large, sizeof large, 37, text, 2, &len, &put_in) == VEJUPA_INPUT_TOO_LONG && len == 0);
+    CHECK(vejupa_decode_graphic_bytes(grin, 4, 1200, text, sizeof text, &len, &put_in) == VEJUPA_ACCEPTED && is_text(len, "\xF0\x9F\x98\x80"));
+    CHECK(vejupa_decode_graphic_bytes(NULL, 0, 1200, NULL, 0, &len, &put_in) == VEJUPA_ACCEPTED && len == 0);
     CHECK(vejupa_format_lob_locator(packed, 1, text, sizeof text, &len) == VEJUPA_ACCEPTED && is_text(len, "LOB locator 0x00"));
     CHECK(vejupa_format_lob_locator(NULL, 0, NULL, 0, &len) == VEJUPA_TEXT_BUFFER_TOO_SHORT && len == 14);
     CHECK(vejupa_format_rowid(packed, 2, text, sizeof text, &len) == VEJUPA_ACCEPTED && is_text(len, "0x005C"));
@@ -309,6 +377,8 @@ int main(void) {
     rows();
     rows_one_after_the_other();
     texts();
+    replaced_characters();
+    replaced_in_rows();
     fixed_lengths();
     names();
     version();

@@ -1,5 +1,7 @@
-/* Makes the calls of a stored list (the format of oracle/README.md: Q, T, G, L and P lines, others are passed over) with every slice in memory of exactly
- * its length, so that a memory checker sees a byte read or written outside of it. It compares no answer: oracle/check does. tools/check-memory runs it. */
+/* Makes the calls of a stored list (the format of oracle/README.md: Q, T, G, L and P lines, and q, t and g; others are passed over) with every slice in
+ * memory of exactly its length, so that a memory checker sees a byte read or written outside of it. It compares no answer: oracle/check does.
+ * tools/check-memory runs it. */
+#include <ctype.h>
 #include <stdio.h>
 #include <stdlib.h>
 #include <string.h>
@@ -63,6 +65,7 @@ static void row(const struct vejupa_column *columns, size_t count, struct slice 
         uint32_t refusal = vejupa_decode_row(columns, count, data.start, data.length, values, count, text, lengths[turn], &answer);
         if (refusal == VEJUPA_ACCEPTED) {
             touch(values, count, data, text, lengths[turn]);
+            touched += answer.replaced;
         }
         if (refusal == VEJUPA_BUFFER_TOO_SHORT) {
             touched += vejupa_short_column(columns, count, data.start, data.length, values, count);
@@ -88,24 +91,25 @@ static void description(struct slice data, struct slice row_data) {
     free(columns);
 }
 
-static uint32_t convert(char kind, unsigned number, struct slice data, uint8_t *text, size_t text_room, size_t *text_length) {
+static uint32_t convert(char kind, unsigned number, struct slice data, uint8_t *text, size_t text_room, size_t *text_length, size_t *replaced) {
     if (kind == 'T') {
-        return vejupa_decode_character_bytes(data.start, data.length, (uint16_t)number, text, text_room, text_length);
+        return vejupa_decode_character_bytes(data.start, data.length, (uint16_t)number, text, text_room, text_length, replaced);
     }
     if (kind == 'G') {
-        return vejupa_decode_graphic_bytes(data.start, data.length, (uint16_t)number, text, text_room, text_length);
+        return vejupa_decode_graphic_bytes(data.start, data.length, (uint16_t)number, text, text_room, text_length, replaced);
     }
     return vejupa_decode_packed_decimal(data.start, data.length, (uint8_t)number, text, text_room, text_length);
 }
 
 static void text_of(char kind, unsigned number, struct slice data) {
-    size_t length;
+    size_t length, replaced = 0;
     uint8_t *text = exactly(0);
-    uint32_t refusal = convert(kind, number, data, text, 0, &length);
+    uint32_t refusal = convert(kind, number, data, text, 0, &length, &replaced);
     free(text);
     if (refusal == VEJUPA_TEXT_BUFFER_TOO_SHORT) {
         text = exactly(length);
-        convert(kind, number, data, text, length, &length);
+        convert(kind, number, data, text, length, &length, &replaced);
+        touched += replaced;
         free(text);
     }
 }
@@ -118,6 +122,10 @@ int main(void) {
         int n = 0;
         for (char *field = strtok(line, " \n"); field != NULL && n < 4; field = strtok(NULL, " \n")) {
             fields[n++] = field;
+            if (n == 1 && strchr("qtg", *field) != NULL) {
+                *field = (char)toupper(*field);
+                strtok(NULL, " \n"); /* the release */
+            }
         }
         if (n == 4 && strcmp(fields[0], "Q") == 0) {
             struct slice data = bytes_of(fields[1]), row_data = bytes_of(fields[3]);

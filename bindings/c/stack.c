@@ -21,12 +21,12 @@ static size_t text_room;
 static uint8_t text[3 * sizeof data + 14 + 258];
 static struct vejupa_column columns[VEJUPA_MAX_COLUMNS];
 static struct vejupa_value values[VEJUPA_MAX_COLUMNS];
-static size_t count, text_length;
+static size_t count, text_length, replaced;
 static struct vejupa_row row;
 
 static void nothing(void) {}
-static void characters(void) { (void)vejupa_decode_character_bytes(data, data_len, ccsid, text, text_room, &text_length); }
-static void graphics(void) { (void)vejupa_decode_graphic_bytes(data, data_len, ccsid, text, text_room, &text_length); }
+static void characters(void) { (void)vejupa_decode_character_bytes(data, data_len, ccsid, text, text_room, &text_length, &replaced); }
+static void graphics(void) { (void)vejupa_decode_graphic_bytes(data, data_len, ccsid, text, text_room, &text_length, &replaced); }
 static void decimal(void) { (void)vejupa_decode_packed_decimal(data, 128, 2, text, text_room, &text_length); }
 static void likely(void) { (void)vejupa_bytes_are_likely_text(data, data_len); }
 static void description(void) { (void)vejupa_parse_qrydsc(data, data_len, columns, VEJUPA_MAX_COLUMNS, &count); }

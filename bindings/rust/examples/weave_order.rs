@@ -18,10 +18,12 @@ const DESCRIPTION: &[u8] = &[
     0xCA, 0x80, 0x04, // the drawing, sent apart
 ];
 
-/// And then a block: two rows, each with FF 00 before it, and the end of the query, which is no row.
+/// And then a block: three rows, each with FF 00 before it, the third with a text that lost a byte, and the end of the query, which is no row.
 const BLOCK: &[u8] = b"\xFF\x00\x00\x01\x13\x0C\x00\xD2\xC1\xE2\xC2\xC1\xC8\x60\xF4\x00\x01\x25\x0C\x00\x00\x06\
 \x40\x35\x80\x00\x00\x00\x00\x002026-03-02\x00\x00\x0Ccr\xC3\xA8me field\x00\x03\x1A\x2B\x3C\x00\x00\x01\x07\
 \xFF\x00\x00\x01\x13\x0D\xFF\x00\x00\x07\x5D\xFF\x7F\xF8\x00\x00\x00\x00\x00\x002026-03-09\xFF\x00\x00\x00\x00\x00\x00\
+\xFF\x00\x00\x01\x13\x0E\x00\xD2\xC1\xE2\xC2\xC1\xC8\x60\xF5\x00\x08\x00\x0C\x00\x00\x04\
+\x40\x34\x00\x00\x00\x00\x00\x002026-03-16\x00\x00\x05cr\xC3me\x00\x01\x4D\x00\x00\x01\x08\
 \x00\x00\x00\x00\x6402000CSS10140\x00\x00\x00\x00\x00\x00\x00\x00\x00\x00\x00\x00\x02\x00\x00\x00\x00\
 \x00\x00\x00\x00\x00\x00\x00\x00\x20\x20\x20\x20\x20\x20\x20\x20\x20\x20\x20\x00\x00\x00\x00\x00\x00\xFF\xFF";
 
@@ -61,6 +63,13 @@ fn print_row(row: Result<Row, Refusal>) {
     };
     let (used, text) = (row.used(), row.text().len());
     println!("{used} bytes used, {text} bytes of text");
+    if row.replaced() > 0 {
+        // A name may be another than the host's: let someone look at it.
+        println!(
+            "beware: {} malformed in its texts, shown as U+FFFD",
+            row.replaced()
+        );
+    }
     for (k, value) in row.values().enumerate() {
         let apart = match row.is_external(k) {
             true => ", sent apart",

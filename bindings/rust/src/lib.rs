@@ -53,7 +53,7 @@ pub use text::{
     bytes_are_likely_text, decode_character_bytes, decode_character_bytes_into,
     decode_graphic_bytes, decode_graphic_bytes_into, decode_packed_decimal,
     decode_packed_decimal_into, format_lob_locator, format_lob_locator_into, format_rowid,
-    format_rowid_into,
+    format_rowid_into, Text, TextRef,
 };
 pub use types::{ByteOrder, Db2Type};
 pub use value::{OwnedValue, Value};

@@ -12,7 +12,7 @@ mod foreign {
     }
 
     unsafe extern "C" {
-        pub fn vejupa_version_0_2_0() -> u32;
+        pub fn vejupa_version_0_3_0() -> u32;
         pub fn vejupa_raw_parse_qrydsc(
             data: *const u8,
             data_len: usize,
@@ -31,6 +31,7 @@ mod foreign {
             text_len: usize,
             used: *mut usize,
             text_length: *mut usize,
+            replaced: *mut usize,
             expected: *mut usize,
             actual: *mut usize,
         ) -> u32;
@@ -51,6 +52,7 @@ mod foreign {
             text: *mut u8,
             text_len: usize,
             text_length: *mut usize,
+            replaced: *mut usize,
         ) -> u32;
         pub fn vejupa_raw_decode_graphic_bytes(
             data: *const u8,
@@ -59,6 +61,7 @@ mod foreign {
             text: *mut u8,
             text_len: usize,
             text_length: *mut usize,
+            replaced: *mut usize,
         ) -> u32;
         pub fn vejupa_raw_format_lob_locator(
             bytes: *const u8,
@@ -89,7 +92,7 @@ mod foreign {
 
 // The symbol has the version's name: a program does not link with an archive of another one.
 #[used]
-static OF_THIS_VERSION: unsafe extern "C" fn() -> u32 = foreign::vejupa_version_0_2_0;
+static OF_THIS_VERSION: unsafe extern "C" fn() -> u32 = foreign::vejupa_version_0_3_0;
 
 /// What every call answers where it accepts.
 pub const ACCEPTED: u32 = 0;
@@ -121,6 +124,8 @@ pub struct RowAnswer {
     pub used: usize,
     /// Accepted: the bytes of text written. [`TEXT_BUFFER_TOO_SHORT`]: the length needed. Else 0.
     pub text_length: usize,
+    /// Accepted: the U+FFFD in the texts that stand for what was malformed, without those that the host itself sent. Else 0.
+    pub replaced: usize,
     /// [`BUFFER_TOO_SHORT`]: the bytes expected. Else 0.
     pub expected: usize,
     /// [`BUFFER_TOO_SHORT`]: the bytes there are. Else 0.
@@ -134,6 +139,9 @@ pub struct TextAnswer {
     pub number: u32,
     /// Accepted: the bytes written. [`TEXT_BUFFER_TOO_SHORT`]: the length needed. Else 0.
     pub text_length: usize,
+    /// Accepted: the U+FFFD in the text that stand for what was malformed, without those that the host itself sent. Else 0, and 0 of a
+    /// locator, a row id and a decimal.
+    pub replaced: usize,
 }
 
 /// What `parse_qrydsc` answers beside the words.
@@ -165,7 +173,7 @@ const UNWRITTEN: usize = usize::MAX;
 
 /// The archive's version: 10,000 for each major one, 100 for each minor one, 1 for each patch.
 pub fn version() -> u32 {
-    unsafe { foreign::vejupa_version_0_2_0() }
+    unsafe { foreign::vejupa_version_0_3_0() }
 }
 
 /// Two words a column into `column_words`, for as many columns as are described.
@@ -194,6 +202,7 @@ pub fn decode_row(
         number: u32::MAX,
         used: UNWRITTEN,
         text_length: UNWRITTEN,
+        replaced: UNWRITTEN,
         expected: UNWRITTEN,
         actual: UNWRITTEN,
     };
@@ -209,6 +218,7 @@ pub fn decode_row(
             text.len(),
             &mut answer.used,
             &mut answer.text_length,
+            &mut answer.replaced,
             &mut answer.expected,
             &mut answer.actual,
         )
@@ -250,19 +260,34 @@ pub fn fixed_length(type_word: u64) -> LengthAnswer {
     }
 }
 
-// Lets a call write its text's length.
+// Lets a call write its text's length. Nothing is malformed in what it reads.
+#[inline]
 fn text_answer(call: impl FnOnce(*mut usize) -> u32) -> TextAnswer {
     let mut text_length = UNWRITTEN;
     let number = call(&mut text_length);
     TextAnswer {
         number,
         text_length,
+        replaced: 0,
+    }
+}
+
+// Lets a conversion by CCSID write its two numbers.
+#[inline]
+fn converted(call: impl FnOnce(*mut usize, *mut usize) -> u32) -> TextAnswer {
+    let (mut text_length, mut replaced) = (UNWRITTEN, UNWRITTEN);
+    let number = call(&mut text_length, &mut replaced);
+    TextAnswer {
+        number,
+        text_length,
+        replaced,
     }
 }
 
 /// The text of a character value.
+#[inline]
 pub fn decode_character_bytes(data: &[u8], ccsid: u16, text: &mut [u8]) -> TextAnswer {
-    text_answer(|text_length| unsafe {
+    converted(|text_length, replaced| unsafe {
         foreign::vejupa_raw_decode_character_bytes(
             data.as_ptr(),
             data.len(),
@@ -270,13 +295,15 @@ pub fn decode_character_bytes(data: &[u8], ccsid: u16, text: &mut [u8]) -> TextA
             text.as_mut_ptr(),
             text.len(),
             text_length,
+            replaced,
         )
     })
 }
 
 /// The text of a graphic value.
+#[inline]
 pub fn decode_graphic_bytes(data: &[u8], ccsid: u16, text: &mut [u8]) -> TextAnswer {
-    text_answer(|text_length| unsafe {
+    converted(|text_length, replaced| unsafe {
         foreign::vejupa_raw_decode_graphic_bytes(
             data.as_ptr(),
             data.len(),
@@ -284,6 +311,7 @@ pub fn decode_graphic_bytes(data: &[u8], ccsid: u16, text: &mut [u8]) -> TextAns
             text.as_mut_ptr(),
             text.len(),
             text_length,
+            replaced,
         )
     })
 }

@@ -37,6 +37,8 @@ pub(crate) struct Filled {
     words: usize,
     /// The bytes of its texts.
     text: usize,
+    /// The characters in them that were replaced.
+    replaced: usize,
     /// The bytes of the input that it takes.
     pub(crate) used: usize,
 }
@@ -72,6 +74,7 @@ impl Buffers {
                     return Ok(Filled {
                         words,
                         text: answer.text_length,
+                        replaced: answer.replaced,
                         used: answer.used,
                     })
                 }
@@ -114,6 +117,7 @@ impl Buffers {
             data,
             words: &self.values[..filled.words],
             text: std::str::from_utf8(&self.text[..filled.text]).expect(UTF8),
+            replaced: filled.replaced,
             used: filled.used,
         }
     }
@@ -135,6 +139,7 @@ pub struct Row<'a> {
     data: &'a [u8],
     words: &'a [u64],
     text: &'a str,
+    replaced: usize,
     used: usize,
 }
 
@@ -256,6 +261,23 @@ impl<'a> Row<'a> {
         self.used
     }
 
+    /// How many characters of the texts stand for what was malformed: a U+FFFD for each malformed part of UTF-8 that is as long as can be and
+    /// for each unpaired surrogate of UTF-16. A U+FFFD that the host itself sent is not counted.
+    ///
+    /// ```
+    /// use vejupa::{decode_row_into, Buffers, Column, Columns, Db2Type, Value};
+    /// let columns = Columns::from([Column::new(Db2Type::VarChar(8)).with_ccsid(1208)]);
+    /// let mut buffers = Buffers::new();
+    /// let row = decode_row_into(b"\x00\x05cr\xC3me", &columns, &mut buffers)?;
+    /// assert_eq!(row.value(0), Value::VarChar("cr\u{FFFD}me"));
+    /// assert_eq!(row.replaced(), 1);
+    /// # Ok::<(), vejupa::Refusal>(())
+    /// ```
+    #[inline]
+    pub fn replaced(&self) -> usize {
+        self.replaced
+    }
+
     /// The texts of all values, one after the other.
     #[inline]
     pub fn text(&self) -> &'a str {
@@ -273,6 +295,7 @@ impl<'a> Row<'a> {
             values: self.values().map(Value::into_owned).collect(),
             external_columns: self.external_columns().collect(),
             used: self.used,
+            replaced: self.replaced,
         }
     }
 
@@ -309,7 +332,7 @@ fn no_column(k: usize, count: usize) -> ! {
     panic!("column {k} of a row of {count} column{s}, which count from 0");
 }
 
-/// The values, the external columns and the bytes used.
+/// The values, the external columns, the bytes used and the characters replaced.
 impl fmt::Debug for Row<'_> {
     fn fmt(&self, f: &mut fmt::Formatter<'_>) -> fmt::Result {
         let external_columns: Vec<usize> = self.external_columns().collect();
@@ -317,14 +340,16 @@ impl fmt::Debug for Row<'_> {
             .field("values", &self.values())
             .field("external_columns", &external_columns)
             .field("used", &self.used)
+            .field("replaced", &self.replaced)
             .finish()
     }
 }
 
-/// The same values, the same external columns, as many bytes used; wherever the bytes lie.
+/// The same values, the same external columns, as many bytes used and characters replaced; wherever the bytes lie.
 impl PartialEq for Row<'_> {
     fn eq(&self, other: &Row<'_>) -> bool {
         self.used == other.used
+            && self.replaced == other.replaced
             && self.values().eq(other.values())
             && self.external_columns().eq(other.external_columns())
     }
@@ -333,6 +358,7 @@ impl PartialEq for Row<'_> {
 impl PartialEq<OwnedRow> for Row<'_> {
     fn eq(&self, other: &OwnedRow) -> bool {
         self.used == other.used
+            && self.replaced == other.replaced
             && self
                 .values()
                 .eq(other.values.iter().map(OwnedValue::as_value))
@@ -419,6 +445,8 @@ pub struct OwnedRow {
     pub external_columns: Vec<usize>,
     /// How many bytes of the input the row takes, counted from its first one. The next row of a block begins there.
     pub used: usize,
+    /// How many characters of the texts stand for what was malformed, as [`Row::replaced`] counts them.
+    pub replaced: usize,
 }
 
 impl OwnedRow {

@@ -1,4 +1,5 @@
-//! Conversions of single texts. Each comes twice: one makes a String, the other (`_into`) writes into a lent buffer.
+//! Conversions of single texts. Each comes twice: one makes a String, the other (`_into`) writes into a lent buffer. Those by CCSID also say
+//! how many characters were replaced.
 use crate::raw::{self, TextAnswer, ACCEPTED, TEXT_BUFFER_TOO_SHORT};
 use crate::Refusal;
 
@@ -10,6 +11,27 @@ const NO_PRECISION: u8 = 0;
 
 // That is proved. Asked again here, it needs no `unsafe`.
 const UTF8: &str = "the library's texts are UTF-8";
+
+/// What a conversion by CCSID makes of a value's bytes.
+#[derive(Debug, Clone, PartialEq, Eq, Hash)]
+#[non_exhaustive]
+pub struct Text {
+    /// The text.
+    pub text: String,
+    /// How many of its characters stand for what was malformed: a U+FFFD for each malformed part of UTF-8 that is as long as can be and for
+    /// each unpaired surrogate of UTF-16. A U+FFFD that the host itself sent is not counted.
+    pub replaced: usize,
+}
+
+/// The same, with the text in a lent buffer.
+#[derive(Debug, Clone, Copy, PartialEq, Eq, Hash)]
+#[non_exhaustive]
+pub struct TextRef<'t> {
+    /// The text.
+    pub text: &'t str,
+    /// How many of its characters stand for what was malformed, as in [`Text`].
+    pub replaced: usize,
+}
 
 // How long a call's text is.
 fn accepted(answer: TextAnswer) -> Result<usize, Refusal> {
@@ -28,8 +50,16 @@ fn written(answer: TextAnswer, text: &mut [u8]) -> Result<&str, Refusal> {
     Ok(std::str::from_utf8(&text[..length]).expect(UTF8))
 }
 
-// The text that a call writes, in a String of its own; `room` is the first try.
-fn owned(room: usize, call: impl Fn(&mut [u8]) -> TextAnswer) -> Result<String, Refusal> {
+// What a conversion by CCSID made, in a lent buffer.
+fn converted(answer: TextAnswer, text: &mut [u8]) -> Result<TextRef<'_>, Refusal> {
+    Ok(TextRef {
+        text: written(answer, text)?,
+        replaced: answer.replaced,
+    })
+}
+
+// What a call makes, with the text in a String of its own; `room` is the first try.
+fn owned(room: usize, call: impl Fn(&mut [u8]) -> TextAnswer) -> Result<Text, Refusal> {
     let mut text = vec![0; room];
     let mut answer = call(&mut text);
     if answer.number == TEXT_BUFFER_TOO_SHORT {
@@ -37,21 +67,30 @@ fn owned(room: usize, call: impl Fn(&mut [u8]) -> TextAnswer) -> Result<String, 
         answer = call(&mut text);
     }
     text.truncate(accepted(answer)?);
-    Ok(String::from_utf8(text).expect(UTF8))
+    Ok(Text {
+        text: String::from_utf8(text).expect(UTF8),
+        replaced: answer.replaced,
+    })
+}
+
+// The text alone, of a call that replaces nothing.
+fn owned_text(room: usize, call: impl Fn(&mut [u8]) -> TextAnswer) -> Result<String, Refusal> {
+    owned(room, call).map(|made| made.text)
 }
 
 /// The text of a character value, by its CCSID: 1208 is UTF-8, 819 ISO 8859-1, 37 and 500 code page 037; any other is ASCII where all
-/// bytes are below 0x80, else code page 037. What is malformed becomes U+FFFD.
+/// bytes are below 0x80, else code page 037. What is malformed becomes U+FFFD, and is counted.
 ///
 /// # Errors
 /// [`Refusal::InputTooLong`].
 ///
 /// ```
-/// assert_eq!(vejupa::decode_character_bytes(&[0xC1, 0xC2, 0xC3], 37)?, "ABC");
-/// assert_eq!(vejupa::decode_character_bytes(&[0xC1, 0x41], 1208)?, "\u{FFFD}A");
+/// assert_eq!(vejupa::decode_character_bytes(&[0xC1, 0xC2, 0xC3], 37)?.text, "ABC");
+/// let damaged = vejupa::decode_character_bytes(&[0xC1, 0x41], 1208)?;
+/// assert_eq!((damaged.text.as_str(), damaged.replaced), ("\u{FFFD}A", 1));
 /// # Ok::<(), vejupa::Refusal>(())
 /// ```
-pub fn decode_character_bytes(data: &[u8], ccsid: u16) -> Result<String, Refusal> {
+pub fn decode_character_bytes(data: &[u8], ccsid: u16) -> Result<Text, Refusal> {
     owned(data.len() + SPARE, |text| {
         raw::decode_character_bytes(data, ccsid, text)
     })
@@ -65,7 +104,7 @@ pub fn decode_character_bytes(data: &[u8], ccsid: u16) -> Result<String, Refusal
 /// ```
 /// use vejupa::{decode_character_bytes_into, Refusal};
 /// let mut text = [0; 3];
-/// assert_eq!(decode_character_bytes_into(&[0xC1, 0xC2, 0xC3], 37, &mut text)?, "ABC");
+/// assert_eq!(decode_character_bytes_into(&[0xC1, 0xC2, 0xC3], 37, &mut text)?.text, "ABC");
 /// let refusal = decode_character_bytes_into(&[0xC1, 0xC2, 0xC3, 0xC4], 37, &mut text);
 /// assert_eq!(refusal, Err(Refusal::TextBufferTooShort { needed: 4 }));
 /// # Ok::<(), Refusal>(())
@@ -74,21 +113,22 @@ pub fn decode_character_bytes_into<'t>(
     data: &[u8],
     ccsid: u16,
     text: &'t mut [u8],
-) -> Result<&'t str, Refusal> {
-    written(raw::decode_character_bytes(data, ccsid, text), text)
+) -> Result<TextRef<'t>, Refusal> {
+    converted(raw::decode_character_bytes(data, ccsid, text), text)
 }
 
 /// The text of a graphic value, by its CCSID: 1200 and 13488 are big-endian UTF-16 where the number of bytes is even; any other goes as
-/// characters. An unpaired surrogate becomes U+FFFD.
+/// characters. An unpaired surrogate becomes U+FFFD, and is counted.
 ///
 /// # Errors
 /// [`Refusal::InputTooLong`].
 ///
 /// ```
-/// assert_eq!(vejupa::decode_graphic_bytes(&[0xD8, 0x3D, 0xDE, 0x00], 1200)?, "\u{1F600}");
+/// assert_eq!(vejupa::decode_graphic_bytes(&[0xD8, 0x3D, 0xDE, 0x00], 1200)?.text, "\u{1F600}");
+/// assert_eq!(vejupa::decode_graphic_bytes(&[0xD8, 0x3D], 1200)?.replaced, 1);
 /// # Ok::<(), vejupa::Refusal>(())
 /// ```
-pub fn decode_graphic_bytes(data: &[u8], ccsid: u16) -> Result<String, Refusal> {
+pub fn decode_graphic_bytes(data: &[u8], ccsid: u16) -> Result<Text, Refusal> {
     owned(data.len() + SPARE, |text| {
         raw::decode_graphic_bytes(data, ccsid, text)
     })
@@ -102,8 +142,8 @@ pub fn decode_graphic_bytes_into<'t>(
     data: &[u8],
     ccsid: u16,
     text: &'t mut [u8],
-) -> Result<&'t str, Refusal> {
-    written(raw::decode_graphic_bytes(data, ccsid, text), text)
+) -> Result<TextRef<'t>, Refusal> {
+    converted(raw::decode_graphic_bytes(data, ccsid, text), text)
 }
 
 /// `LOB locator 0x` and the bytes in upper-case hexadecimal.
@@ -116,7 +156,7 @@ pub fn decode_graphic_bytes_into<'t>(
 /// # Ok::<(), vejupa::Refusal>(())
 /// ```
 pub fn format_lob_locator(bytes: &[u8]) -> Result<String, Refusal> {
-    owned(2 * bytes.len() + SPARE, |text| {
+    owned_text(2 * bytes.len() + SPARE, |text| {
         raw::format_lob_locator(bytes, text)
     })
 }
@@ -139,7 +179,7 @@ pub fn format_lob_locator_into<'t>(bytes: &[u8], text: &'t mut [u8]) -> Result<&
 /// # Ok::<(), vejupa::Refusal>(())
 /// ```
 pub fn format_rowid(bytes: &[u8]) -> Result<String, Refusal> {
-    owned(2 * bytes.len() + SPARE, |text| {
+    owned_text(2 * bytes.len() + SPARE, |text| {
         raw::format_rowid(bytes, text)
     })
 }
@@ -163,7 +203,7 @@ pub fn format_rowid_into<'t>(bytes: &[u8], text: &'t mut [u8]) -> Result<&'t str
 /// # Ok::<(), vejupa::Refusal>(())
 /// ```
 pub fn decode_packed_decimal(data: &[u8], scale: u8) -> Result<String, Refusal> {
-    owned(2 * data.len() + usize::from(scale) + SPARE, |text| {
+    owned_text(2 * data.len() + usize::from(scale) + SPARE, |text| {
         raw::decode_packed_decimal(data, NO_PRECISION, scale, text)
     })
 }

@@ -348,6 +348,7 @@ fn a_refusal_changes_no_buffer() {
         number: TOO_FEW_WORDS,
         used: 0,
         text_length: 0,
+        replaced: 0,
         expected: 0,
         actual: 0,
     };
@@ -384,6 +385,74 @@ fn a_refusal_changes_no_buffer() {
     };
     assert_eq!(answer, expected);
     assert_eq!((values[66], text[needed]), (7, 7));
+}
+
+/// Columns with damaged texts, a row of them with a Binary behind, and how many characters are replaced.
+fn damaged() -> (Columns, Vec<u8>, usize) {
+    let columns = [
+        column(Db2Type::Char(2)).with_ccsid(1208),
+        column(Db2Type::VarChar(9)).with_ccsid(1208),
+        column(Db2Type::Graphic(2)).with_ccsid(1200),
+        column(Db2Type::Clob).with_ccsid(37).with_length(100),
+        column(Db2Type::Date).with_ccsid(1208),
+        column(Db2Type::Binary(2)),
+    ];
+    // The host's own stands in the second; the Clob lies within the row, and is UTF-8 whatever its CCSID.
+    let row: [&[u8]; 6] = [
+        b"\xC1z",
+        b"\x00\x04\xEF\xBF\xBD\xF0",
+        b"\xD8\x3D",
+        b"\x00\x00\x00\x02\x80\x81",
+        b"2026-03-0\xE2",
+        b"\xC1\xC2",
+    ];
+    (Columns::from(columns), row.concat(), 1 + 1 + 1 + 2 + 1)
+}
+
+#[test]
+fn replaced_characters_of_a_row() {
+    let (columns, bytes, replaced) = damaged();
+    let mut buffers = Buffers::new();
+    let row = decode_row_into(&bytes, &columns, &mut buffers).unwrap();
+    assert_eq!(row.replaced(), replaced);
+    assert_eq!(row.into_owned().replaced, replaced);
+    assert_eq!(columns.decode_row(&bytes).unwrap().replaced, replaced);
+    assert_eq!(row.value(3), Value::Clob("\u{FFFD}\u{FFFD}"));
+
+    let needed = row.text().len();
+    let mut values = [0; 3 * 6];
+    let mut text = vec![0; needed + 1000];
+    for room in [needed, needed + 1, needed + 1000] {
+        let answer = raw::decode_row(columns.words(), &bytes, &mut values, &mut text[..room]);
+        assert_eq!((answer.number, answer.replaced), (ACCEPTED, replaced));
+    }
+    for (data, words, room, number) in [
+        (&bytes[..], 18, needed - 1, TEXT_BUFFER_TOO_SHORT),
+        (&bytes[..bytes.len() - 1], 18, needed, BUFFER_TOO_SHORT),
+        (&bytes, 17, needed, TOO_FEW_WORDS),
+    ] {
+        let answer = raw::decode_row(
+            columns.words(),
+            data,
+            &mut values[..words],
+            &mut text[..room],
+        );
+        assert_eq!((answer.number, answer.replaced), (number, 0));
+    }
+}
+
+/// A row in which the host sent U+FFFD is not one in which something was malformed, though their values are the same.
+#[test]
+fn rows_are_compared_by_what_was_replaced() {
+    let columns = Columns::from([column(Db2Type::VarChar(9)).with_ccsid(1208)]);
+    let (mut one, mut two) = (Buffers::new(), Buffers::new());
+    let sent = decode_row_into(b"\x00\x03\xEF\xBF\xBD", &columns, &mut one).unwrap();
+    let put_in = decode_row_into(b"\x00\x03\xE2\x82\xF0", &columns, &mut two).unwrap();
+    assert_eq!((sent.replaced(), put_in.replaced()), (0, 2));
+    let put_in = decode_row_into(b"\x00\x02\xE2\x82", &columns, &mut two).unwrap();
+    assert!(sent.values().eq(put_in.values()));
+    assert_ne!(sent, put_in);
+    assert_ne!(sent, put_in.into_owned());
 }
 
 /// Rows are compared by what they hold, wherever it lies.

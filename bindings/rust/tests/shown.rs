@@ -194,7 +194,7 @@ const DESCRIPTION: &[u8] = &[
 ];
 const ROW: &[u8] = &[0x00, 0x00, 0x2A, 0x8B, 0x1A, 0x00, 0x00, 0x00, 0x07];
 const SHOWN: &str =
-    "{ values: [SmallInt(42), Binary(X'8B1A'), Blob(X'00000007')], external_columns: [2], used: 9 }";
+    "{ values: [SmallInt(42), Binary(X'8B1A'), Blob(X'00000007')], external_columns: [2], used: 9, replaced: 0 }";
 
 #[test]
 fn rows() {

@@ -5,7 +5,7 @@ use crate::inputs::{self, Style, EDGE_BYTES, LIMIT_LENGTHS, LONG_LENGTHS, SEQUEN
 use crate::leaf::{Leaf, KINDS};
 use crate::port_side::{Library, PortSide};
 use crate::random::Random;
-use crate::request::Call;
+use crate::request::{Call, Form};
 use crate::run::{self, Difference, End, Flow, Until};
 use crate::rust_side;
 use crate::shrink::Shrinking;
@@ -194,9 +194,11 @@ impl<L: Library> Run<L> {
             leaf,
             data: smallest.clone(),
         };
+        let form = Form::telling(rust.to_string() != port.to_string());
+        let request = form.of(request.to_string());
         Difference {
-            rust: format!("{request} A {rust}"),
-            port: format!("{request} A {port}"),
+            rust: format!("{request} A {}", rust.shown(form)),
+            port: format!("{request} A {}", port.shown(form)),
             lengths,
         }
     }

@@ -4,6 +4,7 @@ use crate::blocks::model::{
 };
 use crate::leaf::{Leaf, TEXT_LIMIT};
 use crate::port_side::{ample, Archive, Library};
+use crate::replaced::Reading;
 use port::Outcome;
 
 #[derive(Debug, Clone, Copy, PartialEq, Eq)]
@@ -54,6 +55,20 @@ pub enum Fault {
     LastCut,
     /// The last byte of each 1,024 is not looked at where the CCSID says nothing.
     HighUnseen,
+    /// The host's own U+FFFD are counted as replaced.
+    HostsOwnCounted,
+    /// One is counted for each malformed byte.
+    BytesCounted,
+    /// One is counted for a whole text.
+    OneForText,
+    /// Unpaired surrogates are not counted.
+    UnpairedUncounted,
+    /// None is counted in a buffer that holds any text.
+    UncountedInLarge,
+    /// The number replaced stays with refusal 9.
+    NineWithCount,
+    /// Refusal 4 comes with a number replaced.
+    LimitWithCount,
     /// A condition is left out of the test for well-formed UTF-8 in blocks.
     Block(Dropped),
     /// Units of UTF-16 are counted wrong in blocks.
@@ -62,7 +77,7 @@ pub enum Fault {
     Shown(Unseen),
 }
 
-const FAULTS: [Fault; 23] = [
+const FAULTS: [Fault; 30] = [
     Fault::WrongByte,
     Fault::LengthShort,
     Fault::LengthLong,
@@ -86,6 +101,13 @@ const FAULTS: [Fault; 23] = [
     Fault::LocatorBeginning,
     Fault::LastCut,
     Fault::HighUnseen,
+    Fault::HostsOwnCounted,
+    Fault::BytesCounted,
+    Fault::OneForText,
+    Fault::UnpairedUncounted,
+    Fault::UncountedInLarge,
+    Fault::NineWithCount,
+    Fault::LimitWithCount,
 ];
 
 pub fn all() -> Vec<Fault> {
@@ -109,15 +131,16 @@ fn whole(leaf: Leaf, data: &[u8]) -> Option<Vec<u8>> {
     (outcome.number == 0).then_some(text)
 }
 
-/// What a right library would do with another text.
-fn deliver(other: &[u8], text: &mut [u8]) -> Outcome {
-    let refusal = if text.len() < other.len() { 9 } else { 0 };
-    if refusal == 0 {
+/// What a right library would do with another text, of which so many characters were replaced.
+fn deliver(other: &[u8], replaced: usize, text: &mut [u8]) -> Outcome {
+    let fits = other.len() <= text.len();
+    if fits {
         text[..other.len()].copy_from_slice(other);
     }
     Outcome {
-        number: refusal,
+        number: if fits { 0 } else { 9 },
         text_length: other.len(),
+        replaced: if fits { replaced } else { 0 },
     }
 }
 
@@ -130,8 +153,8 @@ fn merged(text: &[u8]) -> Vec<u8> {
     text.into_bytes()
 }
 
-fn has_replacement(text: &[u8]) -> bool {
-    text.windows(3).any(|part| part == REPLACEMENT)
+fn replacements(text: &[u8]) -> usize {
+    text.windows(3).filter(|part| *part == REPLACEMENT).count()
 }
 
 /// Whether all bytes from 80 on are the last of 1,024.
@@ -175,7 +198,7 @@ impl Faulty {
         let mut text = whole(leaf, data)?;
         match self.0 {
             Fault::WrongByte => *text.last_mut()? ^= 1,
-            Fault::MoreReplacements if has_replacement(&text) => {
+            Fault::MoreReplacements if replacements(&text) > 0 => {
                 text.extend_from_slice(REPLACEMENT)
             }
             Fault::FewerReplacements => text = merged(&text),
@@ -199,6 +222,7 @@ impl Faulty {
             Some(Outcome {
                 number,
                 text_length: 0,
+                replaced: 0,
             })
         };
         let decimal = matches!(leaf, Leaf::Decimal { .. });
@@ -224,7 +248,22 @@ impl Faulty {
         }
         let mut other = whole(leaf, data)?;
         other.resize(Utf16(Some(miscount)).length(data), 0);
-        Some(deliver(&other, text))
+        Some(deliver(&other, Reading::Utf16.replaced(data), text))
+    }
+
+    /// How many characters were replaced, by the archive's outcome with the fault put into it, where the fault is one of that number.
+    fn wrong_count(&self, outcome: Outcome, leaf: Leaf, data: &[u8], text: &[u8]) -> usize {
+        let reading = Reading::of_leaf(leaf, data);
+        match (self.0, outcome.number) {
+            (Fault::HostsOwnCounted, 0) => replacements(&text[..outcome.text_length]),
+            (Fault::BytesCounted, 0) => reading.malformed(data).sum(),
+            (Fault::OneForText, 0) => outcome.replaced.min(1),
+            (Fault::UnpairedUncounted, 0) if reading == Reading::Utf16 => 0,
+            (Fault::UncountedInLarge, 0) if text.len() >= ample(data.len()) => 0,
+            (Fault::NineWithCount, 9) => reading.replaced(data),
+            (Fault::LimitWithCount, 4) => 1,
+            _ => outcome.replaced,
+        }
     }
 
     /// The archive's outcome with the fault put into it, where the fault is one of numbers or of other bytes.
@@ -254,9 +293,11 @@ impl Library for Faulty {
             return outcome;
         }
         if let Some(other) = self.wrong_text(leaf, data) {
-            return deliver(&other, text);
+            let replaced = Reading::of_leaf(leaf, data).replaced(data);
+            return deliver(&other, replaced, text);
         }
-        let outcome = Archive.write(leaf, data, text);
+        let mut outcome = Archive.write(leaf, data, text);
+        outcome.replaced = self.wrong_count(outcome, leaf, data, text);
         self.wrong_outcome(outcome, data, text)
     }
 
@@ -288,7 +329,7 @@ mod tests {
     /// The first stage that can notice a fault: those before it would cost time.
     fn stage(fault: Fault) -> Stage {
         match fault {
-            Fault::LimitEarly | Fault::LimitLate => Stage::Lengths,
+            Fault::LimitEarly | Fault::LimitLate | Fault::LimitWithCount => Stage::Lengths,
             Fault::WrongByte => Stage::Places,
             Fault::DecimalLimitEarly | Fault::PrecisionUsed => Stage::Any,
             Fault::Block(_) | Fault::Shown(_) => Stage::Utf8Blocks,
@@ -316,7 +357,12 @@ mod tests {
             Fault::ChangedOnRefusal => "T 1208 80 A BAD9",
             Fault::NeededLong => "T 1208 00 A BAD9",
             Fault::RefusedAtFit => "T 1208 00 A BAD9",
-            Fault::LimitEarly | Fault::LimitLate => "T 1208 000000",
+            Fault::LimitEarly | Fault::LimitLate | Fault::LimitWithCount => "T 1208 000000",
+            Fault::HostsOwnCounted => "g 2 1200 FFFD A EFBFBD 1",
+            Fault::BytesCounted => "t 2 1208 E0A0 A EFBFBD 2",
+            Fault::OneForText => "t 2 1208 8080 A EFBFBDEFBFBD 1",
+            Fault::UnpairedUncounted => "g 2 1200 D800 A EFBFBD 0",
+            Fault::UncountedInLarge | Fault::NineWithCount => "T 1208 80 A BAD9",
             Fault::DecimalLimitEarly => "P ",
             Fault::EmptyDecimal => "P 0 - A REFUSE7",
             Fault::MinusZero => "P 0 0D A 30",
@@ -382,7 +428,7 @@ mod tests {
     fn length(fault: Fault) -> Option<usize> {
         match fault {
             Fault::LimitEarly => Some(TEXT_LIMIT),
-            Fault::LimitLate => Some(TEXT_LIMIT + 1),
+            Fault::LimitLate | Fault::LimitWithCount => Some(TEXT_LIMIT + 1),
             Fault::DecimalLimitEarly => Some(128),
             Fault::HighUnseen => Some(1024),
             Fault::Block(Dropped::Again) => Some(66),

@@ -56,12 +56,16 @@ impl Leaf {
 /// What a side answers. The last two only the port's side gives: what a line does not show was not as it must be.
 #[derive(Debug, Clone, PartialEq, Eq)]
 pub enum Answer<'a> {
-    /// A text, by its UTF-8.
-    Text(Cow<'a, [u8]>),
+    /// A text, by its UTF-8, and how many U+FFFD were put in.
+    Text {
+        text: Cow<'a, [u8]>,
+        replaced: usize,
+    },
     Truth(bool),
     /// A refusal by its number.
     Refusal(u32),
-    /// A number is wrong: refusal 9 does not come exactly where the buffer is too short, or with another length.
+    /// A number is wrong: refusal 9 does not come exactly where the buffer is too short, or with another length, a refusal comes with characters
+    /// replaced, or a larger buffer with another number of them.
     Bad9,
     /// A byte has changed that must keep what it had, or a larger buffer gets another text.
     BadRest,

@@ -3,6 +3,7 @@
 //! - `leaf`: the conversions that are compared, and what they answer
 //! - `request`: the line format of requests and answers
 //! - `rust_side`, `port_side`: the two that answer
+//! - `replaced`: how many characters a conversion replaces, which the Rust does not say
 //! - `random`, `inputs`: bytes to ask about
 //! - `blocks`: the same for texts that go by blocks, and a model of what is tested and counted in these
 //! - `compare`: the differential run
@@ -30,6 +31,7 @@ pub mod leaf;
 pub mod lent;
 pub mod port_side;
 pub mod random;
+pub mod replaced;
 pub mod request;
 pub mod rows;
 pub mod run;

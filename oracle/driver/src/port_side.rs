@@ -66,24 +66,17 @@ impl<L: Library> PortSide<L> {
                 other => Answer::Refusal(other),
             };
         }
-        let Outcome {
-            number: refusal,
-            text_length: length,
-        } = self.call(leaf, data, 0);
+        let first = self.call(leaf, data, 0);
         if !self.buffer.kept(0, 0) {
             return Answer::BadRest;
         }
+        let length = first.text_length;
         let most = ample(data.len()) + SPARE;
-        match refusal {
-            0 | 9 if length > most || (refusal == 0) != (length == 0) => Answer::Bad9,
+        match first.number {
+            0 if length != 0 => Answer::Bad9,
+            9 if length == 0 || length > most || first.replaced != 0 => Answer::Bad9,
             0 | 9 => self.written(leaf, data, length),
-            _ => {
-                let first = Outcome {
-                    number: refusal,
-                    text_length: length,
-                };
-                self.refused(leaf, data, first)
-            }
+            _ => self.refused(leaf, data, first),
         }
     }
 
@@ -94,11 +87,8 @@ impl<L: Library> PortSide<L> {
 
     /// The text, whose length by the library is `length`, and the checks with other buffers.
     fn written(&mut self, leaf: Leaf, data: &[u8], length: usize) -> Answer<'_> {
-        let accepted = Outcome {
-            number: 0,
-            text_length: length,
-        };
-        if self.call(leaf, data, length) != accepted {
+        let accepted = self.call(leaf, data, length);
+        if (accepted.number, accepted.text_length) != (0, length) {
             return Answer::Bad9;
         }
         if !self.buffer.kept(length, length) {
@@ -107,9 +97,12 @@ impl<L: Library> PortSide<L> {
         self.text.clear();
         self.text.extend_from_slice(self.buffer.first(length));
         if length > 0 {
-            let short = self.call(leaf, data, length - 1);
-            if (short.number, short.text_length) != (9, length) || !self.buffer.kept(0, length - 1)
-            {
+            let nine = Outcome {
+                number: 9,
+                text_length: length,
+                replaced: 0,
+            };
+            if self.call(leaf, data, length - 1) != nine || !self.buffer.kept(0, length - 1) {
                 return Answer::Bad9;
             }
         }
@@ -126,13 +119,17 @@ impl<L: Library> PortSide<L> {
                 return Answer::BadRest;
             }
         }
-        Answer::Text(self.text.as_slice().into())
+        Answer::Text {
+            text: self.text.as_slice().into(),
+            replaced: accepted.replaced,
+        }
     }
 
-    /// A refusal but 9: the same with a buffer in which any text fits, with length 0 and no byte changed.
+    /// A refusal but 9: the same with a buffer in which any text fits, with length 0, nothing replaced and no byte changed.
     fn refused(&mut self, leaf: Leaf, data: &[u8], first: Outcome) -> Answer<'_> {
         let size = ample(data.len()) + SPARE;
-        if self.call(leaf, data, size) != first || first.text_length != 0 {
+        let numbers = (first.text_length, first.replaced);
+        if self.call(leaf, data, size) != first || numbers != (0, 0) {
             return Answer::Bad9;
         }
         if !self.buffer.kept(0, size) {

@@ -1,8 +1,41 @@
 //! Requests and answers, line by line. A line is a request, or a request with an answer behind ` A `, which is dropped, and with
-//! it the columns of a `Q` line. A request may write one byte many times, as `00*1048577`; answers never do.
+//! it the columns of a `Q` line. A request may write one byte many times, as `00*1048577`, also among other bytes, as `41+00*300+42`. A request in lower
+//! case asks for all that the port answers, also what the Rust lacks; where it writes a byte so, the answer does too. Other answers never do.
 use crate::leaf::{Answer, Leaf, PRECISION};
 use port::column::{Column, Name, Numbers, Order, Type, NAMES};
 use std::fmt;
+
+/// How much of an answer a line shows.
+#[derive(Debug, Clone, Copy, PartialEq, Eq)]
+pub enum Form {
+    /// What the Rust answers too: lines in upper case.
+    Shared,
+    /// All: lines in lower case.
+    Whole,
+}
+
+impl Form {
+    /// The form in which two answers that are not the same look different.
+    pub fn telling(shared_differ: bool) -> Form {
+        match shared_differ {
+            true => Form::Shared,
+            false => Form::Whole,
+        }
+    }
+
+    /// A request's line in this form.
+    pub fn of(self, line: String) -> String {
+        match (self, line.split_once(' ')) {
+            (Form::Whole, Some((kind @ ("T" | "G" | "Q" | "H"), rest))) => {
+                format!("{} {RELEASE} {rest}", kind.to_lowercase())
+            }
+            _ => line,
+        }
+    }
+}
+
+/// The host release that a line in lower case states. There is no other yet.
+const RELEASE: &str = "2";
 
 /// What a line asks.
 #[derive(Debug, Clone, PartialEq, Eq)]
@@ -28,10 +61,26 @@ pub struct Call {
 }
 
 /// Reads a line. The error says why the line is no request.
-pub fn parse(line: &str) -> Result<Request, String> {
+pub fn parse(line: &str) -> Result<(Form, Request), String> {
     let asked = asked(line);
     let fields: Vec<&str> = asked.split(' ').collect();
+    let of_kind = |kind, rest: &[&str]| {
+        let fields = [&[kind], rest].concat();
+        Ok((Form::Whole, request(asked, &fields)?))
+    };
     match fields[..] {
+        ["t", RELEASE, ref rest @ ..] => of_kind("T", rest),
+        ["g", RELEASE, ref rest @ ..] => of_kind("G", rest),
+        ["q", RELEASE, ref rest @ ..] => of_kind("Q", rest),
+        ["h", RELEASE, ref rest @ ..] => of_kind("H", rest),
+        ["t" | "g" | "q" | "h", ..] => Err(format!("no release that is answered: {}", cut(asked))),
+        _ => Ok((Form::Shared, request(asked, &fields)?)),
+    }
+}
+
+/// What fields in upper case ask; `asked` is their line.
+fn request(asked: &str, fields: &[&str]) -> Result<Request, String> {
+    match *fields {
         ["T", ccsid, data] => {
             let ccsid = number(ccsid)?;
             call(Leaf::Character { ccsid }, data)
@@ -69,7 +118,7 @@ pub fn parse(line: &str) -> Result<Request, String> {
 pub fn asked(line: &str) -> &str {
     let before = |text: &'static str, line| str::split(line, text).next().unwrap_or(line);
     let asked = before(" A ", line);
-    if asked.starts_with("Q ") {
+    if asked.starts_with("Q ") || asked.starts_with("q ") {
         before(" C ", asked)
     } else {
         asked
@@ -146,8 +195,17 @@ fn number<N: std::str::FromStr + fmt::Display>(field: &str) -> Result<N, String>
 /// The most bytes that a field writes as one byte many times.
 const MOST_TIMES: usize = 2 << 20;
 
-/// The bytes of a field, written out, or one byte and how often it stands there.
+/// The bytes of a field: parts joined by `+`, each written out, or one byte and how often it stands there.
 fn bytes_or_repeated(field: &str) -> Result<Vec<u8>, String> {
+    let parts: Vec<&str> = field.split('+').collect();
+    if parts.len() > 1 && parts.contains(&"-") {
+        return Err(format!("no bytes among others: {}", cut(field)));
+    }
+    let parts: Result<Vec<Vec<u8>>, String> = parts.into_iter().map(part).collect();
+    Ok(parts?.concat())
+}
+
+fn part(field: &str) -> Result<Vec<u8>, String> {
     let Some((byte, times)) = field.split_once('*') else {
         return bytes(field);
     };
@@ -179,6 +237,45 @@ fn hex_value(digit: u8) -> Option<u8> {
         b'A'..=b'F' => Some(digit - b'A' + 10),
         _ => None,
     }
+}
+
+/// So many equal bytes or more are written as one byte many times.
+const RUN: usize = 64;
+
+/// An answer with each run of equal bytes in its fields written so.
+pub fn shortened(answer: &str) -> String {
+    let between = |c: char| c == ' ' || c == ':';
+    let fields = answer.split_inclusive(between).map(|field| {
+        let digits = field.trim_end_matches(between);
+        let runs = (digits.len() >= 2 * RUN)
+            .then(|| bytes(digits).ok())
+            .flatten();
+        match runs {
+            Some(data) => in_runs(&data) + &field[digits.len()..],
+            None => field.to_string(),
+        }
+    });
+    fields.collect()
+}
+
+fn in_runs(data: &[u8]) -> String {
+    let mut parts: Vec<String> = Vec::new();
+    let mut plain: Vec<u8> = Vec::new();
+    for run in data.chunk_by(|a, b| a == b) {
+        if run.len() < RUN {
+            plain.extend_from_slice(run);
+            continue;
+        }
+        if !plain.is_empty() {
+            parts.push(Hex(&plain).to_string());
+            plain.clear();
+        }
+        parts.push(format!("{}*{}", Hex(&run[..1]), run.len()));
+    }
+    if !plain.is_empty() {
+        parts.push(Hex(&plain).to_string());
+    }
+    parts.join("+")
 }
 
 /// The beginning of a text, for a message.
@@ -250,7 +347,7 @@ impl fmt::Display for Call {
 impl fmt::Display for Answer<'_> {
     fn fmt(&self, f: &mut fmt::Formatter<'_>) -> fmt::Result {
         match self {
-            Answer::Text(text) => Hex(text).fmt(f),
+            Answer::Text { text, .. } => Hex(text).fmt(f),
             Answer::Truth(likely) => write!(f, "{}", u8::from(*likely)),
             Answer::Refusal(number) => write!(f, "REFUSE{number}"),
             Answer::Bad9 => f.write_str("BAD9"),
@@ -259,13 +356,33 @@ impl fmt::Display for Answer<'_> {
     }
 }
 
+impl Answer<'_> {
+    pub fn shown(&self, form: Form) -> String {
+        match (form, self) {
+            (Form::Whole, Answer::Text { replaced, .. }) => format!("{self} {replaced}"),
+            _ => self.to_string(),
+        }
+    }
+}
+
 #[cfg(test)]
 mod tests {
     use super::*;
 
+    /// The request of a line, written again.
+    fn again(line: &str) -> String {
+        let (form, request) = parse(line).unwrap();
+        form.of(request.to_string())
+    }
+
     #[test]
     fn requests_come_back_as_they_were() {
         for line in [
+            "t 2 1208 C141",
+            "g 2 13488 -",
+            "q 2 0576D00500 R -",
+            "h 2 0 R -",
+            "h 2 1 Blob:C8:32768:0:0:0:0:0:L R -",
             "T 1208 C141",
             "G 13488 0041D800",
             "G 0 -",
@@ -281,26 +398,25 @@ mod tests {
             "F DecFloat.255",
             "F Decimal.5.2",
         ] {
-            assert_eq!(parse(line).unwrap().to_string(), line);
+            assert_eq!(again(line), line);
         }
     }
 
     #[test]
     fn an_answer_behind_the_request_is_dropped() {
-        assert_eq!(parse("T 37 C1 A 41").unwrap().to_string(), "T 37 C1");
-        assert_eq!(parse("P 0 - A REFUSE6").unwrap().to_string(), "P 0 -");
-        assert_eq!(parse("F Time A 8").unwrap().to_string(), "F Time");
-        assert_eq!(
-            parse("H 0 R 00 A OK 0 - 0").unwrap().to_string(),
-            "H 0 R 00"
-        );
+        assert_eq!(again("T 37 C1 A 41"), "T 37 C1");
+        assert_eq!(again("P 0 - A REFUSE6"), "P 0 -");
+        assert_eq!(again("F Time A 8"), "F Time");
+        assert_eq!(again("H 0 R 00 A OK 0 - 0"), "H 0 R 00");
+        assert_eq!(again("t 2 1208 C1 A EFBFBD 1"), "t 2 1208 C1");
+        assert_eq!(again("q 2 - R 00 C 0 A OK 0 - 0 0"), "q 2 - R 00");
         for answer in [
             "C 0 A OK 0 - 0",
             "C - A REFUSE2",
             "C 1 Xml:DC:0:0:0:0:0:-:L A SHORT 4 0",
         ] {
             let line = format!("Q 0570DC0000 R 00 {answer}");
-            assert_eq!(parse(&line).unwrap().to_string(), "Q 0570DC0000 R 00");
+            assert_eq!(again(&line), "Q 0570DC0000 R 00");
         }
     }
 
@@ -308,12 +424,34 @@ mod tests {
     fn one_byte_many_times_is_written_short() {
         for (short, long) in [
             ("T 37 C1*3 A 414141", "T 37 C1C1C1"),
+            ("t 2 37 C1*3 A 414141 0", "t 2 37 C1C1C1"),
             ("L 0A*0", "L -"),
             ("P 2 00*1", "P 2 00"),
             ("Q FF*2 R 00*4", "Q FFFF R 00000000"),
             ("H 0 R 1C*2", "H 0 R 1C1C"),
+            ("t 2 37 40+C1*3+4042 A 20414141 0", "t 2 37 40C1C1C14042"),
         ] {
-            assert_eq!(parse(short).unwrap().to_string(), long);
+            assert_eq!(again(short), long);
+        }
+    }
+
+    #[test]
+    fn runs_of_an_answer_are_written_short() {
+        let (short, long) = ("41".repeat(63), "41".repeat(64));
+        for (answer, shown) in [
+            ("A - 0".to_string(), "A - 0".to_string()),
+            (format!("A {short} 0"), format!("A {short} 0")),
+            (format!("A {long} 0"), "A 41*64 0".to_string()),
+            (
+                format!("A 4242{long}{short}00 7"),
+                "A 4242+41*127+00 7".to_string(),
+            ),
+            (
+                format!("A OK 64 - 64 0 N V:{long} B:0:{short}"),
+                format!("A OK 64 - 64 0 N V:41*64 B:0:{short}"),
+            ),
+        ] {
+            assert_eq!(shortened(&answer), shown);
         }
     }
 
@@ -335,6 +473,9 @@ mod tests {
             "T 1208 C1*03",
             "T 1208 C1*3*3",
             "T 1208 C1*2097153",
+            "T 1208 C1+",
+            "T 1208 +C1",
+            "T 1208 C1+-",
             "T 1208*2 C1",
             "H 1 Xml:DC*1:0:0:0:0:0:-:L R -",
             "T 65536 C1",
@@ -369,6 +510,20 @@ mod tests {
             "F DecFloat.256",
             "F Decimal.5",
             "F Decimal.256.0",
+            "t",
+            "t 1208 C1",
+            "t 3 1208 C1",
+            "t 02 1208 C1",
+            "t 2 1208",
+            "t 2 1208 C1 1",
+            "g 2 C1",
+            "q 2 -",
+            "q - R -",
+            "h 2 1 R -",
+            "h 1 0 R -",
+            "l 2 00",
+            "l 00",
+            "p 2 0 1C",
         ] {
             assert!(parse(line).is_err(), "{line}");
         }
@@ -377,11 +532,16 @@ mod tests {
     #[test]
     fn answers_are_written_in_the_format() {
         let written = |answer: Answer| answer.to_string();
-        assert_eq!(
-            written(Answer::Text(vec![0xEF, 0xBF, 0xBD].into())),
-            "EFBFBD"
-        );
-        assert_eq!(written(Answer::Text(Vec::new().into())), "-");
+        let text = |bytes: &'static [u8], replaced| Answer::Text {
+            text: bytes.into(),
+            replaced,
+        };
+        assert_eq!(written(text(&[0xEF, 0xBF, 0xBD], 1)), "EFBFBD");
+        assert_eq!(written(text(&[], 0)), "-");
+        let whole = |answer: Answer| answer.shown(Form::Whole);
+        assert_eq!(whole(text(&[0xEF, 0xBF, 0xBD], 1)), "EFBFBD 1");
+        assert_eq!(whole(text(&[], 0)), "- 0");
+        assert_eq!(whole(Answer::Refusal(4)), "REFUSE4");
         assert_eq!(written(Answer::Truth(true)), "1");
         assert_eq!(written(Answer::Refusal(4)), "REFUSE4");
         assert_eq!(written(Answer::Bad9), "BAD9");

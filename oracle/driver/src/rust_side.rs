@@ -1,5 +1,7 @@
-//! The answers of the published Rust. It has no limits of its own: those of the port are applied here, before it is asked.
+//! The answers of the published Rust. It has no limits of its own: those of the port are applied here, before it is asked. Nor does it count
+//! characters replaced: `replaced` does.
 use crate::leaf::{Answer, Leaf, DECIMAL_LIMIT, TEXT_LIMIT};
+use crate::replaced::Reading;
 use db2_proto::fdoca::exposed;
 use db2_proto::types::decode_packed_decimal;
 
@@ -36,7 +38,10 @@ pub fn answer(leaf: Leaf, data: &[u8]) -> Answer<'static> {
     match refused(leaf, data) {
         Some(number) => Answer::Refusal(number),
         None if leaf == Leaf::Likely => Answer::Truth(likely(data)),
-        None => Answer::Text(text(leaf, data).into_bytes().into()),
+        None => Answer::Text {
+            text: text(leaf, data).into_bytes().into(),
+            replaced: Reading::of_leaf(leaf, data).replaced(data),
+        },
     }
 }
 
@@ -54,14 +59,14 @@ mod tests {
             Leaf::Locator,
             Leaf::RowId,
         ] {
-            assert!(matches!(answer(leaf, &at), Answer::Text(_)));
+            assert!(matches!(answer(leaf, &at), Answer::Text { .. }));
             assert_eq!(answer(leaf, &above), Answer::Refusal(4));
         }
         assert_eq!(answer(Leaf::Likely, &above), Answer::Truth(true));
         assert_eq!(answer(Leaf::decimal(0), &[]), Answer::Refusal(6));
         assert!(matches!(
             answer(Leaf::decimal(0), &at[..128]),
-            Answer::Text(_)
+            Answer::Text { .. }
         ));
         assert_eq!(answer(Leaf::decimal(0), &at[..129]), Answer::Refusal(7));
     }

@@ -1,5 +1,7 @@
 //! The calls of the static library libvejupa.a, as the crate `vejupa` of bindings/rust has them: what is compared is what its users call.
 //! Columns and values are taken apart here by code of the driver's own, so that an error of that crate does not hide one of the library.
+//! And the calls by value, from an archive of their own.
+pub mod by_value;
 pub mod column;
 pub mod value;
 

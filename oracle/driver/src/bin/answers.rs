@@ -1,7 +1,7 @@
 //! `answers port|rust < requests`: each line of standard input whole, with the answer behind it.
 use differential::descriptions::Description;
 use differential::port_side::{Archive, PortSide};
-use differential::request::{self, Call, Request};
+use differential::request::{self, Call, Form, Request};
 use differential::rows::List;
 use differential::{descriptions, rows, rust_side};
 use std::io::{self, BufRead, BufWriter, Write};
@@ -19,7 +19,7 @@ fn main() -> ExitCode {
                 ),
                 rows: rows::port_side::PortSide::new(rows::port_side::Archive),
             };
-            answer_lines(|request| port.answer(request))
+            answer_lines(|form, request| port.answer(form, request))
         }
         _ => Err("usage: answers port|rust < requests".to_string()),
     };
@@ -33,18 +33,20 @@ fn main() -> ExitCode {
 }
 
 /// What stands behind the request.
-fn rust_answer(request: &Request) -> String {
+fn rust_answer(form: Form, request: &Request) -> String {
     match request {
-        Request::Leaf(Call { leaf, data }) => format!("A {}", rust_side::answer(*leaf, data)),
+        Request::Leaf(Call { leaf, data }) => {
+            format!("A {}", rust_side::answer(*leaf, data).shown(form))
+        }
         Request::Description { data, row } => {
             let description = descriptions::rust_side::describe(data);
             described(&description, |list| {
-                rows::rust_side::answer(list, row).shown(row)
+                rows::rust_side::answer(list, row).shown(form, row)
             })
         }
         Request::Row { columns, data } => {
-            let list = List::of(columns);
-            format!("A {}", rows::rust_side::answer(&list, data).shown(data))
+            let answer = rows::rust_side::answer(&List::of(columns), data);
+            format!("A {}", answer.shown(form, data))
         }
         Request::FixedLength(asked) => descriptions::rust_side::fixed_length(*asked).to_string(),
     }
@@ -58,18 +60,20 @@ struct Port {
 
 impl Port {
     /// What stands behind the request.
-    fn answer(&mut self, request: &Request) -> String {
+    fn answer(&mut self, form: Form, request: &Request) -> String {
         match request {
-            Request::Leaf(Call { leaf, data }) => format!("A {}", self.texts.answer(*leaf, data)),
+            Request::Leaf(Call { leaf, data }) => {
+                format!("A {}", self.texts.answer(*leaf, data).shown(form))
+            }
             Request::Description { data, row } => {
                 let description = self.descriptions.describe(data);
                 described(&description, |list| {
-                    self.rows.answer(&list.words, row).shown(row)
+                    self.rows.answer(&list.words, row).shown(form, row)
                 })
             }
             Request::Row { columns, data } => {
-                let list = List::of(columns);
-                format!("A {}", self.rows.answer(&list.words, data).shown(data))
+                let answer = self.rows.answer(&List::of(columns).words, data);
+                format!("A {}", answer.shown(form, data))
             }
             Request::FixedLength(asked) => self.descriptions.fixed_length(asked.word()).to_string(),
         }
@@ -85,7 +89,7 @@ fn described(description: &Description, row: impl FnOnce(&List) -> String) -> St
 }
 
 /// Answers the lines of standard input up to the first that is no request.
-fn answer_lines(mut answer: impl FnMut(&Request) -> String) -> Result<(), String> {
+fn answer_lines(mut answer: impl FnMut(Form, &Request) -> String) -> Result<(), String> {
     let mut out = BufWriter::with_capacity(1 << 16, io::stdout().lock());
     let mut lines = io::stdin().lock().lines();
     let mut number = 0;
@@ -93,9 +97,13 @@ fn answer_lines(mut answer: impl FnMut(&Request) -> String) -> Result<(), String
         number += 1;
         let at = |message: String| format!("line {number} is no request: {message}");
         let line = line.map_err(|error| at(error.to_string()))?;
-        let request = request::parse(&line).map_err(at)?;
+        let (form, request) = request::parse(&line).map_err(at)?;
         let asked = request::asked(&line);
-        writeln!(out, "{asked} {}", answer(&request)).map_err(|error| error.to_string())
+        let mut answer = answer(form, &request);
+        if form == Form::Whole && asked.contains('*') {
+            answer = request::shortened(&answer);
+        }
+        writeln!(out, "{asked} {answer}").map_err(|error| error.to_string())
     });
     let flushed = out.flush().map_err(|error| error.to_string());
     answered.and(flushed)

@@ -30,7 +30,7 @@ fn run<L: Library>(library: L, until: Until, seed: u64) -> Report {
     }
 }
 
-fn answers(counts: &Counts) -> [(u64, &'static str); 12] {
+fn answers(counts: &Counts) -> [(u64, &'static str); 15] {
     [
         (counts.accepted, "accepted"),
         (
@@ -38,12 +38,18 @@ fn answers(counts: &Counts) -> [(u64, &'static str); 12] {
             "accepted with texts (and refusal 9 in shorter buffers)",
         ),
         (counts.external, "accepted with external columns"),
+        (counts.replaced, "accepted with characters replaced"),
         (counts.too_short, "refusal 8"),
         (counts.refused_3, "refusal 3"),
         (counts.refused_4, "refusal 4"),
         (counts.refused_5, "refusal 5"),
         (counts.refused_102, "102"),
         (counts.descriptions, "descriptions before rows"),
+        (counts.by_value, "by value too"),
+        (
+            counts.replaced_by_value,
+            "by value too, with characters replaced",
+        ),
         (counts.alone, "demand 3: the bytes used alone"),
         (counts.longer, "demand 3: a longer input"),
         (counts.shorter, "demand 3: a shorter beginning"),

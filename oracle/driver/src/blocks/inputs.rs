@@ -35,8 +35,8 @@ const MALFORMED: [&[u8]; 25] = [
     b"\xF0\x9F\xA7\xB6\x80",
 ];
 
-/// Well-formed UTF-8: the first and last of each range, and characters that a likely text may not hold, or only just.
-const WELL_FORMED: [&[u8]; 19] = [
+/// Well-formed UTF-8: the first and last of each range, characters that a likely text may not hold, or only just, and U+FFFD, which is not counted as replaced.
+const WELL_FORMED: [&[u8]; 20] = [
     b"\x00",
     b"\x09",
     b"\x0A",
@@ -52,6 +52,7 @@ const WELL_FORMED: [&[u8]; 19] = [
     b"\xE0\xA0\x80",
     b"\xE2\x82\xAC",
     b"\xED\x9F\xBF",
+    b"\xEF\xBF\xBD",
     b"\xEF\xBF\xBF",
     b"\xF0\x90\x80\x80",
     b"\xF0\x9F\xA7\xB6",
@@ -59,7 +60,7 @@ const WELL_FORMED: [&[u8]; 19] = [
 ];
 
 /// UTF-16: surrogates, paired and not, and the first and last units of each length.
-const UNITS: [&[u16]; 19] = [
+const UNITS: [&[u16]; 20] = [
     &[0xD800],
     &[0xDBFF],
     &[0xDC00],
@@ -78,6 +79,7 @@ const UNITS: [&[u16]; 19] = [
     &[0x0800],
     &[0xD7FF],
     &[0xE000],
+    &[0xFFFD],
     &[0xFFFF],
 ];
 

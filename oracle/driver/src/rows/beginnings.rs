@@ -4,6 +4,7 @@
 use super::compare::Run;
 use super::port_side::Library;
 use super::{inputs, request, rust_side, List, Outcome};
+use crate::request::Form;
 use crate::run::{Difference, End, Flow};
 use port::column::{Column, Name};
 use std::ops::ControlFlow::{Break, Continue};
@@ -22,7 +23,7 @@ pub fn carries_own_end(column: &Column) -> bool {
 impl<L: Library> Run<L> {
     /// Tries demand 3 on a row to which `self.rust` is the answer.
     pub(super) fn beginnings(&mut self, list: &List, data: &[u8]) -> Flow {
-        let Outcome::Accepted { used } = self.rust.outcome else {
+        let Outcome::Accepted { used, .. } = self.rust.outcome else {
             return Continue(());
         };
         let used = used as usize;
@@ -56,8 +57,8 @@ impl<L: Library> Run<L> {
     fn broken(&mut self, what: &str, list: &List, data: &[u8], other: &[u8]) -> Flow {
         self.row(list, other)?;
         let line = |data: &[u8]| {
-            let answer = rust_side::answer(list, data).shown(data);
-            format!("{} A {answer}", request(list, data))
+            let answer = rust_side::answer(list, data).shown(Form::Whole, data);
+            format!("{} A {answer}", request(Form::Whole, list, data))
         };
         Break(End::Different(Box::new(Difference {
             rust: line(data),

@@ -117,6 +117,19 @@ pub fn texts(count: usize) -> [List; 2] {
     [vec![text; count], several].map(List::numbered)
 }
 
+/// A description of so many columns, texts of several types among numbers.
+pub fn described_texts(count: usize) -> Vec<u8> {
+    const SEVERAL: [[u8; 7]; 5] = [
+        [7, 0x70, 0x32, 0, 100, 0x04, 0xB8],
+        [7, 0x70, 0x04, 0, 2, 0, 0],
+        [7, 0x70, 0x33, 0, 100, 0x04, 0xB8],
+        [7, 0x70, 0xCA, 0, 1, 0, 0],
+        [7, 0x70, 0x32, 0, 100, 0, 37],
+    ];
+    let triplets = SEVERAL.iter().cycle().take(count);
+    triplets.flatten().copied().collect()
+}
+
 fn types(name: Name) -> Vec<Type> {
     match name.numbers() {
         Numbers::None => vec![name.plain()],

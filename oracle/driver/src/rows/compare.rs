@@ -49,8 +49,13 @@ pub struct Counts {
     pub with_text: u64,
     /// Accepted rows with an external column.
     pub external: u64,
+    /// Accepted rows with characters replaced.
+    pub replaced: u64,
     pub by_name: [u64; NAMES.len()],
     pub descriptions: u64,
+    /// Rows of descriptions that the row call by value was asked about, and those of them with characters replaced.
+    pub by_value: u64,
+    pub replaced_by_value: u64,
     pub longer: u64,
     pub shorter: u64,
     pub alone: u64,
@@ -64,8 +69,9 @@ impl Counts {
 
     fn add(&mut self, list: &List, answer: &Answer) {
         match answer.outcome {
-            Outcome::Accepted { .. } => {
+            Outcome::Accepted { replaced, .. } => {
                 self.accepted += 1;
+                self.replaced += u64::from(replaced > 0);
                 self.with_text += u64::from(!answer.text.is_empty());
                 let mut firsts = answer.values.iter().step_by(3);
                 self.external += u64::from(firsts.any(|word| word & 1 << 8 != 0));
@@ -125,7 +131,7 @@ impl<L: Library> Run<L> {
         rust_side::answer_into(list, data, &mut self.rust);
         self.counts.add(list, &self.rust);
         if *self.port.answer(&list.words, data) == self.rust {
-            return Continue(());
+            return self.by_value(list, data);
         }
         Break(End::Different(Box::new(smallest(
             &mut self.port,
@@ -281,7 +287,8 @@ impl<L: Library> Run<L> {
     fn texts(&mut self) -> Flow {
         let mut row = Vec::new();
         for count in [1, 2, 63, 64, 65, 127, COLUMN_LIMIT] {
-            for list in columns::texts(count) {
+            let described = self.described(&columns::described_texts(count))?;
+            for list in columns::texts(count).into_iter().chain(described) {
                 for place in 0..count {
                     for [one, others] in inputs::unlike() {
                         inputs::texts(&list.columns, place, one, others, &mut row);
@@ -348,7 +355,7 @@ impl<L: Library> Run<L> {
             return Break(End::Different(Box::new(found)));
         }
         Continue(match port {
-            Description::Columns(columns) => Some(List::of(&columns)),
+            Description::Columns(columns) => Some(List::described(&columns, description)),
             _ => None,
         })
     }

@@ -194,6 +194,39 @@ faults! {
     /// A short reference takes 16 bytes.
     LobTakes16,
     LobNotExternal,
+    // Characters replaced.
+    /// The host's own U+FFFD are counted.
+    HostsOwnCounted,
+    /// One for each malformed byte.
+    BytesCounted,
+    /// One for a whole text.
+    OneForText,
+    /// One for the whole row.
+    OneForRow,
+    /// Those of the last text alone.
+    LastTextCounted,
+    /// Unpaired surrogates are left out.
+    UnpairedUncounted,
+    /// LOBs within the row are left out.
+    InlineUncounted,
+    /// LobChar is left out.
+    LobCharUncounted,
+    /// Dates and times are left out.
+    DatesUncounted,
+    /// None in a buffer that holds any texts.
+    UncountedInLarge,
+    /// The number stays with refusal 9.
+    NineWithCount,
+    /// Those before it stay with refusal 8.
+    ShortWithCount,
+    /// The row call by value leaves the number out,
+    ByValueUncounted,
+    /// or does so in a buffer that holds any texts,
+    ByValueUncountedInLarge,
+    /// or has it with refusal 9,
+    ByValueNineWithCount,
+    /// or those before it with refusal 8.
+    ByValueShortWithCount,
     // Places and buffers.
     /// An empty binary value names where it would lie.
     EmptyBinaryPlace,

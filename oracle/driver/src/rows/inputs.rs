@@ -200,12 +200,19 @@ impl Default for Values {
 }
 
 /// A text and what others are where it is unlike them: well-formed among malformed ones or the other way about, short and long enough for blocks.
-pub fn unlike() -> [[&'static [u8]; 2]; 4] {
+pub fn unlike() -> [[&'static [u8]; 2]; 5] {
     const GOOD: &[u8] = b"a\xC3\xA9";
     const BAD: &[u8] = b"\xC3a";
+    const SENT: &[u8] = b"\xEF\xBF\xBD";
     const LONG: &[u8] = &[b'z'; 80];
     const LONG_BAD: &[u8] = &[0x80; 80];
-    [[GOOD, BAD], [BAD, GOOD], [LONG, LONG_BAD], [LONG_BAD, LONG]]
+    [
+        [GOOD, BAD],
+        [BAD, GOOD],
+        [LONG, LONG_BAD],
+        [LONG_BAD, LONG],
+        [BAD, SENT],
+    ]
 }
 
 /// A row of `columns::texts`, with one text at a place and another at all others, of which some are Null.

@@ -4,10 +4,12 @@
 //! - `columns`, `inputs`: columns and rows to ask about
 //! - `compare`: the differential run
 //! - `beginnings`: demand 3, on the compiled code
+//! - `by_value`: the row call by value, on rows with a description's columns
 //! - `smallest`: the smallest row that differs
 //! - `model`: a row call written a third time, with a switch for each fault
 //! - `faults`: the faults, to see that the run notices them
 pub mod beginnings;
+pub mod by_value;
 pub mod columns;
 pub mod compare;
 pub mod faults;
@@ -18,7 +20,7 @@ pub mod rust_side;
 pub mod smallest;
 
 use crate::descriptions::COLUMN_LIMIT;
-use crate::request::Hex;
+use crate::request::{Form, Hex};
 use db2_proto::fdoca::ColumnDescriptor;
 use port::column::{Column, Name};
 use port::value::{Held, Sort, Value, VALUE_WORDS};
@@ -36,6 +38,8 @@ pub struct List {
     pub words: Vec<u64>,
     /// Empty where the words are no columns'.
     pub columns: Vec<Column>,
+    /// The description that has these columns, where they are read out of one.
+    pub description: Option<Vec<u8>>,
     published: Vec<ColumnDescriptor>,
     refusal: Option<Early>,
 }
@@ -80,7 +84,16 @@ impl List {
             published: columns.iter().map(rust_side::published).collect(),
             refusal,
             columns,
+            description: None,
             words,
+        }
+    }
+
+    /// The columns of a description.
+    pub fn described(columns: &[Column], description: &[u8]) -> List {
+        List {
+            description: Some(description.to_vec()),
+            ..List::of(columns)
         }
     }
 
@@ -100,7 +113,7 @@ impl List {
 }
 
 /// A request for a row, as a line, or, where the format has no line for it, as a call that no one takes for one.
-pub fn request(list: &List, data: &[u8]) -> String {
+pub fn request(form: Form, list: &List, data: &[u8]) -> String {
     if !list.has_line() {
         let words: Vec<String> = list.words.iter().map(|word| format!("{word:X}")).collect();
         return format!("vejupa_raw_decode_row({}; {})", words.join(" "), Hex(data));
@@ -110,7 +123,7 @@ pub fn request(list: &List, data: &[u8]) -> String {
         .iter()
         .map(|column| format!(" {column}"))
         .collect();
-    format!("H {}{columns} R {}", list.count(), Hex(data))
+    form.of(format!("H {}{columns} R {}", list.count(), Hex(data)))
 }
 
 /// What a side answers: an outcome and, where it is accepted, the values' words and the texts.
@@ -125,6 +138,8 @@ pub struct Answer {
 pub enum Outcome {
     Accepted {
         used: usize,
+        /// How many U+FFFD were put into the texts.
+        replaced: usize,
     },
     TooShort {
         expected: usize,
@@ -138,7 +153,7 @@ pub enum Outcome {
 /// Only the port's side gives these: what a line does not show was not as it must be.
 #[derive(Debug, Clone, Copy, PartialEq, Eq)]
 pub enum Bad {
-    /// Refusal 9 does not come exactly where the text buffer is too short, or with another length, or something changed with it.
+    /// Refusal 9 does not come exactly where the text buffer is too short, or with another number, or something changed with it.
     Nine,
     /// 101 does not come exactly where the words are too few, or with another number, or something changed with it.
     TooFew,
@@ -165,16 +180,20 @@ impl Answer {
     }
 
     /// The answer as a line has it behind ` A `. `data` is the row, which binary values name parts of.
-    pub fn shown(&self, data: &[u8]) -> String {
+    pub fn shown(&self, form: Form, data: &[u8]) -> String {
         match self.outcome {
-            Outcome::Accepted { used } => self.accepted(used, data),
+            Outcome::Accepted { used, replaced } => match form {
+                Form::Shared => self.accepted(used, String::new(), data),
+                Form::Whole => self.accepted(used, format!(" {replaced}"), data),
+            },
             Outcome::TooShort { expected, actual } => format!("SHORT {expected} {actual}"),
             Outcome::Refusal(number) => format!("REFUSE{number}"),
             Outcome::Bad(bad) => bad.to_string(),
         }
     }
 
-    fn accepted(&self, used: usize, data: &[u8]) -> String {
+    /// `more` stands behind the texts' length.
+    fn accepted(&self, used: usize, more: String, data: &[u8]) -> String {
         let (words, _) = self.values.as_chunks::<VALUE_WORDS>();
         let mut external = Vec::new();
         let mut values = String::new();
@@ -203,7 +222,7 @@ impl Answer {
         if external.is_empty() {
             external.push("-".to_string());
         }
-        format!("OK {used} {} {texts}{values}", external.join(","))
+        format!("OK {used} {} {texts}{more}{values}", external.join(","))
     }
 
     /// None where a place is not there, or a number is none of its sort.
@@ -289,11 +308,22 @@ mod tests {
 
     fn shown(words: [u64; 3], text: &[u8], data: &[u8]) -> String {
         let answer = Answer {
-            outcome: Outcome::Accepted { used: 7 },
+            outcome: Outcome::Accepted {
+                used: 7,
+                replaced: 3,
+            },
             values: words.to_vec(),
             text: text.to_vec(),
         };
-        answer.shown(data)
+        let whole = answer.shown(Form::Whole, data);
+        let shared = answer.shown(Form::Shared, data);
+        let without = whole
+            .split(' ')
+            .enumerate()
+            .filter(|(place, _)| *place != 4);
+        let without: Vec<&str> = without.map(|(_, field)| field).collect();
+        assert_eq!(without.join(" "), shared);
+        shared
     }
 
     #[test]
@@ -316,6 +346,20 @@ mod tests {
         }
         assert_eq!(shown([0x10D, 0, 2], b"AB", &[]), "OK 7 0 2 K:4142");
         assert_eq!(shown([0x10C, 0, 1], &[], &[9]), "OK 7 0 0 O:0:09");
+    }
+
+    #[test]
+    fn the_characters_replaced_stand_behind_the_length_of_the_texts() {
+        let answer = Answer {
+            outcome: Outcome::Accepted {
+                used: 2,
+                replaced: 1,
+            },
+            values: vec![9, 0, 4],
+            text: "\u{FFFD}A".into(),
+        };
+        assert_eq!(answer.shown(Form::Whole, &[]), "OK 2 - 4 1 C:EFBFBD41");
+        assert_eq!(answer.shown(Form::Shared, &[]), "OK 2 - 4 C:EFBFBD41");
     }
 
     #[test]

@@ -1,10 +1,11 @@
 //! A row call written a third time, plainly and with a switch for each fault. Without a fault it answers as the Rust does, which
 //! the run is asked to say; with one it is a wrong library, whose fault shows only on some rows, as a real one would.
-//! The conversions of single texts are the Rust's: `crate::faults` has faults of those.
+//! The conversions of single texts are the Rust's, and what they replace is `replaced`'s: `crate::faults` has faults of those.
 use super::faults::Fault;
 use super::port_side::{plain as refused, Library};
-use super::{LARGEST_NUMBER, ROW_LIMIT};
-use crate::descriptions::COLUMN_LIMIT;
+use super::{List, LARGEST_NUMBER, ROW_LIMIT};
+use crate::descriptions::{rust_side::describe, Description, COLUMN_LIMIT};
+use crate::replaced::Reading;
 use db2_proto::fdoca::exposed;
 use db2_proto::types::decode_packed_decimal;
 use port::column::{Column, Name, Order};
@@ -24,8 +25,11 @@ enum Held {
     Number(u64),
     /// Bytes of the column's rest: from where, how many.
     Part(usize, usize),
-    Text(String),
+    Text(Converted),
 }
+
+/// A text, and how many U+FFFD were put in.
+type Converted = (String, usize);
 
 /// A value and the bytes that it takes, or the bytes that it would take.
 type Decision = Result<(Found, usize), usize>;
@@ -46,12 +50,17 @@ fn part(sort: Sort, from: usize, length: usize) -> Found {
     }
 }
 
-fn text(sort: Sort, text: String) -> Found {
+fn converted(sort: Sort, converted: Converted) -> Found {
     Found {
         sort,
-        held: Held::Text(text),
+        held: Held::Text(converted),
         external: false,
     }
+}
+
+/// A text in which nothing can be malformed.
+fn text(sort: Sort, text: String) -> Found {
+    converted(sort, (text, 0))
 }
 
 impl Found {
@@ -207,10 +216,60 @@ impl Model {
         }
     }
 
-    /// Refusal 8 at a place of the row.
-    fn short(&self, at: usize, expected: usize, actual: usize) -> Decoded {
+    /// A text with its count, where these bytes are read so.
+    fn counted_in(&self, shown: String, reading: Reading, bytes: &[u8]) -> Converted {
+        let replaced = match self.0 {
+            Some(Fault::HostsOwnCounted) => shown.matches('\u{FFFD}').count(),
+            Some(Fault::BytesCounted) => reading.malformed(bytes).sum(),
+            Some(Fault::OneForText) => reading.replaced(bytes).min(1),
+            Some(Fault::UnpairedUncounted) if reading == Reading::Utf16 => 0,
+            _ => reading.replaced(bytes),
+        };
+        (shown, replaced)
+    }
+
+    fn characters(&self, bytes: &[u8], ccsid: u16) -> Converted {
+        let shown = exposed::decode_character_bytes(bytes, ccsid);
+        self.counted_in(shown, Reading::of_characters(ccsid), bytes)
+    }
+
+    fn graphics(&self, bytes: &[u8], ccsid: u16) -> Converted {
+        let shown = exposed::decode_graphic_bytes(bytes, ccsid);
+        self.counted_in(shown, Reading::of_graphics(ccsid, bytes), bytes)
+    }
+
+    fn utf8(&self, bytes: &[u8]) -> Converted {
+        let shown = String::from_utf8_lossy(bytes).into_owned();
+        self.counted_in(shown, Reading::Utf8, bytes)
+    }
+
+    /// How many U+FFFD were put into the texts of some values.
+    fn replaced(&self, values: &[(Found, usize)]) -> usize {
+        let mut counts = values.iter().filter_map(|(found, _)| match &found.held {
+            Held::Text((_, replaced)) => Some(*replaced),
+            _ => None,
+        });
+        match self.0 {
+            Some(Fault::LastTextCounted) => counts.next_back().unwrap_or(0),
+            Some(Fault::OneForRow) => counts.sum::<usize>().min(1),
+            _ => counts.sum(),
+        }
+    }
+
+    /// Refusal 8 at a place of the row, behind some values.
+    fn short(
+        &self,
+        at: usize,
+        expected: usize,
+        actual: usize,
+        values: &[(Found, usize)],
+    ) -> Decoded {
         let short = too_short(expected, actual);
         match self.0 {
+            Some(Fault::ShortWithCount) => Decoded {
+                replaced: self.replaced(values),
+                ..short
+            },
             Some(Fault::ShortWithUsed) => Decoded { used: at, ..short },
             Some(Fault::ShortSwapped) => too_short(actual, expected),
             _ => short,
@@ -218,12 +277,13 @@ impl Model {
     }
 
     /// Refusal 9 of a row whose texts have so many bytes.
-    fn nine(&self, texts: usize, lent: usize, used: usize) -> Decoded {
+    fn nine(&self, texts: usize, lent: usize, used: usize, replaced: usize) -> Decoded {
         let nine = Decoded {
             text_length: texts,
             ..refused(9)
         };
         match self.0 {
+            Some(Fault::NineWithCount) => Decoded { replaced, ..nine },
             Some(Fault::NineLong) => Decoded {
                 text_length: texts + 1,
                 ..nine
@@ -253,8 +313,9 @@ impl Model {
                     Some(Fault::IndicatorFromRow) => 0,
                     _ => skip,
                 };
-                let short = self.short(at, at + 1 - from, data.len() - from.min(data.len()));
-                let indicator = *data.get(at).ok_or(short)?;
+                let actual = data.len() - from.min(data.len());
+                let short = || self.short(at, at + 1 - from, actual, &values);
+                let indicator = *data.get(at).ok_or_else(short)?;
                 at += 1;
                 if self.is_null(indicator) {
                     if self.has(Fault::NullTakesValue) && column.db2_type.name == Name::SmallInt {
@@ -275,7 +336,7 @@ impl Model {
             };
             let (found, used) = self
                 .value(&data[at..], column)
-                .map_err(|need| self.short(at, at - from + need, data.len() - from))?;
+                .map_err(|need| self.short(at, at - from + need, data.len() - from, &values))?;
             values.push((found, at));
             at += used;
         }
@@ -330,10 +391,10 @@ impl Model {
                 };
                 let bytes = need(rest, length)?;
                 let shown = match (self.0, column.ccsid) {
-                    (Some(Fault::CharGraphic), 1200) => exposed::decode_graphic_bytes(bytes, 1200),
-                    _ => exposed::decode_character_bytes(bytes, column.ccsid),
+                    (Some(Fault::CharGraphic), 1200) => self.graphics(bytes, 1200),
+                    _ => self.characters(bytes, column.ccsid),
                 };
-                Ok((text(Sort::Char, shown), length))
+                Ok((converted(Sort::Char, shown), length))
             }
             Name::VarChar if own & 0x8000 != 0 => self.header(rest, own),
             Name::VarChar => {
@@ -344,18 +405,18 @@ impl Model {
                     usize::MAX
                 };
                 let bytes = &bytes[..bytes.len().min(most)];
-                let shown = exposed::decode_character_bytes(bytes, column.ccsid);
-                Ok((text(Sort::VarChar, shown), used))
+                let shown = self.characters(bytes, column.ccsid);
+                Ok((converted(Sort::VarChar, shown), used))
             }
             Name::LongVarChar => {
                 let (bytes, used) = self.counted(rest, column, 1)?;
-                let shown = exposed::decode_character_bytes(bytes, column.ccsid);
+                let shown = self.characters(bytes, column.ccsid);
                 let sort = if self.has(Fault::LongIsClob) {
                     Sort::Clob
                 } else {
                     Sort::VarChar
                 };
-                Ok((text(sort, shown), used))
+                Ok((converted(sort, shown), used))
             }
             Name::Binary => {
                 need(rest, plain)?;
@@ -415,13 +476,13 @@ impl Model {
                 } else {
                     Sort::Char
                 };
-                Ok((text(sort, shown), length))
+                Ok((converted(sort, shown), length))
             }
             Name::VarGraphic if own & 0x8000 != 0 => self.header(rest, own),
             Name::VarGraphic => {
                 let of_one = self.bytes_of_one(column, Fault::VarGraphicInBytes);
                 let (bytes, used) = self.counted(rest, column, of_one)?;
-                Ok((text(Sort::VarChar, self.graphic(bytes, column)), used))
+                Ok((converted(Sort::VarChar, self.graphic(bytes, column)), used))
             }
             Name::Null => Ok((number(Sort::Null, 0), 0)),
         }
@@ -496,8 +557,12 @@ impl Model {
             (Some(Fault::TimeOf10), Sort::Time) => 10,
             _ => length,
         };
-        let shown = exposed::decode_character_bytes(need(rest, length)?, column.ccsid);
-        Ok((text(sort, shown), length))
+        let (shown, replaced) = self.characters(need(rest, length)?, column.ccsid);
+        let replaced = match self.0 {
+            Some(Fault::DatesUncounted) => 0,
+            _ => replaced,
+        };
+        Ok((converted(sort, (shown, replaced)), length))
     }
 
     /// How many bytes a length of a graphic column counts as one.
@@ -512,15 +577,15 @@ impl Model {
         }
     }
 
-    fn graphic(&self, bytes: &[u8], column: &Column) -> String {
+    fn graphic(&self, bytes: &[u8], column: &Column) -> Converted {
         if self.has(Fault::GraphicLittle) && column.order == Order::Little && bytes.len() % 2 == 0 {
             let turned: Vec<u8> = bytes
                 .chunks(2)
                 .flat_map(|unit| [unit[1], unit[0]])
                 .collect();
-            return exposed::decode_graphic_bytes(&turned, column.ccsid);
+            return self.graphics(&turned, column.ccsid);
         }
-        exposed::decode_graphic_bytes(bytes, column.ccsid)
+        self.graphics(bytes, column.ccsid)
     }
 
     /// A flagged VarChar or VarGraphic.
@@ -625,13 +690,14 @@ impl Model {
         let total = 4 + length as usize;
         let bytes = &need(rest, total)?[4..];
         let shown = || match self.0 {
-            Some(Fault::InlineByCcsid) => exposed::decode_character_bytes(bytes, column.ccsid),
-            _ => String::from_utf8_lossy(bytes).into_owned(),
+            Some(Fault::InlineByCcsid) => self.characters(bytes, column.ccsid),
+            Some(Fault::InlineUncounted) => (self.utf8(bytes).0, 0),
+            _ => self.utf8(bytes),
         };
         let found = match column.db2_type.name {
             Name::Blob => part(Sort::Blob, 4, bytes.len()),
-            Name::Xml => text(Sort::Xml, shown()),
-            _ => text(Sort::Clob, shown()),
+            Name::Xml => converted(Sort::Xml, shown()),
+            _ => converted(Sort::Clob, shown()),
         };
         Ok((found, total))
     }
@@ -656,12 +722,15 @@ impl Model {
                 _ => exposed::bytes_are_likely_text(bytes),
             };
         let shown = || match self.0 {
-            Some(Fault::LikelyAsUtf8) if is_bytes => String::from_utf8_lossy(bytes).into_owned(),
-            _ => exposed::decode_character_bytes(bytes, column.ccsid),
+            Some(Fault::LikelyAsUtf8) if is_bytes => self.utf8(bytes),
+            Some(Fault::LobCharUncounted) if !is_bytes => {
+                (self.characters(bytes, column.ccsid).0, 0)
+            }
+            _ => self.characters(bytes, column.ccsid),
         };
         let found = match (likely, is_bytes) {
-            (true, true) => text(Sort::VarChar, shown()),
-            (true, false) => text(Sort::Clob, shown()),
+            (true, true) => converted(Sort::VarChar, shown()),
+            (true, false) => converted(Sort::Clob, shown()),
             (false, _) => part(Sort::Blob, 0, length),
         };
         Ok((found, length))
@@ -715,12 +784,12 @@ impl Model {
             _ => None,
         };
         let is_good = |(found, _): &(Found, usize)| match &found.held {
-            Held::Text(shown) => Some(!shown.contains('\u{FFFD}')),
+            Held::Text((shown, _)) => Some(!shown.contains('\u{FFFD}')),
             _ => None,
         };
         let good: Vec<Option<bool>> = values.iter().map(is_good).collect();
         for (place, (found, _)) in values.iter_mut().enumerate() {
-            if let (Held::Text(shown), Some(true)) = (&mut found.held, other(&good, place)) {
+            if let (Held::Text((shown, _)), Some(true)) = (&mut found.held, other(&good, place)) {
                 *shown = shown.replace('\u{FFFD}', "?");
             }
         }
@@ -741,7 +810,7 @@ impl Model {
                     ((rest + from - skip) as u64, length as u64)
                 }
                 Held::Part(from, length) => ((rest + from) as u64, length as u64),
-                Held::Text(shown) => {
+                Held::Text((shown, _)) => {
                     let start = texts.len();
                     texts.extend_from_slice(shown.as_bytes());
                     (start as u64, shown.len() as u64)
@@ -776,6 +845,7 @@ impl Model {
         &self,
         (words, texts): (Vec<u64>, Vec<u8>),
         used: usize,
+        replaced: usize,
         values: &mut [u64],
         text: &mut [u8],
     ) -> Decoded {
@@ -790,7 +860,7 @@ impl Model {
                 Some(Fault::NineWritesValues) if !values.is_empty() => values[0] ^= 0x55,
                 _ => {}
             }
-            return self.nine(texts.len(), text.len(), used);
+            return self.nine(texts.len(), text.len(), used, replaced);
         }
         let taken = words.len().min(values.len());
         values[..taken].copy_from_slice(&words[..taken]);
@@ -814,9 +884,16 @@ impl Model {
         } else {
             0
         };
+        let large = text.len() > texts.len() + 20;
+        let replaced = if self.has(Fault::UncountedInLarge) && large {
+            0
+        } else {
+            replaced
+        };
         Decoded {
             used,
             text_length,
+            replaced,
             expected,
             ..refused(0)
         }
@@ -824,6 +901,26 @@ impl Model {
 }
 
 impl Library for Model {
+    /// The other call, which has no fault here but those of this one.
+    fn replaced_by_value(&self, description: &[u8], data: &[u8], text: &mut [u8]) -> usize {
+        let fault = match self.0 {
+            Some(Fault::ByValueUncountedInLarge) => Some(Fault::UncountedInLarge),
+            Some(Fault::ByValueNineWithCount) => Some(Fault::NineWithCount),
+            Some(Fault::ByValueShortWithCount) => Some(Fault::ShortWithCount),
+            _ => None,
+        };
+        let Description::Columns(columns) = describe(description) else {
+            return 0;
+        };
+        let mut values = vec![0; VALUE_WORDS * columns.len()];
+        let words = List::of(&columns).words;
+        let decoded = Model(fault).decode_row(&words, data, &mut values, text);
+        match self.has(Fault::ByValueUncounted) {
+            true => 0,
+            false => decoded.replaced,
+        }
+    }
+
     fn decode_row(
         &self,
         columns: &[u64],
@@ -851,6 +948,7 @@ impl Library for Model {
         } else {
             used
         };
-        self.hand_out(self.placed(found, skip), counted, values, text)
+        let replaced = self.replaced(&found);
+        self.hand_out(self.placed(found, skip), counted, replaced, values, text)
     }
 }

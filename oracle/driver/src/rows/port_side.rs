@@ -14,6 +14,9 @@ pub trait Library {
         values: &mut [u64],
         text: &mut [u8],
     ) -> Decoded;
+
+    /// The row call by value, with the columns of a description: how many characters it replaced.
+    fn replaced_by_value(&self, description: &[u8], data: &[u8], text: &mut [u8]) -> usize;
 }
 
 /// The static library.
@@ -28,6 +31,10 @@ impl Library for Archive {
         text: &mut [u8],
     ) -> Decoded {
         port::decode_row(columns, data, values, text)
+    }
+
+    fn replaced_by_value(&self, description: &[u8], data: &[u8], text: &mut [u8]) -> usize {
+        port::by_value::replaced(description, data, text) as usize
     }
 }
 
@@ -44,6 +51,8 @@ pub struct PortSide<L> {
     answer: Answer,
     /// Calls made, which pick the lengths of the larger buffers.
     turn: usize,
+    /// The same for the call by value.
+    turn_by_value: usize,
 }
 
 /// An answer whose other numbers are all 0.
@@ -52,15 +61,17 @@ pub fn plain(number: u32) -> Decoded {
         number,
         used: 0,
         text_length: 0,
+        replaced: 0,
         expected: 0,
         actual: 0,
     }
 }
 
-fn accepted(used: usize, text_length: usize) -> Decoded {
+fn accepted(used: usize, text_length: usize, replaced: usize) -> Decoded {
     Decoded {
         used,
         text_length,
+        replaced,
         ..plain(0)
     }
 }
@@ -80,6 +91,7 @@ impl<L: Library> PortSide<L> {
             text: Lent::new(),
             answer: Answer::new(),
             turn: 0,
+            turn_by_value: 0,
         }
     }
 
@@ -98,7 +110,7 @@ impl<L: Library> PortSide<L> {
         let words = VALUE_WORDS * (columns.len() / 2);
         let first = self.call(columns, data, words, 0);
         let texts = match first.number {
-            0 if first == accepted(first.used, 0) => 0,
+            0 if first == accepted(first.used, 0, first.replaced) => 0,
             9 if first.text_length > 0 && first == nine(first.text_length) => first.text_length,
             0 | 9 => return Outcome::Bad(Bad::Nine),
             _ => return self.refused(columns, data, first),
@@ -133,20 +145,21 @@ impl<L: Library> PortSide<L> {
         } else {
             first
         };
-        if exact != accepted(exact.used, texts) {
+        let Decoded { used, replaced, .. } = exact;
+        if exact != accepted(used, texts, replaced) {
             return Outcome::Bad(Bad::Nine);
         }
         if !self.values.kept(words, words) || !self.text.kept(texts, texts) {
             return Outcome::Bad(Bad::Rest);
         }
-        self.answer.set(Outcome::Accepted { used: exact.used });
+        self.answer.set(Outcome::Accepted { used, replaced });
         self.answer
             .values
             .extend_from_slice(self.values.first(words));
         self.answer.text.extend_from_slice(self.text.first(texts));
         // More of both; of the text around the lengths from which on no text can fail to fit.
         let enough = ample(columns.len() / 2, data.len());
-        let just = ample(columns.len() / 2, exact.used.min(data.len()));
+        let just = ample(columns.len() / 2, used.min(data.len()));
         let sizes = [
             texts + 1,
             texts + 7,
@@ -232,13 +245,13 @@ impl<L: Library> PortSide<L> {
         }
     }
 
-    /// Whether one call, with room for all, gives an answer that another gave (`used` of it, its values and its texts).
+    /// Whether one call, with room for all, gives an answer that another gave: its numbers, its values and its texts.
     pub fn gives(&mut self, columns: &[u64], data: &[u8], answer: &Answer) -> bool {
-        let Outcome::Accepted { used } = answer.outcome else {
+        let Outcome::Accepted { used, replaced } = answer.outcome else {
             return false;
         };
         let (words, bytes) = (answer.values.len(), answer.text.len());
-        self.call(columns, data, words, bytes) == accepted(used, bytes)
+        self.call(columns, data, words, bytes) == accepted(used, bytes, replaced)
             && self.values.first(words) == answer.values
             && self.text.first(bytes) == answer.text
             && self.values.kept(words, words)
@@ -248,6 +261,55 @@ impl<L: Library> PortSide<L> {
     /// Whether one call says that the row is too short, and changes nothing.
     pub fn is_too_short(&mut self, columns: &[u64], data: &[u8], bytes: usize) -> bool {
         let words = VALUE_WORDS * (columns.len() / 2);
-        self.call(columns, data, words, bytes).number == 8 && self.kept(words, bytes)
+        let answer = self.call(columns, data, words, bytes);
+        (answer.number, answer.replaced) == (8, 0) && self.kept(words, bytes)
+    }
+
+    /// The outcome of the row call by value, with the columns of a description, which has so many: the characters replaced are its own, the rest is
+    /// taken from an answer that another gave, whose texts it must write.
+    pub fn by_value(
+        &mut self,
+        description: &[u8],
+        columns: usize,
+        data: &[u8],
+        answer: &Answer,
+    ) -> Outcome {
+        self.turn_by_value += 1;
+        let texts = answer.text.len();
+        let enough = ample(columns, data.len());
+        let more = [texts + 1, enough, texts + 7, enough + 99][self.turn_by_value % 4];
+        let Outcome::Accepted { used, .. } = answer.outcome else {
+            let none = self.call_by_value(description, data, more) == 0 && self.text.kept(0, more);
+            return if none {
+                answer.outcome
+            } else {
+                Outcome::Bad(Bad::Rest)
+            };
+        };
+        let replaced = self.call_by_value(description, data, texts);
+        let exact = self.has_texts(answer, texts);
+        let as_many = self.call_by_value(description, data, more) == replaced;
+        if !exact || !as_many || !self.has_texts(answer, more) {
+            return Outcome::Bad(Bad::Rest);
+        }
+        if texts > 0 {
+            let none = self.call_by_value(description, data, texts - 1) == 0;
+            if !none || !self.text.kept(0, texts - 1) {
+                return Outcome::Bad(Bad::Nine);
+            }
+        }
+        Outcome::Accepted { used, replaced }
+    }
+
+    /// A call with so many bytes for texts.
+    fn call_by_value(&mut self, description: &[u8], data: &[u8], bytes: usize) -> usize {
+        let text = self.text.fresh(bytes);
+        self.library.replaced_by_value(description, data, text)
+    }
+
+    /// Whether the texts are those of the answer, and the bytes lent behind them are as they were.
+    fn has_texts(&self, answer: &Answer, lent: usize) -> bool {
+        let texts = answer.text.len();
+        self.text.first(texts) == answer.text && self.text.kept(texts, lent)
     }
 }

@@ -1,8 +1,10 @@
 //! The answers of the published Rust. It has no limits of its own: those of the port are applied here. `decode_row` gives the
 //! values and the bytes used, `decode_row_body` the external columns. The Rust copies bytes out of the row; where they lay is
-//! found by walking over the columns with `decode_column_value`.
+//! found by walking over the columns with `decode_column_value`. So are the bytes whose text holds U+FFFD: how many were put in is a second
+//! opinion, of `replaced`.
 use super::{Answer, Early, List, Outcome, ROW_LIMIT};
 use crate::descriptions::rust_side::published_type;
+use crate::replaced::Reading;
 use db2_proto::fdoca::{decode_row, exposed, ByteOrder, ColumnDescriptor};
 use db2_proto::types::{Db2Type, Db2Value};
 use db2_proto::ProtoError;
@@ -51,7 +53,7 @@ pub fn answer_into(list: &List, data: &[u8], answer: &mut Answer) {
         }
         Err(other) => panic!("the Rust refuses a row otherwise: {other}"),
     };
-    answer.set(Outcome::Accepted { used });
+    answer.set(Outcome::Accepted { used, replaced: 0 });
     let skip = if data.len() >= 2 && data[0] == 0xFF {
         2
     } else {
@@ -66,13 +68,28 @@ pub fn answer_into(list: &List, data: &[u8], answer: &mut Answer) {
         next: 0,
         at: skip,
     };
+    let mut replaced = 0;
     for (place, value) in values.iter().enumerate() {
         let external = external.next_if_eq(&place).is_some();
+        let texts = answer.text.len();
         add(answer, value, external, |bytes| {
             walk.place(place, external, bytes)
         });
+        let held = held_replacements(&answer.text[texts..]);
+        if held > 0 {
+            let put_in = walk.replaced(place, external);
+            assert!(put_in <= held, "what is put in is in the text");
+            replaced += put_in;
+        }
     }
     assert_eq!(external.next(), None, "external columns in order");
+    answer.outcome = Outcome::Accepted { used, replaced };
+}
+
+/// How many U+FFFD a text holds, whoever put them in.
+fn held_replacements(text: &[u8]) -> usize {
+    let parts = text.windows(3);
+    parts.filter(|part| *part == "\u{FFFD}".as_bytes()).count()
 }
 
 pub fn answer(list: &List, data: &[u8]) -> Answer {
@@ -149,6 +166,33 @@ impl Walk<'_> {
         }
     }
 
+    /// How many U+FFFD the conversion of a column's text puts in. Where the bytes lie that are converted, and how they are read, goes by the type.
+    fn replaced(&mut self, column: usize, external: bool) -> usize {
+        let start = self.to(column);
+        let descriptor = &self.list.published[column];
+        let value = exposed::decode_column_value(&self.data[start..], descriptor);
+        let (_, used) = value.expect("a column of an accepted row");
+        let bytes = &self.data[start..start + used];
+        let characters = |bytes| Reading::of_characters(descriptor.ccsid).replaced(bytes);
+        let graphics = |bytes| Reading::of_graphics(descriptor.ccsid, bytes).replaced(bytes);
+        match descriptor.db2_type {
+            // A locator in hexadecimal.
+            _ if external => 0,
+            Db2Type::Char(_)
+            | Db2Type::Date
+            | Db2Type::Time
+            | Db2Type::Timestamp
+            | Db2Type::LobBytes(_)
+            | Db2Type::LobChar(_) => characters(bytes),
+            Db2Type::VarChar(_) | Db2Type::LongVarChar => characters(&bytes[2..]),
+            Db2Type::Graphic(_) => graphics(bytes),
+            Db2Type::VarGraphic(_) => graphics(&bytes[2..]),
+            // Within the row, behind its length, whatever the CCSID.
+            Db2Type::Clob | Db2Type::DbClob | Db2Type::Xml => Reading::Utf8.replaced(&bytes[4..]),
+            _ => 0,
+        }
+    }
+
     /// Where in the row the bytes of a column's binary value lie; 0 for none.
     fn place(&mut self, column: usize, external: bool, bytes: &[u8]) -> usize {
         if bytes.is_empty() {
@@ -170,14 +214,106 @@ impl Walk<'_> {
 #[cfg(test)]
 mod tests {
     use super::*;
-    use crate::request::{parse, Request};
+    use crate::request::{parse, Form, Request};
 
     /// The row's answer to a request line.
     fn shown(line: &str) -> String {
         match parse(line).unwrap() {
-            Request::Row { columns, data } => answer(&List::numbered(columns), &data).shown(&data),
+            (form, Request::Row { columns, data }) => {
+                answer(&List::numbered(columns), &data).shown(form, &data)
+            }
             _ => panic!("no H line"),
         }
+    }
+
+    /// What each type adds to the characters replaced: its malformed bytes, and not the host's own U+FFFD.
+    #[test]
+    fn replaced_by_type() {
+        for (column, row, answer) in [
+            (
+                "Char.4:31:4:0:0:0:1208:-:B",
+                "80EFBFBD",
+                "OK 4 - 6 1 C:EFBFBDEFBFBD",
+            ),
+            ("Char.2:31:2:0:0:0:37:-:B", "80C1", "OK 2 - 3 0 C:C39841"),
+            (
+                "VarChar.9:33:9:0:0:0:1208:-:B",
+                "0002E282",
+                "OK 4 - 3 1 V:EFBFBD",
+            ),
+            (
+                "LongVarChar:35:9:0:0:0:1208:-:B",
+                "00028080",
+                "OK 4 - 6 2 V:EFBFBDEFBFBD",
+            ),
+            (
+                "Graphic.4:37:4:0:0:0:1200:-:B",
+                "D800FFFD",
+                "OK 4 - 6 1 C:EFBFBDEFBFBD",
+            ),
+            (
+                "Graphic.2:37:4:0:0:0:1200:-:L",
+                "DC00FFFD",
+                "OK 4 - 6 1 C:EFBFBDEFBFBD",
+            ),
+            (
+                "VarGraphic.4:39:4:0:0:0:13488:-:B",
+                "0002DC00",
+                "OK 4 - 3 1 V:EFBFBD",
+            ),
+            (
+                "Clob:CB:9:0:0:0:37:-:B",
+                "0000000280EF",
+                "OK 6 - 6 2 K:EFBFBDEFBFBD",
+            ),
+            (
+                "DbClob:CD:9:0:0:0:1200:-:B",
+                "0000000380EFBF",
+                "OK 7 - 6 2 K:EFBFBDEFBFBD",
+            ),
+            (
+                "Xml:DC:0:0:0:0:0:-:B",
+                "00000003EFBFBD",
+                "OK 7 - 3 0 X:EFBFBD",
+            ),
+            (
+                "LobChar.2:D1:2:0:0:0:1208:-:B",
+                "80EF",
+                "OK 2 - 6 2 K:EFBFBDEFBFBD",
+            ),
+            (
+                "LobBytes.3:D1:3:0:0:0:1208:-:B",
+                "EFBFBD",
+                "OK 3 - 3 0 V:EFBFBD",
+            ),
+            (
+                "LobBytes.2:D1:2:0:0:0:1208:-:B",
+                "80EF",
+                "OK 2 - 0 0 O:0:80EF",
+            ),
+            (
+                "Time:23:8:0:0:0:1208:-:B",
+                "4141414141414180",
+                "OK 8 - 10 1 t:41414141414141EFBFBD",
+            ),
+            ("Binary.1:61:1:0:0:0:1208:-:B", "80", "OK 1 - 0 0 B:0:80"),
+        ] {
+            assert_eq!(
+                shown(&format!("h 2 1 {column} R {row}")),
+                answer,
+                "{column}"
+            );
+        }
+        let two = "h 2 2 Char.1:31:1:0:0:1:1208:-:B Clob:CB:9:0:0:0:37:-:B R";
+        assert_eq!(
+            shown(&format!("{two} 00800000000180")),
+            "OK 7 - 6 2 C:EFBFBD K:EFBFBD"
+        );
+        assert_eq!(
+            shown(&format!("{two} FF00FF0000000180")),
+            "OK 8 - 3 1 N K:EFBFBD"
+        );
+        assert_eq!(shown(&format!("{two} 008000000001")), "SHORT 5 4");
     }
 
     #[test]
@@ -202,7 +338,9 @@ mod tests {
     #[test]
     fn the_limits_stand_in_their_order() {
         let column = "DecFloat.16:BA:8:0:0:0:0:-:B";
-        let Request::Row { columns, .. } = parse(&format!("H 1 {column} R -")).unwrap() else {
+        let (Form::Shared, Request::Row { columns, .. }) =
+            parse(&format!("H 1 {column} R -")).unwrap()
+        else {
             panic!("no H line");
         };
         let list = |count: usize| List::numbered(columns.repeat(count));

@@ -2,6 +2,7 @@
 use super::columns::plain;
 use super::port_side::{Library, PortSide};
 use super::{request, rust_side, Answer, List};
+use crate::request::Form;
 use crate::run::Difference;
 use crate::shrink::Shrinking;
 use port::column::{Column, Numbers, Order, Type};
@@ -23,12 +24,14 @@ pub fn smallest<L: Library>(port: &mut PortSide<L>, list: &List, data: &[u8]) ->
         data: left,
         ..
     } = found;
-    let asked = request(&list, &left);
     let rust = rust_side::answer(&list, &left);
     let port = differing(port, &list, &left, &rust).unwrap_or(rust.clone());
+    let shared = |answer: &Answer| answer.shown(Form::Shared, &left);
+    let form = Form::telling(shared(&rust) != shared(&port));
+    let asked = request(form, &list, &left);
     Difference {
-        rust: format!("{asked} A {}", rust.shown(&left)),
-        port: format!("{asked} A {}", port.shown(&left)),
+        rust: format!("{asked} A {}", rust.shown(form, &left)),
+        port: format!("{asked} A {}", port.shown(form, &left)),
         lengths: Some((left.len(), data.len())),
     }
 }
@@ -119,7 +122,7 @@ impl<L: Library> Smallest<'_, L> {
         let used = |columns: &[Column]| {
             let list = List::of(columns);
             match rust_side::answer(&list, &self.data).outcome {
-                super::Outcome::Accepted { used } => Some(used),
+                super::Outcome::Accepted { used, .. } => Some(used),
                 _ => None,
             }
         };

@@ -1,0 +1,104 @@
+//! The row call by value, on rows with a description's columns: the characters replaced and the texts.
+use super::compare::Run;
+use super::port_side::{Library, PortSide};
+use super::{rust_side, Answer, List, Outcome};
+use crate::descriptions::rust_side::describe;
+use crate::descriptions::Description;
+use crate::request::{Form, Request};
+use crate::run::{Difference, End, Flow};
+use crate::shrink::Shrinking;
+use std::ops::ControlFlow::{Break, Continue};
+
+/// Of so many rows one is asked about: the call reads the description each time.
+const OF_ROWS: u64 = 4;
+
+/// How many bytes a pass may ask about that makes a row or a description smaller.
+const BUDGET: usize = 1_000_000;
+
+impl<L: Library> Run<L> {
+    /// Asks about a row to which `self.rust` is the answer.
+    pub(super) fn by_value(&mut self, list: &List, data: &[u8]) -> Flow {
+        let Some(description) = &list.description else {
+            return Continue(());
+        };
+        if !self.counts.rows().is_multiple_of(OF_ROWS) {
+            return Continue(());
+        }
+        self.counts.by_value += 1;
+        let replaced =
+            matches!(self.rust.outcome, Outcome::Accepted { replaced, .. } if replaced > 0);
+        self.counts.replaced_by_value += u64::from(replaced);
+        let outcome = self
+            .port
+            .by_value(description, list.count(), data, &self.rust);
+        if outcome == self.rust.outcome {
+            return Continue(());
+        }
+        Break(End::Different(Box::new(smallest(
+            &mut self.port,
+            description,
+            data,
+        ))))
+    }
+}
+
+/// The smallest row and description found that still differ.
+fn smallest<L: Library>(port: &mut PortSide<L>, description: &[u8], data: &[u8]) -> Difference {
+    let first = data.len();
+    let (mut description, mut data) = (description.to_vec(), data.to_vec());
+    loop {
+        let before = (description.clone(), data.clone());
+        let differs = |data: &[u8]| differing(port, &description, data).is_some();
+        data = shrunk(&data, differs);
+        let differs = |description: &[u8]| differing(port, description, &data).is_some();
+        description = shrunk(&description, differs);
+        if before == (description.clone(), data.clone()) {
+            break;
+        }
+    }
+    let columns = describe(&description);
+    let rust = rust_side::answer(&listed(&columns).unwrap_or_default(), &data);
+    let port = differing(port, &description, &data).unwrap_or_else(|| rust.clone());
+    let lengths = Some((data.len(), first));
+    let line = |answer: &Answer| {
+        let asked = Request::Description {
+            data: description.clone(),
+            row: data.clone(),
+        };
+        let asked = Form::Whole.of(asked.to_string());
+        format!("{asked} {columns} A {}", answer.shown(Form::Whole, &data))
+    };
+    Difference {
+        rust: line(&rust),
+        port: format!("{} (by value)", line(&port)),
+        lengths,
+    }
+}
+
+fn shrunk(data: &[u8], differs: impl FnMut(&[u8]) -> bool) -> Vec<u8> {
+    let mut shrinking = Shrinking::new(data, BUDGET, differs);
+    shrinking.cut();
+    shrinking.lower();
+    shrinking.data
+}
+
+/// The columns of a description; None where it is refused.
+fn listed(columns: &Description) -> Option<List> {
+    match columns {
+        Description::Columns(columns) => Some(List::of(columns)),
+        _ => None,
+    }
+}
+
+/// The answer by value, where it is not the Rust's. Which lengths of buffers are tried goes by turns: it is asked more than once.
+fn differing<L: Library>(
+    port: &mut PortSide<L>,
+    description: &[u8],
+    data: &[u8],
+) -> Option<Answer> {
+    let list = listed(&describe(description))?;
+    let rust = rust_side::answer(&list, data);
+    let mut outcomes = (0..4).map(|_| port.by_value(description, list.count(), data, &rust));
+    let outcome = outcomes.find(|outcome| *outcome != rust.outcome)?;
+    Some(Answer { outcome, ..rust })
+}

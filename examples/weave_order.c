@@ -84,7 +84,7 @@ static void print_column(const struct vejupa_column *column) {
     if (ccsid != 0) {
         printf(", CCSID %u", ccsid);
     }
-    printf("\n");
+    printf(", %s\n", vejupa_origin_name(vejupa_column_origin(column)));
 }
 
 static void print_text(struct vejupa_bytes bytes) {

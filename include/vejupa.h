@@ -43,7 +43,7 @@ extern "C" {
 #endif
 
 /* The version of these calls. CHANGELOG.md says what changed. */
-#define VEJUPA_VERSION "0.3.0"
+#define VEJUPA_VERSION "0.4.0"
 
 /* Answers. 1 to 9 are the refusals of docs/RULES.md. */
 #define VEJUPA_ACCEPTED 0
@@ -68,7 +68,7 @@ extern "C" {
 /* A column and a value are words; the functions below take their fields out. Layout, in bits from the lowest:
  *
  *     column   words[0]   0..7 type, 8..23 the type's own numbers, 24..31 DRDA type code, 32..47 column number (at most 255), 48 nullable,
- *                         49 little-endian, 50 whether there is a reference length, 51..63 are 0
+ *                         49 little-endian, 50 whether there is a reference length, 51..52 origin, 53..63 are 0
  *              words[1]   0..15 length, 16..23 precision, 24..31 scale, 32..47 CCSID, 48..63 reference length, or 0
  *     value    words[0]   0..7 sort, 8 external, 9..63 are 0
  *              words[1]   of a number the number itself: integers in two's complement of 64 bits, floats by their bits, Booleans 0 or 1; of a text
@@ -123,6 +123,14 @@ enum vejupa_type {
     VEJUPA_TYPE_BOOLEAN = 26,
     VEJUPA_TYPE_XML = 27,
     VEJUPA_TYPE_NULL = 28
+};
+
+/* Where a description has a column from. Nothing is decoded by it. As vejupa_parse_qrydsc writes columns, those from an SDA are little-endian and those from a
+ * LID big-endian; a caller's own list may have any origin beside either byte order. There is no origin of the number 3, and such words are no column's. */
+enum vejupa_origin {
+    VEJUPA_ORIGIN_SDA = 0,            /* an SDA (simple data array) */
+    VEJUPA_ORIGIN_UNDECLARED_LID = 1, /* a LID (local identifier) of a D0 group that no environment entry declares */
+    VEJUPA_ORIGIN_DECLARED_LID = 2    /* a LID of a D0 group that one declares; the column has the entry's type and CCSID */
 };
 
 /* The sorts of values. A float that is no number has a sort of its own. */
@@ -180,7 +188,7 @@ uint32_t vejupa_raw_bytes_are_likely_text(const uint8_t *bytes, size_t bytes_len
 
 /* The version as a number: 10000 times the first part, 100 times the second, and the third. Each file that includes this header refers to this symbol: with
  * an archive of another version it does not link. */
-uint32_t vejupa_version_0_3_0(void);
+uint32_t vejupa_version_0_4_0(void);
 #if defined(__GNUC__)
 #if defined(__has_attribute)
 #if __has_attribute(retain)
@@ -189,7 +197,7 @@ __attribute__((retain)) /* also where the linker drops unused sections */
 #endif
 __attribute__((used))
 #endif
-static uint32_t (*const vejupa_version_wanted)(void) = vejupa_version_0_3_0;
+static uint32_t (*const vejupa_version_wanted)(void) = vejupa_version_0_4_0;
 
 /* An address for an array without elements, which may come with NULL; of any other array its own. */
 static inline const void *vejupa_given(const void *p, size_t n) {
@@ -374,6 +382,14 @@ static inline int vejupa_column_little_endian(const struct vejupa_column *column
 static inline int vejupa_column_has_reference_length(const struct vejupa_column *column) { return (int)(column->words[0] >> 50 & 1); }
 static inline uint16_t vejupa_column_ccsid(const struct vejupa_column *column) { return (uint16_t)(column->words[1] >> 32 & 0xFFFF); }
 
+/* One of enum vejupa_origin; and its name, as in "declared LID". */
+static inline uint32_t vejupa_column_origin(const struct vejupa_column *column) { return (uint32_t)(column->words[0] >> 51 & 3); }
+
+static inline const char *vejupa_origin_name(uint32_t origin) {
+    static const char *const names[] = {"SDA", "undeclared LID", "declared LID"};
+    return origin < sizeof names / sizeof *names ? names[origin] : "no origin";
+}
+
 /* 0 where there is none; 0 is a width as well. */
 static inline uint16_t vejupa_column_reference_length(const struct vejupa_column *column) { return (uint16_t)(column->words[1] >> 48 & 0xFFFF); }
 
@@ -383,11 +399,11 @@ static inline uint16_t vejupa_column_length(const struct vejupa_column *column) 
 static inline uint8_t vejupa_column_precision(const struct vejupa_column *column) { return (uint8_t)(column->words[1] >> 16 & 0xFF); }
 static inline uint8_t vejupa_column_scale(const struct vejupa_column *column) { return (uint8_t)(column->words[1] >> 24 & 0xFF); }
 
-/* A caller's own column: big-endian, without a reference length. `length` is the length that the type itself holds, where it holds one; of a Timestamp or
- * Boolean the bytes of a value (0 stands for 26 and 1); of a Blob, Clob or DbClob 0 says that its values are references of four bytes, and any other that
- * they come within the row; for both, nine bytes of which the first is 02 are a reference. A CCSID matters for texts. A Decimal has a function of its own:
- * here it gives what is no column, as does a type that there is none of. Column number, DRDA type code, precision and scale are 0: the row call does not
- * look at them. */
+/* A caller's own column: big-endian, without a reference length; origin SDA, which the row call does not look at. `length` is the length that the type itself
+ * holds, where it holds one; of a Timestamp or Boolean the bytes of a value (0 stands for 26 and 1); of a Blob, Clob or DbClob 0 says that its values are
+ * references of four bytes, and any other that they come within the row; for both, nine bytes of which the first is 02 are a reference. A CCSID matters for
+ * texts. A Decimal has a function of its own: here it gives what is no column, as does a type that there is none of. Column number, DRDA type code, precision
+ * and scale are 0: the row call does not look at them. */
 static inline struct vejupa_column vejupa_make_column(enum vejupa_type type, uint16_t length, int nullable, uint16_t ccsid) {
     struct vejupa_column column;
     uint32_t named = (uint32_t)type;
@@ -397,7 +413,7 @@ static inline struct vejupa_column vejupa_make_column(enum vejupa_type type, uin
     return column;
 }
 
-/* A Decimal of so many digits, `scale` of them behind the point. */
+/* A Decimal of so many digits, `scale` of them behind the point; origin SDA, which the row call does not look at. */
 static inline struct vejupa_column vejupa_make_decimal(uint8_t precision, uint8_t scale, int nullable) {
     struct vejupa_column column;
     column.words[0] = (uint64_t)VEJUPA_TYPE_DECIMAL | (uint64_t)precision << 8 | (uint64_t)scale << 16 | (uint64_t)(nullable != 0) << 48;
@@ -407,6 +423,13 @@ static inline struct vejupa_column vejupa_make_decimal(uint8_t precision, uint8_
 
 /* Its numbers' bytes come lowest first. */
 static inline void vejupa_set_little_endian(struct vejupa_column *column) { column->words[0] |= UINT64_C(1) << 49; }
+
+/* Says where it came from, for whoever shows it or compares it with one that was described. An origin that there is none of gives what is no column. */
+static inline void vejupa_set_origin(struct vejupa_column *column, enum vejupa_origin origin) {
+    uint32_t named = (uint32_t)origin;
+    uint64_t number = named <= VEJUPA_ORIGIN_DECLARED_LID ? named : 3;
+    column->words[0] = (column->words[0] & ~(UINT64_C(3) << 51)) | number << 51;
+}
 
 /* Gives it a reference length: of a Blob, Clob, DbClob or Xml whose value is a reference of so many bytes. */
 static inline void vejupa_set_reference_length(struct vejupa_column *column, uint16_t length) {

@@ -29,10 +29,12 @@ static int numbers(size_t used, size_t text_length, size_t expected, size_t actu
     return row.used == used && row.text_length == text_length && row.replaced == 0 && row.expected == expected && row.actual == actual;
 }
 
+static int is_text(size_t len, const char *expected) { return len == strlen(expected) && memcmp(text, expected, len) == 0; }
+
 /* The fields of a column's words, each unlike its neighbours. */
 static void fields_of_a_column(void) {
-    const struct vejupa_column column = {{UINT64_C(0x000500FAC9123407), UINT64_C(0x000404B802058003)}};
-    const struct vejupa_column little = {{UINT64_C(0x0002000000000000), 0}};
+    const struct vejupa_column column = {{UINT64_C(0x001500FAC9123407), UINT64_C(0x000404B802058003)}};
+    const struct vejupa_column little = {{UINT64_C(0x000A000000000000), 0}};
     CHECK(vejupa_column_type(&column) == VEJUPA_TYPE_CHAR);
     CHECK(vejupa_column_type_numbers(&column) == 0x1234);
     CHECK(vejupa_decimal_precision(&column) == 0x34 && vejupa_decimal_scale(&column) == 0x12);
@@ -41,6 +43,7 @@ static void fields_of_a_column(void) {
     CHECK(vejupa_column_nullable(&column) && !vejupa_column_nullable(&little));
     CHECK(!vejupa_column_little_endian(&column) && vejupa_column_little_endian(&little));
     CHECK(vejupa_column_has_reference_length(&column) && !vejupa_column_has_reference_length(&little));
+    CHECK(vejupa_column_origin(&column) == VEJUPA_ORIGIN_DECLARED_LID && vejupa_column_origin(&little) == VEJUPA_ORIGIN_UNDECLARED_LID);
     CHECK(vejupa_column_length(&column) == 0x8003);
     CHECK(vejupa_column_precision(&column) == 5);
     CHECK(vejupa_column_scale(&column) == 2);
@@ -59,6 +62,7 @@ static void own_columns(void) {
     CHECK(vejupa_column_length(&own[0]) == 3 && vejupa_column_precision(&own[0]) == 5 && vejupa_column_scale(&own[0]) == 2);
     CHECK(vejupa_column_nullable(&own[0]) && !vejupa_column_little_endian(&own[0]) && vejupa_column_little_endian(&own[1]));
     CHECK(!vejupa_column_nullable(&own[1]) && vejupa_column_length(&own[1]) == 0x8004 && vejupa_column_ccsid(&own[1]) == 1208);
+    CHECK(vejupa_column_origin(&own[0]) == VEJUPA_ORIGIN_SDA && vejupa_column_origin(&own[1]) == VEJUPA_ORIGIN_SDA);
     CHECK(!vejupa_column_has_reference_length(&own[1]));
     vejupa_set_reference_length(&own[1], 9);
     vejupa_set_reference_length(&own[1], 4);
@@ -69,15 +73,21 @@ static void own_columns(void) {
     CHECK(vejupa_value_sort(&values[1]) == VEJUPA_SORT_CLOB && vejupa_value_is_external(&values[1]));
 }
 
-/* Which columns are none: numbers that the type does not hold, a type that there is none of, bits above the layout's. */
+/* Which columns are none: numbers that the type does not hold, a type or an origin that there is none of, bits above the layout's, a reference length that is
+ * not there. */
 static void no_columns(void) {
-    struct vejupa_column column;
-    uint32_t type;
+    struct vejupa_column column, other;
+    uint32_t type, bit;
     for (type = VEJUPA_TYPE_SMALL_INT; type <= VEJUPA_TYPE_NULL; type++) {
         column = vejupa_make_column((enum vejupa_type)type, 0xFF, 1, 0xFFFF);
         CHECK(vejupa_is_column(&column) == (type != VEJUPA_TYPE_DECIMAL));
         CHECK(vejupa_column_type_numbers(&column) == (vejupa_type_has_length(type) ? 0xFF : 0) && vejupa_column_length(&column) == 0xFF);
-        column.words[0] |= UINT64_C(1) << 51;
+        for (bit = 53; bit < 64; bit++) {
+            other = column;
+            other.words[0] |= UINT64_C(1) << bit;
+            CHECK(!vejupa_is_column(&other));
+        }
+        column.words[0] |= UINT64_C(3) << 51;
         CHECK(!vejupa_is_column(&column));
     }
     column = vejupa_make_column((enum vejupa_type)(VEJUPA_TYPE_NULL + 1), 0, 0, 0);
@@ -86,6 +96,66 @@ static void no_columns(void) {
     CHECK(vejupa_is_column(&column));
     column.words[0] |= 4 << 8;
     CHECK(!vejupa_is_column(&column));
+    for (bit = 50; bit <= 52; bit++) {
+        column = vejupa_make_column(VEJUPA_TYPE_CLOB, 0, 0, 0);
+        column.words[0] |= UINT64_C(1) << bit;
+        CHECK(vejupa_is_column(&column));
+        column.words[1] |= UINT64_C(1) << 48;
+        CHECK(vejupa_is_column(&column) == (bit == 50));
+    }
+}
+
+/* An origin is set, and set anew, in its own bits; what is none gives what is no column. */
+static void set_origins(void) {
+    struct vejupa_column plain = vejupa_make_column(VEJUPA_TYPE_CLOB, 0xFFFF, 1, 0xFFFF), column, full = {{UINT64_MAX, UINT64_MAX}};
+    uint32_t origin;
+    vejupa_set_little_endian(&plain);
+    vejupa_set_reference_length(&plain, 0xFFFF);
+    column = plain;
+    for (origin = 0; origin <= 8; origin++) {
+        vejupa_set_origin(&column, (enum vejupa_origin)origin);
+        CHECK(vejupa_column_origin(&column) == (origin < 3 ? origin : 3));
+        CHECK(vejupa_is_column(&column) == (origin < 3));
+        CHECK((column.words[0] & ~(UINT64_C(3) << 51)) == plain.words[0] && column.words[1] == plain.words[1]);
+    }
+    CHECK(vejupa_decode_row(&column, 1, NULL, 0, values, 1, NULL, 0, &row) == VEJUPA_NO_COLUMN && numbers(0, 0, 0, 0));
+    vejupa_set_origin(&column, VEJUPA_ORIGIN_SDA);
+    CHECK(column.words[0] == plain.words[0]);
+    vejupa_set_origin(&full, VEJUPA_ORIGIN_SDA);
+    CHECK(full.words[0] == ~(UINT64_C(3) << 51) && full.words[1] == UINT64_MAX);
+}
+
+/* Nothing is decoded by an origin: with any of them at each column, beside either byte order, a row is the same. */
+static void origins_in_rows(void) {
+    static const uint8_t data[] = {0x00, 0x00, 0x00, 0x07, 0x00, 0x02, 0xC1, 0xC2, 0x12, 0x3C, 0x00, 'a', 0x00, 'b'};
+    struct vejupa_column own[4];
+    struct vejupa_value plain[4];
+    uint32_t n, left;
+    int little;
+    size_t k;
+    for (little = 0; little <= 1; little++) {
+        const char *expected = little ? "AB12.3ab" : "AB12.3a";
+        own[0] = vejupa_make_column(VEJUPA_TYPE_INTEGER, 0, 0, 0);
+        own[1] = vejupa_make_column(VEJUPA_TYPE_VAR_CHAR, 9, 0, 37);
+        own[2] = vejupa_make_decimal(3, 1, 0);
+        own[3] = vejupa_make_column(VEJUPA_TYPE_GRAPHIC, 2, 0, 1200);
+        for (k = 0; little && k < LENGTH(own); k++) {
+            vejupa_set_little_endian(&own[k]);
+        }
+        CHECK(vejupa_decode_row(own, LENGTH(own), data, sizeof data, plain, LENGTH(plain), text, sizeof text, &row) == VEJUPA_ACCEPTED);
+        CHECK(vejupa_value_integer(&plain[0]) == (little ? 0x7000000 : 7));
+        for (n = 0; n < 81; n++) {
+            for (left = n, k = 0; k < LENGTH(own); left /= 3, k++) {
+                vejupa_set_origin(&own[k], (enum vejupa_origin)(left % 3));
+                CHECK(vejupa_column_little_endian(&own[k]) == little);
+            }
+            memset(values, 0xA5, sizeof values);
+            memset(text, 0xA5, sizeof text);
+            CHECK(vejupa_decode_row(own, LENGTH(own), data, sizeof data, values, LENGTH(values), text, sizeof text, &row) == VEJUPA_ACCEPTED);
+            CHECK(numbers(little ? 14 : 12, strlen(expected), 0, 0) && is_text(row.text_length, expected));
+            CHECK(memcmp(values, plain, sizeof plain) == 0);
+        }
+    }
 }
 
 static void fields_of_values(void) {
@@ -164,6 +234,24 @@ static void descriptions(void) {
     CHECK(vejupa_column_number(&columns[127]) == 127 && vejupa_column_type(&columns[127]) == VEJUPA_TYPE_INTEGER);
 }
 
+/* An SDA, a LID that is not declared and one that is, and a row of their columns. */
+static void described_origins(void) {
+    static const uint8_t description[] = {0x03, 0x78, 0x33, 0x08, 0x70, 0x41, 0x00, 0x00, 0x00, 0x00, 0x25, 0x05, 0x70,
+                                          0x02, 0x00, 0x04, 0x09, 0x76, 0xD0, 0x02, 0x00, 0x04, 0x41, 0x00, 0x14};
+    static const uint8_t data[] = {0x2A, 0x00, 0x00, 0x00, 0x00, 0x00, 0x00, 0x2A, 0x00, 0x00, 0x02, 0xC1, 0xC2};
+    struct vejupa_column described[3];
+    size_t count;
+    CHECK(vejupa_parse_qrydsc(description, sizeof description, described, 3, &count) == VEJUPA_ACCEPTED && count == 3);
+    CHECK(described[0].words[0] == UINT64_C(0x0002000002000001) && described[0].words[1] == 4);
+    CHECK(described[1].words[0] == UINT64_C(0x0008000102000001) && described[1].words[1] == 4);
+    CHECK(described[2].words[0] == UINT64_C(0x0011000233001408) && described[2].words[1] == UINT64_C(0x0000002500000014));
+    CHECK(vejupa_column_origin(&described[0]) == VEJUPA_ORIGIN_SDA && vejupa_column_little_endian(&described[0]));
+    CHECK(vejupa_column_origin(&described[1]) == VEJUPA_ORIGIN_UNDECLARED_LID && !vejupa_column_little_endian(&described[1]));
+    CHECK(vejupa_column_origin(&described[2]) == VEJUPA_ORIGIN_DECLARED_LID && !vejupa_column_little_endian(&described[2]));
+    CHECK(vejupa_decode_row(described, 3, data, sizeof data, values, 3, text, sizeof text, &row) == VEJUPA_ACCEPTED && numbers(13, 2, 0, 0));
+    CHECK(vejupa_value_integer(&values[0]) == 42 && vejupa_value_integer(&values[1]) == 42 && is_text(row.text_length, "AB"));
+}
+
 static uint32_t decode(size_t count, const uint8_t *data, size_t data_len, size_t text_room) {
     return vejupa_decode_row(columns, count, data, data_len, values, LENGTH(values), text, text_room, &row);
 }
@@ -233,8 +321,6 @@ static void rows_one_after_the_other(void) {
     CHECK(vejupa_parse_qrydsc(small_ints, sizeof small_ints, columns, 1, &count) == VEJUPA_ACCEPTED);
     CHECK(decode(count, minus_one, sizeof minus_one, 0) == VEJUPA_ACCEPTED && row.used == 4 && vejupa_value_integer(&values[0]) == 1);
 }
-
-static int is_text(size_t len, const char *expected) { return len == strlen(expected) && memcmp(text, expected, len) == 0; }
 
 typedef uint32_t (*conversion)(const uint8_t *, size_t, uint16_t, uint8_t *, size_t, size_t *, size_t *);
 
@@ -352,6 +438,14 @@ static void names(void) {
         }
     }
     CHECK(strcmp(vejupa_type_name(VEJUPA_TYPE_CHAR), "Char") == 0 && strcmp(vejupa_type_name(VEJUPA_TYPE_NULL), "Null") == 0);
+    for (i = 0; i <= VEJUPA_ORIGIN_DECLARED_LID + 1; i++) {
+        for (j = 0; j < i; j++) {
+            CHECK(strcmp(vejupa_origin_name((uint32_t)i), vejupa_origin_name((uint32_t)j)) != 0);
+        }
+    }
+    CHECK(strcmp(vejupa_origin_name(VEJUPA_ORIGIN_SDA), "SDA") == 0 && strcmp(vejupa_origin_name(VEJUPA_ORIGIN_UNDECLARED_LID), "undeclared LID") == 0);
+    CHECK(strcmp(vejupa_origin_name(VEJUPA_ORIGIN_DECLARED_LID), "declared LID") == 0);
+    CHECK(strcmp(vejupa_origin_name(3), "no origin") == 0 && strcmp(vejupa_origin_name(UINT32_MAX), "no origin") == 0);
     for (i = 0; i <= VEJUPA_SORT_XML + 1; i++) {
         for (j = 0; j < i; j++) {
             CHECK(strcmp(vejupa_sort_name((uint32_t)i), vejupa_sort_name((uint32_t)j)) != 0);
@@ -371,8 +465,11 @@ int main(void) {
     fields_of_a_column();
     own_columns();
     no_columns();
+    set_origins();
+    origins_in_rows();
     fields_of_values();
     bytes_of_values();
+    described_origins();
     descriptions();
     rows();
     rows_one_after_the_other();

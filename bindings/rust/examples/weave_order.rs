@@ -32,10 +32,10 @@ fn print_columns(columns: &Columns) {
     for column in columns {
         let null = if column.nullable { " or null" } else { "" };
         print!("{} {}{null}", column.column_index, column.db2_type);
-        match column.ccsid {
-            0 => println!(),
-            ccsid => println!(", CCSID {ccsid}"),
+        if column.ccsid != 0 {
+            print!(", CCSID {}", column.ccsid);
         }
+        println!(", {}", column.origin);
     }
 }
 

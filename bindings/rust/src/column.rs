@@ -1,6 +1,8 @@
 //! Columns, one by one and as the list of words that the row call takes.
 use crate::raw::{self, ACCEPTED, COLUMN_WORDS};
-use crate::{decode_row_into, Buffers, ByteOrder, Db2Type, OwnedRow, Refusal, Row, MAX_COLUMNS};
+use crate::{
+    decode_row_into, Buffers, ByteOrder, Db2Type, Origin, OwnedRow, Refusal, Row, MAX_COLUMNS,
+};
 use std::fmt;
 use std::iter::FusedIterator;
 use std::ops::Range;
@@ -11,7 +13,8 @@ use std::slice::ChunksExact;
 /// `length`, `precision` and `scale` are as the host describes them. What the row call goes by are the numbers that the type itself
 /// holds, such as a Decimal's precision and scale or a Char's length; in a list of one's own they may differ from these fields. Of the
 /// fields it looks at `nullable`, `ccsid`, `byte_order` and `reference_length`, and for Timestamp, Boolean, Blob, Clob and DbClob at
-/// `length`.
+/// `length`. Columns are compared by every field, also by those that nothing goes by: one that a description gives has its number and its
+/// origin.
 ///
 /// ```
 /// use vejupa::{decode_row, Column, Db2Type, Value};
@@ -46,10 +49,12 @@ pub struct Column {
     pub reference_length: Option<u16>,
     /// The order of a number's bytes.
     pub byte_order: ByteOrder,
+    /// Where the description has the column from. Nothing goes by it.
+    pub origin: Origin,
 }
 
 impl Column {
-    /// A column of a type and nothing else: not nullable, big-endian, CCSID 0, no reference, every other number 0.
+    /// A column of a type and nothing else: not nullable, big-endian, CCSID 0, no reference, origin SDA, every other number 0.
     ///
     /// Say more where it matters. A text of CCSID 0 is guessed, as that of every CCSID that the library does not name: give it one. A Blob,
     /// Clob or DbClob of length 0 is a reference, of four bytes or of nine that begin 02: where its values come within the row, give it a length. A Timestamp of
@@ -67,6 +72,7 @@ impl Column {
             ccsid: 0,
             reference_length: None,
             byte_order: ByteOrder::BigEndian,
+            origin: Origin::Sda,
         }
     }
 
@@ -94,6 +100,12 @@ impl Column {
         Column { byte_order, ..self }
     }
 
+    /// The column with this origin, for whoever shows it or compares it with one that was described. The row call does not look at it.
+    #[must_use]
+    pub const fn with_origin(self, origin: Origin) -> Column {
+        Column { origin, ..self }
+    }
+
     /// The column, whose values are references of so many bytes to data outside of the row. It is for Blob, Clob, DbClob and Xml.
     #[must_use]
     pub const fn with_reference_length(self, length: u16) -> Column {
@@ -110,7 +122,8 @@ impl Column {
             | u64::from(self.column_index) << 32
             | u64::from(self.nullable) << 48
             | u64::from(self.byte_order == ByteOrder::LittleEndian) << 49
-            | u64::from(self.reference_length.is_some()) << 50;
+            | u64::from(self.reference_length.is_some()) << 50
+            | self.origin.number() << 51;
         let second = u64::from(self.length)
             | u64::from(self.precision) << 16
             | u64::from(self.scale) << 24
@@ -136,6 +149,7 @@ impl Column {
                 0 => ByteOrder::BigEndian,
                 _ => ByteOrder::LittleEndian,
             },
+            origin: Origin::from_number(first >> 51 & 3)?,
         };
         (column.words() == words).then_some(column)
     }

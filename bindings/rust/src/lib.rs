@@ -55,7 +55,7 @@ pub use text::{
     decode_packed_decimal_into, format_lob_locator, format_lob_locator_into, format_rowid,
     format_rowid_into, Text, TextRef,
 };
-pub use types::{ByteOrder, Db2Type};
+pub use types::{ByteOrder, Db2Type, Origin};
 pub use value::{OwnedValue, Value};
 
 /// This crate's version, and that of the archive it links.

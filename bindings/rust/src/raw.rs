@@ -12,7 +12,7 @@ mod foreign {
     }
 
     unsafe extern "C" {
-        pub fn vejupa_version_0_3_0() -> u32;
+        pub fn vejupa_version_0_4_0() -> u32;
         pub fn vejupa_raw_parse_qrydsc(
             data: *const u8,
             data_len: usize,
@@ -92,7 +92,7 @@ mod foreign {
 
 // The symbol has the version's name: a program does not link with an archive of another one.
 #[used]
-static OF_THIS_VERSION: unsafe extern "C" fn() -> u32 = foreign::vejupa_version_0_3_0;
+static OF_THIS_VERSION: unsafe extern "C" fn() -> u32 = foreign::vejupa_version_0_4_0;
 
 /// What every call answers where it accepts.
 pub const ACCEPTED: u32 = 0;
@@ -173,7 +173,7 @@ const UNWRITTEN: usize = usize::MAX;
 
 /// The archive's version: 10,000 for each major one, 100 for each minor one, 1 for each patch.
 pub fn version() -> u32 {
-    unsafe { foreign::vejupa_version_0_3_0() }
+    unsafe { foreign::vejupa_version_0_4_0() }
 }
 
 /// Two words a column into `column_words`, for as many columns as are described.

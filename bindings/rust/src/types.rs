@@ -1,4 +1,4 @@
-//! The types of columns, and their words.
+//! The types of columns, and their words; byte orders and origins.
 use crate::raw;
 use crate::show::pad;
 use std::fmt;
@@ -192,4 +192,61 @@ pub enum ByteOrder {
     BigEndian,
     /// The lowest byte comes first.
     LittleEndian,
+}
+
+/// Where a description has a column from. Nothing is decoded by it.
+///
+/// Of the columns that a description gives, those from an SDA are little-endian and those from a LID big-endian. A list of one's own may
+/// have any origin beside either byte order.
+///
+/// ```
+/// use vejupa::{parse_qrydsc, Origin};
+/// // An SDA, and a D0 group with one LID.
+/// let columns = parse_qrydsc(&[0x05, 0x70, 0x02, 0x00, 0x04, 0x06, 0x76, 0xD0, 0x02, 0x00, 0x04])?;
+/// assert_eq!(columns[0].origin, Origin::Sda);
+/// assert_eq!(columns[1].origin, Origin::UndeclaredLid);
+/// # Ok::<(), vejupa::Refusal>(())
+/// ```
+#[derive(Debug, Clone, Copy, PartialEq, Eq, Hash)]
+#[non_exhaustive]
+pub enum Origin {
+    /// An SDA (simple data array).
+    Sda,
+    /// A LID (local identifier) of a D0 group that no environment entry declares.
+    UndeclaredLid,
+    /// A LID of a D0 group that an environment entry declares: the column has the entry's type and CCSID.
+    DeclaredLid,
+}
+
+impl Origin {
+    /// The number that stands for it in a column's first word.
+    pub(crate) fn number(self) -> u64 {
+        match self {
+            Origin::Sda => 0,
+            Origin::UndeclaredLid => 1,
+            Origin::DeclaredLid => 2,
+        }
+    }
+
+    /// The origin of such a number; None where it is no origin's.
+    pub(crate) fn from_number(number: u64) -> Option<Origin> {
+        match number {
+            0 => Some(Origin::Sda),
+            1 => Some(Origin::UndeclaredLid),
+            2 => Some(Origin::DeclaredLid),
+            _ => None,
+        }
+    }
+}
+
+/// `SDA`, `undeclared LID` or `declared LID`.
+impl fmt::Display for Origin {
+    fn fmt(&self, f: &mut fmt::Formatter<'_>) -> fmt::Result {
+        let name = match self {
+            Origin::Sda => "SDA",
+            Origin::UndeclaredLid => "undeclared LID",
+            Origin::DeclaredLid => "declared LID",
+        };
+        pad(f, format_args!("{name}"))
+    }
 }

@@ -1,10 +1,10 @@
 //! Descriptions, columns and their words.
 mod common;
 
-use common::walked_both_ways;
+use common::{all_sorts, walked_both_ways};
 use vejupa::raw::{self, DescriptionAnswer, LengthAnswer, TOO_FEW_WORDS};
 use vejupa::{
-    decode_row, parse_qrydsc, ByteOrder, Column, Columns, Db2Type, OwnedRow, Refusal, Value,
+    decode_row, parse_qrydsc, ByteOrder, Column, Columns, Db2Type, Origin, OwnedRow, Refusal, Value,
 };
 
 /// One of each type.
@@ -43,6 +43,10 @@ const TYPES: [Db2Type; 29] = [
     Db2Type::Null,
 ];
 
+const ORIGINS: [Origin; 3] = [Origin::Sda, Origin::UndeclaredLid, Origin::DeclaredLid];
+
+const BYTE_ORDERS: [ByteOrder; 2] = [ByteOrder::BigEndian, ByteOrder::LittleEndian];
+
 #[test]
 fn every_column_is_the_column_of_its_words() {
     for (tag, db2_type) in TYPES.into_iter().enumerate() {
@@ -51,7 +55,8 @@ fn every_column_is_the_column_of_its_words() {
             .with_nullable(true)
             .with_ccsid(1208)
             .with_reference_length(4)
-            .with_byte_order(ByteOrder::LittleEndian);
+            .with_byte_order(ByteOrder::LittleEndian)
+            .with_origin(Origin::DeclaredLid);
         column.column_index = 255;
         column.drda_type = 0xC9;
         column.precision = 5;
@@ -60,13 +65,34 @@ fn every_column_is_the_column_of_its_words() {
             assert_eq!(column.words()[0] & 0xFF, tag as u64);
             assert_eq!(Column::from_words(column.words()), Some(column));
         }
-        assert_eq!(column.words()[0] >> 24, 0x0700_FFC9);
+        assert_eq!(column.words()[0] >> 24, 0x1700_FFC9);
         assert_eq!(column.words()[1], 0x0004_04B8_0205_8004);
     }
 }
 
-/// Types without numbers that hold one; a DecFloat of 256 digits; a tag that is no type's; a column number above 255; bits that are not
-/// in use; a reference length that is not there.
+/// Each of the three beside either byte order, in bits of its own. There is no fourth, and nothing stands above.
+#[test]
+fn origins_in_words() {
+    for db2_type in TYPES {
+        for byte_order in BYTE_ORDERS {
+            let plain = Column::new(db2_type).with_byte_order(byte_order);
+            let [first, second] = plain.words();
+            for (number, origin) in (0..).zip(ORIGINS) {
+                let column = plain.with_origin(origin);
+                let words = [first | number << 51, second];
+                assert_eq!(column.words(), words);
+                assert_eq!(Column::from_words(words), Some(column));
+                for bit in 53..64 {
+                    assert_eq!(Column::from_words([words[0] | 1 << bit, second]), None);
+                }
+            }
+            assert_eq!(Column::from_words([first | 3 << 51, second]), None);
+        }
+    }
+}
+
+/// Types without numbers that hold one; a DecFloat of 256 digits; a tag that is no type's; a column number above 255; an origin that there
+/// is none of; bits that are not in use; a reference length that is not there, whatever the origin.
 #[test]
 fn some_words_are_no_column() {
     for words in [
@@ -75,9 +101,13 @@ fn some_words_are_no_column() {
         [29, 0],
         [255, 0],
         [1 << 40, 0],
-        [1 << 51, 0],
+        [3 << 51, 0],
+        [1 << 53, 0],
+        [1 << 54, 0],
         [1 << 63, 0],
         [0, 1 << 48],
+        [1 << 51, 1 << 48],
+        [2 << 51, 1 << 48],
     ] {
         assert_eq!(Column::from_words(words), None, "{words:X?}");
         let answer = raw::decode_row(&words, &[0; 16], &mut [0; 3], &mut []);
@@ -106,6 +136,7 @@ fn a_description_and_its_columns() {
     decimal.precision = 5;
     decimal.scale = 2;
     decimal.nullable = true;
+    decimal.origin = Origin::UndeclaredLid;
     let columns = parse_qrydsc(&description).unwrap();
     assert_eq!(columns.len(), 2);
     assert_eq!(columns[1], decimal);
@@ -118,11 +149,77 @@ fn a_description_and_its_columns() {
     assert!(Columns::parse(&[]).unwrap().is_empty());
 }
 
+/// An SDA, by itself and within a group; a LID before it is declared and after.
+#[test]
+fn where_columns_come_from() {
+    let sda = [0x05, 0x70, 0x02, 0x00, 0x04];
+    let group_of_an_sda = [0x07, 0x76, 0x05, 0x70, 0x02, 0x00, 0x04];
+    let declaration = [
+        0x03, 0x78, 0x33, 0x08, 0x70, 0x41, 0x00, 0x00, 0x00, 0x00, 0x25,
+    ];
+    let group = [0x09, 0x76, 0xD0, 0x02, 0x00, 0x04, 0x41, 0x00, 0x14];
+    let parts = [&sda[..], &group, &declaration, &group, &group_of_an_sda];
+    let described = parse_qrydsc(&parts.concat()).unwrap();
+
+    let integer = Column::new(Db2Type::Integer).with_length(4);
+    let from_sda = integer.with_byte_order(ByteOrder::LittleEndian);
+    let from_lid = integer.with_origin(Origin::UndeclaredLid);
+    let text = Column::new(Db2Type::VarChar(20))
+        .with_length(20)
+        .with_nullable(true);
+    let before = text.with_ccsid(1208).with_origin(Origin::UndeclaredLid);
+    let after = text.with_ccsid(37).with_origin(Origin::DeclaredLid);
+    let expected = [
+        (0x02, from_sda),
+        (0x02, from_lid),
+        (0x41, before),
+        (0x02, from_lid),
+        (0x33, after),
+        (0x02, from_sda),
+    ];
+    assert_eq!(described.len(), expected.len());
+    for (k, (drda_type, mut column)) in expected.into_iter().enumerate() {
+        column.column_index = k as u8;
+        column.drda_type = drda_type;
+        assert_eq!(described[k], column);
+    }
+}
+
+/// Lists that differ in origins alone give the same rows, and the same refusals.
+#[test]
+fn nothing_is_decoded_by_an_origin() {
+    let (columns, bytes) = all_sorts();
+    for byte_order in BYTE_ORDERS {
+        let plain: Vec<Column> = columns
+            .iter()
+            .map(|column| column.with_byte_order(byte_order))
+            .collect();
+        // All but the last: where the Graphic's units have two bytes, it takes some of the Xml's.
+        assert!(decode_row(&bytes, &plain[..plain.len() - 1]).is_ok());
+        // One origin for all, or each by turns.
+        for (first, step) in [(0, 0), (1, 0), (2, 0), (0, 1), (1, 1), (2, 1)] {
+            let mut other = plain.clone();
+            for (k, column) in other.iter_mut().enumerate() {
+                column.origin = ORIGINS[(first + step * k) % 3];
+            }
+            for count in 0..=plain.len() {
+                let expected = decode_row(&bytes, &plain[..count]);
+                assert_eq!(decode_row(&bytes, &other[..count]), expected);
+            }
+            for length in 0..bytes.len() {
+                let expected = decode_row(&bytes[..length], &plain);
+                assert_eq!(decode_row(&bytes[..length], &other), expected);
+            }
+        }
+    }
+}
+
 /// Each sets its own field and no other.
 #[test]
 fn a_column_made_step_by_step() {
     let plain = Column::new(Db2Type::Clob);
     assert_eq!(plain.byte_order, ByteOrder::BigEndian);
+    assert_eq!(plain.origin, Origin::Sda);
     assert_eq!((plain.nullable, plain.reference_length), (false, None));
     let made = |change: fn(&mut Column)| {
         let mut column = plain;
@@ -136,6 +233,10 @@ fn a_column_made_step_by_step() {
     assert_eq!(
         plain.with_byte_order(ByteOrder::LittleEndian),
         made(|c| c.byte_order = ByteOrder::LittleEndian)
+    );
+    assert_eq!(
+        plain.with_origin(Origin::DeclaredLid),
+        made(|c| c.origin = Origin::DeclaredLid)
     );
     assert_eq!(
         plain.with_reference_length(0),

@@ -1,6 +1,8 @@
 //! Which column of a row is too short.
 use vejupa::raw::{self, BUFFER_TOO_SHORT};
-use vejupa::{decode_row, decode_row_into, Buffers, ByteOrder, Column, Columns, Db2Type, Refusal};
+use vejupa::{
+    decode_row, decode_row_into, Buffers, ByteOrder, Column, Columns, Db2Type, Origin, Refusal,
+};
 
 /// Numbers that look random and are the same in each run.
 struct Random(u64);
@@ -54,7 +56,8 @@ fn some_column(random: &mut Random) -> Column {
         .with_nullable(random.below(3) == 0)
         .with_ccsid(random.pick(&[0, 37, 1200, 1208]))
         .with_length(random.pick(&[0, 0, 2, 9]))
-        .with_byte_order(random.pick(&[ByteOrder::BigEndian, ByteOrder::LittleEndian]));
+        .with_byte_order(random.pick(&[ByteOrder::BigEndian, ByteOrder::LittleEndian]))
+        .with_origin(random.pick(&[Origin::Sda, Origin::UndeclaredLid, Origin::DeclaredLid]));
     match random.below(4) {
         0 => column.with_reference_length(random.pick(&[0, 4, 9])),
         _ => column,

@@ -3,8 +3,8 @@ mod common;
 
 use common::VALUES;
 use vejupa::{
-    decode_row, decode_row_into, parse_qrydsc, Buffers, Column, Columns, Db2Type, Refusal, Rows,
-    Value,
+    decode_row, decode_row_into, parse_qrydsc, Buffers, Column, Columns, Db2Type, Origin, Refusal,
+    Rows, Value,
 };
 
 #[test]
@@ -142,6 +142,21 @@ fn types() {
 }
 
 #[test]
+fn origins() {
+    for (origin, text) in [
+        (Origin::Sda, "SDA"),
+        (Origin::UndeclaredLid, "undeclared LID"),
+        (Origin::DeclaredLid, "declared LID"),
+    ] {
+        assert_eq!(origin.to_string(), text);
+        assert_eq!(
+            format!("{origin:16}|{origin:>16}|{origin:-^17}|{origin:.2}"),
+            format!("{text:16}|{text:>16}|{text:-^17}|{text}")
+        );
+    }
+}
+
+#[test]
 fn refusals() {
     let all = [
         Refusal::QrydscTooLong,
@@ -182,6 +197,7 @@ fn lists_of_columns() {
     let list = format!("[{:?}, {:?}]", columns[0], columns[1]);
     let packed = Columns::from(&columns[..]);
     assert!(list.contains("db2_type: Date"), "{list}");
+    assert!(list.contains("origin: Sda"), "{list}");
     assert_eq!(format!("{packed:?}"), list);
     assert_eq!(format!("{:?}", packed.iter()), list);
     let mut left = packed.into_iter();

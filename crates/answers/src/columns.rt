@@ -1,4 +1,4 @@
-// Whether types and columns stand in a line. Each function of the form x_at answers the place behind what it looks for, as those of `place` do; each of
+// Whether types and columns stand in a line, which is whole where its kind is written in lower case. Each function of the form x_at answers the place behind what it looks for, as those of `place` do; each of
 // the form x_of reads what x_at then finds.
 use crate::lines::bytes;
 use crate::lines::field;
@@ -19,6 +19,7 @@ use types::ColumnDescriptor;
 use types::Columns;
 use types::Db2Type;
 use types::MAX_COLUMNS;
+use types::Origin;
 use types::ReferenceLength;
 use words::TypeRead;
 use words::read_type_word;
@@ -116,17 +117,30 @@ fn order_at(line: &[u8], at: usize, order: ByteOrder) -> usize {
     }
 }
 
+// An origin and the colon before it, in a whole line; nothing in another.
+fn origin_at(line: &[u8], at: usize, whole: bool, origin: Origin) -> usize {
+    if !whole {
+        return at;
+    }
+    match origin {
+        Origin::Sda => text_at(line, at, b":S"),
+        Origin::UndeclaredLid => text_at(line, at, b":U"),
+        Origin::DeclaredLid => text_at(line, at, b":D"),
+    }
+}
+
 // A decimal number and the colon before it.
 fn next_decimal_at(line: &[u8], at: usize, n: u64) -> usize {
     let digits = text_at(line, at, b":");
     decimal_at(line, digits, n)
 }
 
-// type:code:length:precision:scale:nullable:ccsid:reference:order
-pub fn column_at(line: &[u8], at: usize, c: ColumnDescriptor) -> usize {
+// type:code:length:precision:scale:nullable:ccsid:reference:order, and in a whole line :origin
+pub fn column_at(line: &[u8], at: usize, whole: bool, c: ColumnDescriptor) -> usize {
     let t = c.db2_type;
     let reference = c.extdta_reference_length;
     let order = c.byte_order;
+    let origin = c.origin;
     let mut p = type_at(line, at, t);
     p = text_at(line, p, b":");
     p = hex_at(line, p, c.drda_type as u64, 2);
@@ -139,7 +153,8 @@ pub fn column_at(line: &[u8], at: usize, c: ColumnDescriptor) -> usize {
     p = text_at(line, p, b":");
     p = reference_at(line, p, reference);
     p = text_at(line, p, b":");
-    order_at(line, p, order)
+    p = order_at(line, p, order);
+    origin_at(line, p, whole, origin)
 }
 
 // So many more columns, each behind a space. A list has no places for them, so they are passed over.
@@ -153,7 +168,7 @@ fn more_columns_at(line: &[u8], at: usize, count: usize) -> usize {
 
 // The number of columns, and each behind a space; a column's number is its place. A count above 128, for which the row call has a refusal, says more
 // columns than a list has places for.
-pub fn columns_at(line: &[u8], at: usize, columns: Columns) -> usize {
+pub fn columns_at(line: &[u8], at: usize, whole: bool, columns: Columns) -> usize {
     let count = columns.count;
     let mut p = decimal_at(line, at, count as u64);
     let mut i: usize = 0;
@@ -166,7 +181,7 @@ pub fn columns_at(line: &[u8], at: usize, columns: Columns) -> usize {
             return NOWHERE;
         }
         p = text_at(line, p, b" ");
-        p = column_at(line, p, column);
+        p = column_at(line, p, whole, column);
         i += 1;
     }
     p
@@ -201,11 +216,24 @@ fn order_of(s: &[u8]) -> ByteOrder {
     ByteOrder::BigEndian
 }
 
+// The origin that a column of a whole line writes. A column of another line writes none, and is an SDA's.
+fn origin_of(s: &[u8]) -> Origin {
+    let written = part(s, 9, b':');
+    if check::same(written, b"U") {
+        return Origin::UndeclaredLid;
+    }
+    if check::same(written, b"D") {
+        return Origin::DeclaredLid;
+    }
+    Origin::Sda
+}
+
 // The column that a field writes, if it writes one: column_at tells.
 pub fn column_of(s: &[u8], index: u8) -> ColumnDescriptor {
     let db2_type = named_type_of(part(s, 0, b':'));
     let extdta_reference_length = reference_of(s);
     let byte_order = order_of(s);
+    let origin = origin_of(s);
     ColumnDescriptor {
         column_index: index,
         drda_type: code_of(s),
@@ -213,6 +241,7 @@ pub fn column_of(s: &[u8], index: u8) -> ColumnDescriptor {
         precision: number_of(s, 3, 255) as u8,
         scale: number_of(s, 4, 255) as u8,
         nullable: number_of(s, 5, 1) == 1,
+        origin,
         ccsid: number_of(s, 6, 65535) as u16,
         db2_type,
         extdta_reference_length,

@@ -1,4 +1,4 @@
--- The column that an SDA describes: Q9 to Q11. Assumes nothing.
+-- The column that an SDA describes: Q9 to Q11, N2a. Assumes nothing.
 use Prim.Native.Nat.{ℕ, _+_}
 use mathlib.Core.Bool.{Bool, cond}
 use mathlib.Core.List.{List, [], _∷_}
@@ -10,6 +10,8 @@ use Rattle.types.specs.declared.Db2Type.{Db2Type}
 use Rattle.types.specs.declared.Db2Type.the-variants as type
 use Rattle.types.specs.declared.ByteOrder.{ByteOrder}
 use Rattle.types.specs.declared.ByteOrder.the-variants.{BigEndian, LittleEndian}
+use Rattle.types.specs.declared.Origin.{Origin}
+use Rattle.types.specs.declared.Origin.the-variants.{Sda}
 use Rattle.types.specs.declared.ReferenceLength.{ReferenceLength}
 use Rattle.types.specs.declared.ReferenceLength.the-variants.{Absent, Width}
 use Rattle.types.specs.declared.ColumnDescriptor.{ColumnDescriptor}
@@ -28,9 +30,9 @@ referenceLength c n =
 abbrev pub numbersOf : ℕ → ℕ → ℕ → Numbers
 numbersOf precision scale ccsid = record { precision = precision; scale = scale; ccsid = ccsid }
 
--- a column of type code c and length n, not yet numbered
-abbrev pub unnumbered : ℕ → ℕ → Numbers → Bool → Db2Type → ByteOrder → ColumnDescriptor
-unnumbered c n m nullable t order =
+-- a column of type code c and length n that came from o, not yet numbered
+abbrev pub unnumbered : ℕ → ℕ → Numbers → Bool → Db2Type → ByteOrder → Origin → ColumnDescriptor
+unnumbered c n m nullable t order o =
     record {
       «column_index» = 0;
       «drda_type» = c;
@@ -38,6 +40,7 @@ unnumbered c n m nullable t order =
       precision = m .precision;
       scale = m .scale;
       nullable = nullable;
+      origin = o;
       ccsid = m .ccsid;
       «db2_type» = t;
       «byte_order» = order;
@@ -59,10 +62,10 @@ sdaType c n m =
     (cond (eqb (baseOf c) 0x30) (type.Binary n) (cond (eqb (baseOf c) 0x32) (type.VarBinary n) listed))
     listed
 
--- Q9, Q10: the column of the data d of an SDA
+-- Q9, Q10, N2a: the column of the data d of an SDA
 unfoldable pub sdaColumn : List ℕ → ColumnDescriptor
 sdaColumn d =
     let c = getD d 0 0 in
     let n = field16 d 1 in
     let m = sdaNumbers d in
-    unnumbered c n m (nullableBit c) (sdaType c n m) LittleEndian
+    unnumbered c n m (nullableBit c) (sdaType c n m) LittleEndian Sda

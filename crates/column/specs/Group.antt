@@ -1,4 +1,4 @@
--- The column of a LID of a D0 group, and the environment entries that declare LIDs: Q3, Q5, Q6 and Q10. Assumes nothing.
+-- The column of a LID of a D0 group, and the environment entries that declare LIDs: Q3, Q5, Q6, Q10, N2a and N2b. Assumes nothing.
 use Prim.Native.Nat.{ℕ}
 use mathlib.Core.Bool.{Bool, true, false, cond}
 use mathlib.Core.List.{List, [], _∷_}
@@ -9,6 +9,7 @@ use Rattle.types.specs.Names.{namedIn}
 use Rattle.types.specs.declared.Db2Type.{Db2Type}
 use Rattle.types.specs.declared.Db2Type.the-variants as type
 use Rattle.types.specs.declared.ByteOrder.the-variants.{BigEndian}
+use Rattle.types.specs.declared.Origin.the-variants.{UndeclaredLid, DeclaredLid}
 use Rattle.types.specs.declared.ColumnDescriptor.{ColumnDescriptor}
 use Rattle.numbers.specs.Number.{unsigned}
 use Rattle.column.specs.declared.EnvEntry.{EnvEntry}
@@ -46,21 +47,21 @@ characterTypes = type.Char 0 ∷ type.VarChar 0 ∷ type.LongVarChar ∷ type.Cl
 abbrev pub groupCcsid : Db2Type → ℕ
 groupCcsid t = cond (namedIn characterTypes t) 1208 0
 
--- Q6: a LID l that is not declared, with its attribute bytes a and b
+-- Q6, N2a: a LID l that is not declared, with its attribute bytes a and b
 unfoldable pub undeclaredColumn : ℕ → ℕ → ℕ → ColumnDescriptor
 undeclaredColumn l a b =
     let n = unsigned BigEndian (a ∷ b ∷ []) in
     let t = groupType l n in
-    cond (eqb (baseOf l) 0x0E) (unnumbered l (packedLength a) (numbersOf a b 0) (nullableBit l) (type.Decimal a b) BigEndian)
-    (unnumbered l n (numbersOf 0 0 (groupCcsid t)) (nullableBit l) t BigEndian)
+    cond (eqb (baseOf l) 0x0E) (unnumbered l (packedLength a) (numbersOf a b 0) (nullableBit l) (type.Decimal a b) BigEndian UndeclaredLid)
+    (unnumbered l n (numbersOf 0 0 (groupCcsid t)) (nullableBit l) t BigEndian UndeclaredLid)
 
--- Q5: a LID whose entry e is declared, with its attribute bytes a and b
+-- Q5, N2a: a LID whose entry e is declared, with its attribute bytes a and b
 unfoldable pub declaredColumn : EnvEntry → ℕ → ℕ → ColumnDescriptor
 declaredColumn e a b =
     let n = unsigned BigEndian (a ∷ b ∷ []) in
     let r = fromDrdaType (e .«drda_type») n 0 0 in
-    unnumbered (e .«drda_type») n (numbersOf 0 0 (e .ccsid)) (r .nullable) (r .«db2_type») BigEndian
+    unnumbered (e .«drda_type») n (numbersOf 0 0 (e .ccsid)) (r .nullable) (r .«db2_type») BigEndian DeclaredLid
 
--- the column of a LID, of which e is the environment's entry
+-- N2b: the column of a LID, of which e is the environment's entry
 unfoldable pub lidColumn : EnvEntry → ℕ → ℕ → ℕ → ColumnDescriptor
 lidColumn e l a b = cond (e .declared) (declaredColumn e a b) (undeclaredColumn l a b)

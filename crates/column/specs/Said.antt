@@ -13,7 +13,7 @@ use Rattle.column.specs.Group.{groupType, groupCcsid}
 abbrev pub saidColumn : Said → ColumnDescriptor
 saidColumn a =
     let m = a .numbers in
-    unnumbered (a .«drda_type») (a .length) m (a .nullable) (fromDrdaType (a .listed) (a .length) (m .precision) (m .scale) .«db2_type») (a .«byte_order»)
+    unnumbered (a .«drda_type») (a .length) m (a .nullable) (fromDrdaType (a .listed) (a .length) (m .precision) (m .scale) .«db2_type») (a .«byte_order») (a .origin)
 
 -- the code under which the table has the type of an SDA column of code c: 60 is Binary, 62 VarBinary
 unfoldable pub sdaCode : ℕ → ℕ → ℕ

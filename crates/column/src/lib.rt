@@ -3,6 +3,7 @@
 use types::ByteOrder;
 use types::ColumnDescriptor;
 use types::Db2Type;
+use types::Origin;
 use types::ReferenceLength;
 ghost use mathlib.Core.Path.{_≡_};
 ghost use Prim.Native.Nat.{_≤_, _<_};
@@ -51,6 +52,7 @@ pub struct Said {
     pub numbers: Numbers,
     pub nullable: bool,
     pub byte_order: ByteOrder,
+    pub origin: Origin,
 }
 
 // Codes of the table.
@@ -107,6 +109,7 @@ pub fn column(said: Said) -> ColumnDescriptor
 {
     let numbers = said.numbers;
     let byte_order = said.byte_order;
+    let origin = said.origin;
     let reference = declared_lob_reference_length(said.drda_type, said.length);
     let read = Db2Type::from_drda_type(said.listed, said.length, numbers.precision, numbers.scale);
     let db2_type = read.db2_type;
@@ -117,6 +120,7 @@ pub fn column(said: Said) -> ColumnDescriptor
         precision: numbers.precision,
         scale: numbers.scale,
         nullable: said.nullable,
+        origin,
         ccsid: numbers.ccsid,
         db2_type,
         byte_order,
@@ -186,6 +190,7 @@ pub fn parse_sda_triplet(data: &[u8]) -> Said
         numbers,
         nullable: code % 2 == 1,
         byte_order: ByteOrder::LittleEndian,
+        origin: Origin::Sda,
     }
 }
 
@@ -268,6 +273,7 @@ fn undeclared_lid(lid: u8, first: u8, second: u8) -> Said
             numbers,
             nullable,
             byte_order: ByteOrder::BigEndian,
+            origin: Origin::UndeclaredLid,
         };
     }
     let listed = compact_gda_code(lid);
@@ -285,6 +291,7 @@ fn undeclared_lid(lid: u8, first: u8, second: u8) -> Said
         numbers,
         nullable,
         byte_order: ByteOrder::BigEndian,
+        origin: Origin::UndeclaredLid,
     }
 }
 
@@ -316,6 +323,7 @@ fn declared_lid(entry: EnvEntry, first: u8, second: u8) -> Said
         numbers,
         nullable,
         byte_order: ByteOrder::BigEndian,
+        origin: Origin::DeclaredLid,
     }
 }
 

@@ -1,3 +1,4 @@
 pub mod Filling
 pub mod Progress
 pub mod Lists
+pub mod Origins

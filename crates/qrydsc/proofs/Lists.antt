@@ -14,11 +14,8 @@ use Rattle.types.specs.declared.ColumnDescriptor.{ColumnDescriptor}
 use Rattle.types.specs.declared.Columns.{Columns}
 use Rattle.types.specs.Places.{maxColumns, filled, blankColumn, columnList}
 use Rattle.triplets.specs.Descriptors.{columnsOf}
+use Rattle.qrydsc.specs.Origins.{columnAt}
 use Rattle.qrydsc.specs.Qrydsc.{withIndex, numbered, DescriptionTold, listAnswer, maxQrydsc, description}
-
--- the column at a place
-abbrev pub columnAt : Columns → ℕ → ColumnDescriptor
-columnAt c i = getD (c .columns) i blankColumn
 
 pub record Ordered (c : Columns) : Type 0 where
   pub all-places : length (c .columns) ≡ maxColumns
@@ -37,7 +34,7 @@ number-at k [] i b h = absurd (not-suc-le-zero h)
 number-at k (c ∷ cs) zero b h = omega arith
 number-at k (c ∷ cs) (suc i) b h = number-at (k + 1) cs i b (le-of-suc-le-suc h) ∙ omega arith
 
-blank-after : {A : Type 0} (b : A) (n j : ℕ) → getD (replicate n b) j b ≡ b
+pub blank-after : {A : Type 0} (b : A) (n j : ℕ) → getD (replicate n b) j b ≡ b
 blank-after b zero j = refl
 blank-after b (suc n) zero = refl
 blank-after b (suc n) (suc j) = blank-after b n j

@@ -1,1 +1,2 @@
 pub mod Qrydsc
+pub mod Origins

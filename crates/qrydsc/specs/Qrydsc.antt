@@ -21,6 +21,7 @@ withIndex k c =
       precision = c .precision;
       scale = c .scale;
       nullable = c .nullable;
+      origin = c .origin;
       ccsid = c .ccsid;
       «db2_type» = c .«db2_type»;
       «byte_order» = c .«byte_order»;

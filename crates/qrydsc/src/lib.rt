@@ -11,6 +11,7 @@ use types::ColumnDescriptor;
 use types::Columns;
 use types::Db2Type;
 use types::MAX_COLUMNS;
+use types::Origin;
 use types::ReferenceLength;
 ghost use mathlib.Core.Path.{_≡_};
 ghost use Rattle.refusal.specs.Refusal.{refusalNumber, refusalValues};
@@ -36,6 +37,7 @@ fn blank_column() -> ColumnDescriptor
         precision: 0,
         scale: 0,
         nullable: false,
+        origin: Origin::Sda,
         ccsid: 0,
         db2_type: Db2Type::Null,
         byte_order: ByteOrder::BigEndian,

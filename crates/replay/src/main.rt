@@ -2,7 +2,7 @@
 // call and compares. It writes a line for each line that differs or is no request, and at the end how many lines there were and how many were
 // the same. The kinds of line: T decode_character_bytes, G decode_graphic_bytes, L bytes_are_likely_text, P decode_packed_decimal, F fixed_length,
 // Q parse_qrydsc and decode_row with its columns, H decode_row with columns of the line's own. T, G, Q and H also come in lower case, with the host release
-// behind the letter: their answers count the characters replaced, which the Rust does not.
+// behind the letter: such a line is whole, and has what the Rust lacks too, the characters replaced and the columns' origins.
 use answers::columns::columns_at;
 use answers::columns::columns_of;
 use answers::columns::type_of;
@@ -114,15 +114,8 @@ fn is_filled(text: &[u8]) -> bool {
 }
 
 // Whether the call writes `want` at the beginning of the buffer and no byte after it, and `rest`, what is stored behind the text, is how many characters
-// it replaced, or nothing where they are not counted.
-fn writes(
-    call: Call,
-    data: &[u8],
-    want: &[u8],
-    counted: bool,
-    rest: &[u8],
-    text: &mut [u8],
-) -> bool {
+// it replaced, in a whole line, or nothing in another.
+fn writes(call: Call, data: &[u8], want: &[u8], whole: bool, rest: &[u8], text: &mut [u8]) -> bool {
     fill(text, FILL);
     let a = make(call, data, text);
     let outcome = a.outcome;
@@ -133,7 +126,7 @@ fn writes(
     if n > text.len() {
         return false;
     }
-    if replaced_at(rest, 0, counted, a.replaced) != rest.len() {
+    if replaced_at(rest, 0, whole, a.replaced) != rest.len() {
         return false;
     }
     if !same(&text[0..n], want) {
@@ -167,7 +160,7 @@ fn writes_each(
     call: Call,
     data: &[u8],
     want: &[u8],
-    counted: bool,
+    whole: bool,
     rest: &[u8],
     text: &mut [u8],
 ) -> bool {
@@ -175,10 +168,10 @@ fn writes_each(
     if text.len() <= n {
         return false;
     }
-    if !writes(call, data, want, counted, rest, text) {
+    if !writes(call, data, want, whole, rest, text) {
         return false;
     }
-    if !writes(call, data, want, counted, rest, &mut text[0..n]) {
+    if !writes(call, data, want, whole, rest, &mut text[0..n]) {
         return false;
     }
     if n == 0 {
@@ -212,7 +205,7 @@ fn refusal_of(answer: &[u8]) -> Stored {
 fn answers(
     call: Call,
     data: &[u8],
-    counted: bool,
+    whole: bool,
     answer: &[u8],
     want: &mut [u8],
     text: &mut [u8],
@@ -221,7 +214,7 @@ fn answers(
     let w = bytes(&answer[0..end], want);
     let n = w.value;
     if w.valid {
-        return writes_each(call, data, &want[0..n], counted, &answer[end..], text);
+        return writes_each(call, data, &want[0..n], whole, &answer[end..], text);
     }
     match refusal_of(answer) {
         Stored::Refusal(number) => refuses(call, data, number, 0, text),
@@ -233,7 +226,7 @@ fn answers(
 fn text_line(
     kind: u8,
     request: &[u8],
-    counted: bool,
+    whole: bool,
     answer: &[u8],
     data: &mut [u8],
     want: &mut [u8],
@@ -250,7 +243,7 @@ fn text_line(
     if !d.valid {
         return Verdict::NoRequest;
     }
-    judged(answers(call, &data[0..n], counted, answer, want, text))
+    judged(answers(call, &data[0..n], whole, answer, want, text))
 }
 
 fn likely_line(request: &[u8], answer: &[u8], data: &mut [u8]) -> Verdict {
@@ -285,7 +278,7 @@ fn length_line(request: &[u8], answer: &[u8]) -> Verdict {
 fn decodes(
     columns: Columns,
     row: &[u8],
-    counted: bool,
+    whole: bool,
     answer: &[u8],
     want: &mut [u8],
     text: &mut [u8],
@@ -294,7 +287,7 @@ fn decodes(
     let count = columns.count;
     let a = decode_row(row, columns, text);
     let outcome = a.outcome;
-    if !is_answer(answer, counted, a, count, row, text, want) {
+    if !is_answer(answer, whole, a, count, row, text, want) {
         return false;
     }
     if outcome.number() == 0 {
@@ -339,7 +332,7 @@ fn leaves_rest(columns: Columns, row: &[u8], written: usize, text: &mut [u8]) ->
 fn row_answers(
     columns: Columns,
     row: &[u8],
-    counted: bool,
+    whole: bool,
     answer: &[u8],
     want: &mut [u8],
     text: &mut [u8],
@@ -349,7 +342,7 @@ fn row_answers(
     if text.len() <= n {
         return false;
     }
-    if !decodes(columns, row, counted, answer, want, &mut text[0..n]) {
+    if !decodes(columns, row, whole, answer, want, &mut text[0..n]) {
         return false;
     }
     if !leaves_rest(columns, row, n, text) {
@@ -366,7 +359,7 @@ fn row_line(
     columns: Columns,
     request: &[u8],
     at: usize,
-    counted: bool,
+    whole: bool,
     answer: &[u8],
     data: &mut [u8],
     want: &mut [u8],
@@ -380,13 +373,13 @@ fn row_line(
     if !d.valid {
         return Verdict::NoRequest;
     }
-    judged(row_answers(columns, &data[0..n], counted, answer, want, text))
+    judged(row_answers(columns, &data[0..n], whole, answer, want, text))
 }
 
-// Whether these columns are told: `C`, their number, and each of them.
-fn are_told(columns: Columns, told: &[u8]) -> bool {
+// Whether these columns are told: `C`, their number, and each of them, in a whole line with its origin.
+fn are_told(columns: Columns, whole: bool, told: &[u8]) -> bool {
     let count = text_at(told, 0, b"C ");
-    columns_at(told, count, columns) == told.len()
+    columns_at(told, count, whole, columns) == told.len()
 }
 
 // Whether a refused description is told so: no columns, and the number.
@@ -404,24 +397,24 @@ fn is_told_refused(refusal: u32, told: &[u8], answer: &[u8]) -> bool {
 fn described_line(
     columns: Columns,
     request: &[u8],
-    counted: bool,
+    whole: bool,
     answer: &[u8],
     data: &mut [u8],
     want: &mut [u8],
     text: &mut [u8],
 ) -> Verdict {
     let told = part_start(request, 4, b' ');
-    if !are_told(columns, &request[told..]) {
+    if !are_told(columns, whole, &request[told..]) {
         return Verdict::Differs;
     }
     let row = part_start(request, 3, b' ');
-    row_line(columns, request, row, counted, answer, data, want, text)
+    row_line(columns, request, row, whole, answer, data, want, text)
 }
 
 // A line of kind Q: `Q <description> R <row> C <columns>`.
 fn description_line(
     request: &[u8],
-    counted: bool,
+    whole: bool,
     answer: &[u8],
     data: &mut [u8],
     want: &mut [u8],
@@ -440,7 +433,7 @@ fn description_line(
     let columns = described.columns;
     let refusal = outcome.number();
     if refusal == 0 {
-        return described_line(columns, request, counted, answer, data, want, text);
+        return described_line(columns, request, whole, answer, data, want, text);
     }
     let told = part_start(request, 4, b' ');
     judged(is_told_refused(refusal, &request[told..], answer))
@@ -449,21 +442,21 @@ fn description_line(
 // A line of kind H: `H <columns> R <row>`.
 fn own_line(
     request: &[u8],
-    counted: bool,
+    whole: bool,
     answer: &[u8],
     data: &mut [u8],
     want: &mut [u8],
     text: &mut [u8],
 ) -> Verdict {
     let columns = columns_of(request);
-    let told = columns_at(request, 2, columns);
+    let told = columns_at(request, 2, whole, columns);
     let row = text_at(request, told, b" R ");
-    row_line(columns, request, row, counted, answer, data, want, text)
+    row_line(columns, request, row, whole, answer, data, want, text)
 }
 
-// A line in lower case: the host release, of which there is only 2, and what the same kind in upper case has. Without its letter it has each field where
-// that has it.
-fn counted_line(
+// A line in lower case, which is whole: the host release, of which there is only 2, and what the same kind in upper case has. Without its letter it has
+// each field where that has it.
+fn whole_line(
     kind: u8,
     request: &[u8],
     answer: &[u8],
@@ -503,7 +496,7 @@ fn replay_line(line: &[u8], data: &mut [u8], want: &mut [u8], text: &mut [u8]) -
         b'H' => own_line(request, false, answer, data, want, text),
         b'Q' => description_line(request, false, answer, data, want, text),
         b'T' | b'G' | b'P' => text_line(kind[0], request, false, answer, data, want, text),
-        _ => counted_line(kind[0], request, answer, data, want, text),
+        _ => whole_line(kind[0], request, answer, data, want, text),
     }
 }
 

@@ -21,10 +21,10 @@ use Rattle.piece.proofs.Bound.{Scaled, AllScaled, AreBytes, texts-bound}
 use Rattle.row.specs.Whole.{Whole}
 use Rattle.row.proofs.Wholes.{whole-is}
 
--- a column: its type is the eighth field, and a Decimal's scale the second number of that
+-- a column: its type is the ninth field, and a Decimal's scale the second number of that
 column-scaled : (c : ColumnDescriptor) (vs : List Val) → shadow (column.the-field .row .own (column.the-type .to c) vs) → Scaled (c .«db2_type»)
 column-scaled c vs o precision scale e =
-    let t = subst (λ (t : Db2Type). shadow (db2.the-field .row .own (db2.the-type .to t) (o .0 .1 .1 .1 .1 .1 .1 .1 .0))) e (o .1 .1 .1 .1 .1 .1 .1 .1 .1 .0) in
+    let t = subst (λ (t : Db2Type). shadow (db2.the-field .row .own (db2.the-type .to t) (o .0 .1 .1 .1 .1 .1 .1 .1 .1 .0))) e (o .1 .1 .1 .1 .1 .1 .1 .1 .1 .1 .0) in
     t .1 .1 .1 .1 .1 .0 .1
 
 pub owned-scaled : (cs : List ColumnDescriptor) (us : List Val) → shadow (each (column.the-field .row .Denot) (column.the-field .row .own) (map (column.the-type .to) cs) us) → AllScaled cs

@@ -7,11 +7,7 @@ use mathlib.Core.List.{List, [], _∷_}
 use native.Mathlib.Omega.{arith}
 use lib.ListN.{length, take, replicate}
 use Rattle.refusal.specs.Refusal.{accepted}
-use Rattle.types.specs.declared.Db2Type.{Db2Type}
 use Rattle.types.specs.declared.Db2Type.the-variants as type
-use Rattle.types.specs.declared.ByteOrder.the-variants.{BigEndian}
-use Rattle.types.specs.declared.ReferenceLength.the-variants.{Absent}
-use Rattle.types.specs.declared.ColumnDescriptor.{ColumnDescriptor}
 use Rattle.types.specs.declared.Columns.{Columns}
 use Rattle.types.specs.Places.{filled, blankValue, columnList}
 use Rattle.packed.specs.Packed.{nibbles, signText, digitText, trimmed, fraction, decimalText}
@@ -23,25 +19,11 @@ use Rattle.rules.specs.Value.{textsTogether}
 use Rattle.rules.specs.Row.{covered, refusedRow, valueOf, itemText, cellItem, cellValue, rowValues, rowTexts, anyDecFloat, walkDecision, bodyDecision, rowDecision, answerOf}
 use Rattle.rules.specs.Conversions.{rowAnswer, rowText}
 use Rattle.rules.specs.Demand3.{AcceptedRow, LargeEnough, Same}
+use Rattle.rules.specs.Exceptions.{columnThat}
 use Rattle.rules.proofs.Demand3.{demand3}
 
-abbrev nullable : Db2Type → ℕ → ColumnDescriptor
-nullable t n =
-    record {
-      «column_index» = 0;
-      «drda_type» = 0;
-      length = n;
-      precision = 0;
-      scale = 0;
-      nullable = true;
-      ccsid = 0;
-      «db2_type» = t;
-      «byte_order» = BigEndian;
-      «extdta_reference_length» = Absent;
-    }
-
 unfoldable pub columnsB : Columns
-columnsB = columnList (nullable type.SmallInt 2 ∷ nullable (type.Decimal 5 2) 3 ∷ [])
+columnsB = columnList (columnThat true type.SmallInt 2 ∷ columnThat true (type.Decimal 5 2) 3 ∷ [])
 
 -- case B's row; one byte more; another that begins with it
 abbrev rowB : List ℕ

@@ -14,5 +14,6 @@ pub mod Utf8Texts
 pub mod FixedLengths
 pub mod Shown
 pub mod ShortColumn
+pub mod LooksAt
 pub mod Replaced
 pub mod ReplacedShown

@@ -1,6 +1,6 @@
 -- Why the columns that W9 lists have no end of their own: for each exception of specs/OwnEnd.antt a row that a longer input changes. Assumes nothing.
 use Prim.Native.Nat.{ℕ, _≤_}
-use mathlib.Core.Bool.{true, false}
+use mathlib.Core.Bool.{Bool, true, false}
 use mathlib.Core.Path.{_≡_}
 use mathlib.Core.List.{List, [], _∷_, _++_}
 use lib.ListN.{length, take, replicate}
@@ -8,6 +8,7 @@ use Rattle.refusal.specs.Refusal.{inputLimit}
 use Rattle.types.specs.declared.Db2Type.{Db2Type}
 use Rattle.types.specs.declared.Db2Type.the-variants as type
 use Rattle.types.specs.declared.ByteOrder.the-variants.{BigEndian}
+use Rattle.types.specs.declared.Origin.the-variants.{Sda}
 use Rattle.types.specs.declared.ReferenceLength.the-variants.{Absent}
 use Rattle.types.specs.declared.ColumnDescriptor.{ColumnDescriptor}
 use Rattle.types.specs.declared.Columns.{Columns}
@@ -16,21 +17,25 @@ use Rattle.rules.specs.OwnEnd.{carriesOwnEnd, allCarryOwnEnd}
 use Rattle.rules.specs.Conversions.{rowAnswer, rowText}
 use Rattle.rules.specs.Demand3.{AcceptedRow, LargeEnough, Same}
 
--- a column of a type, with a length of its own beside the type's
-abbrev pub column : Db2Type → ℕ → ColumnDescriptor
-column t n =
+-- a column of a type, nullable or not, with a length of its own beside the type's
+abbrev pub columnThat : Bool → Db2Type → ℕ → ColumnDescriptor
+columnThat isNullable t n =
     record {
       «column_index» = 0;
       «drda_type» = 0;
       length = n;
       precision = 0;
       scale = 0;
-      nullable = false;
+      nullable = isNullable;
+      origin = Sda;
       ccsid = 1208;
       «db2_type» = t;
       «byte_order» = BigEndian;
       «extdta_reference_length» = Absent;
     }
+
+abbrev pub column : Db2Type → ℕ → ColumnDescriptor
+column t n = columnThat false t n
 
 -- a column behind others that carry their own end; an input, and one that begins with the bytes that the first uses
 pub record Exception : Type 0 where

@@ -1,4 +1,4 @@
-// A column in the table: its number, type, nullable, CCSID and byte order; and, where there is no row, its type code, length and reference length.
+// A column in the table: its number, type, nullable, CCSID, byte order and origin; and, where there is no row, its type code, length and reference length.
 use printing::Line;
 use printing::type_names::first;
 use printing::type_names::name_of;
@@ -8,6 +8,7 @@ use types::ColumnDescriptor;
 use types::Columns;
 use types::Db2Type;
 use types::MAX_COLUMNS;
+use types::Origin;
 use types::ReferenceLength;
 
 // Where the columns of the table begin; numbers end before theirs.
@@ -21,11 +22,13 @@ const CCSID: usize = 35;
 
 const ORDER: usize = 37;
 
-pub const NEXT: usize = 45;
+const ORIGIN: usize = 45;
 
-const LENGTH: usize = 57;
+pub const NEXT: usize = 57;
 
-const REFERENCE: usize = 59;
+const LENGTH: usize = 69;
+
+const REFERENCE: usize = 71;
 
 // The numbers that a type holds, as its word has them: with two, the second is in the high byte.
 fn with_numbers(line: Line, count: usize, numbers: u64) -> Line {
@@ -64,6 +67,15 @@ fn order_name(line: Line, order: ByteOrder) -> Line {
     }
 }
 
+// Of a LID only whether it is declared: so much tells it from an SDA.
+fn origin_name(line: Line, origin: Origin) -> Line {
+    match origin {
+        Origin::Sda => line.text(b"SDA"),
+        Origin::UndeclaredLid => line.text(b"undeclared"),
+        Origin::DeclaredLid => line.text(b"declared"),
+    }
+}
+
 fn reference_name(line: Line, reference: ReferenceLength) -> Line {
     match reference {
         ReferenceLength::Absent => line.byte(b'-'),
@@ -75,11 +87,14 @@ fn reference_name(line: Line, reference: ReferenceLength) -> Line {
 pub fn column(line: Line, c: ColumnDescriptor) -> Line {
     let db2_type = c.db2_type;
     let order = c.byte_order;
+    let origin = c.origin;
+    let page = c.ccsid as u64;
     let numbered = line.decimal_before(c.column_index as u64, NUMBER);
     let typed = type_name(numbered.to_column(TYPE), db2_type);
     let nullable = yes_or_no(typed.to_column(NULLABLE), c.nullable);
-    let ccsid = nullable.decimal_before(c.ccsid as u64, CCSID);
-    order_name(ccsid.to_column(ORDER), order)
+    let ccsid = nullable.decimal_before(page, CCSID);
+    let ordered = order_name(ccsid.to_column(ORDER), order);
+    origin_name(ordered.to_column(ORIGIN), origin)
 }
 
 fn described(line: Line, c: ColumnDescriptor) -> Line {
@@ -95,7 +110,7 @@ fn last_line(line: Line, count: usize) -> Line {
 
 fn head() -> Line {
     Line::new()
-        .text(b" no  type               null  ccsid  order   code  length  reference")
+        .text(b" no  type               null  ccsid  order   origin      code  length  reference")
         .end()
 }
 

@@ -7,9 +7,9 @@ use types::MAX_COLUMNS;
 use types::RowAnswer;
 use types::ValuePlace;
 
-const EXTERNAL: usize = 63;
+const EXTERNAL: usize = 75;
 
-const VALUE: usize = 73;
+const VALUE: usize = 85;
 
 // How many bytes of a Binary or Blob are shown.
 const SHOWN: usize = 32;
@@ -119,7 +119,9 @@ fn value<'a>(line: Line, v: ValuePlace, row: &'a [u8], text: &'a [u8]) -> Line {
 
 fn head() -> Line {
     Line::new()
-        .text(b" no  type               null  ccsid  order   lies at           external  value")
+        .text(
+            b" no  type               null  ccsid  order   origin      lies at           external  value",
+        )
         .end()
 }
 

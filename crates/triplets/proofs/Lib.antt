@@ -1,3 +1,4 @@
 pub mod Slices
 pub mod ReadingLaws
 pub mod StepLaws
+pub mod Every

@@ -6,6 +6,7 @@ use lib.ListN.{length, take, replicate}
 use Rattle.types.specs.declared.Db2Type.the-variants as type
 use Rattle.types.specs.declared.Db2Value.{Db2Value}
 use Rattle.types.specs.declared.ByteOrder.the-variants.{BigEndian}
+use Rattle.types.specs.declared.Origin.the-variants.{Sda}
 use Rattle.types.specs.declared.ReferenceLength.the-variants.{Absent}
 use Rattle.types.specs.declared.ColumnDescriptor.{ColumnDescriptor}
 use Rattle.types.specs.declared.Columns.{Columns}
@@ -19,7 +20,7 @@ maxColumns = 128
 unfoldable pub filled : {A : Type 0} → A → List A → List A
 filled blank xs = xs ++ replicate (maxColumns - length xs) blank
 
--- H4: an unused place of a column list
+-- H4, N2c: an unused place of a column list
 unfoldable pub blankColumn : ColumnDescriptor
 blankColumn =
     record {
@@ -29,6 +30,7 @@ blankColumn =
       precision = 0;
       scale = 0;
       nullable = false;
+      origin = Sda;
       ccsid = 0;
       «db2_type» = type.Null;
       «byte_order» = BigEndian;

@@ -61,14 +61,22 @@ pub enum ByteOrder {
     LittleEndian,
 }
 
+// Where a description has a column from: an SDA, or a LID of a D0 group, which an environment entry declares or none does. The Rust does not keep it, and
+// nothing is decoded by it.
+pub enum Origin {
+    Sda,
+    UndeclaredLid,
+    DeclaredLid,
+}
+
 // The width of a reference to a LOB outside the row that the description declares: Option<u16> in the Rust. A width of 0 is declared.
 pub enum ReferenceLength {
     Absent,
     Width(u16),
 }
 
-// The byte order stands before the reference length. Behind it, its load waited for bytes that were just stored in another width (seen in a profile of
-// Integer columns).
+// The origin stands in a byte that would else be padding, so that the struct does not grow by it. The byte order stands before the reference length. Behind
+// it, its load waited for bytes that were just stored in another width (seen in a profile of Integer columns).
 pub struct ColumnDescriptor {
     pub column_index: u8,
     pub drda_type: u8,
@@ -76,6 +84,7 @@ pub struct ColumnDescriptor {
     pub precision: u8,
     pub scale: u8,
     pub nullable: bool,
+    pub origin: Origin,
     pub ccsid: u16,
     pub db2_type: Db2Type,
     pub byte_order: ByteOrder,

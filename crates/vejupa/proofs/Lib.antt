@@ -6,3 +6,4 @@ pub mod ValueBytes
 pub mod ValueRanges
 pub mod RowForms
 pub mod ShortWords
+pub mod LooksAtWords

@@ -41,13 +41,13 @@ const NO_TYPE_WORD: u32 = 102;
 
 const NO_COLUMN: u32 = 102;
 
-// The version of these calls, 0.3.0 as 10000 * 0 + 100 * 3 + 0. The number stands in the name, which include/vejupa.h and bindings/rust refer to: what was
+// The version of these calls, 0.4.0 as 10000 * 0 + 100 * 4 + 0. The number stands in the name, which include/vejupa.h and bindings/rust refer to: what was
 // compiled for another version does not link.
 #[no_mangle]
-pub extern "C" fn vejupa_version_0_3_0() -> u32
-    ensures { λ r. ⌜ r ≡ 300 ⌝ }
+pub extern "C" fn vejupa_version_0_4_0() -> u32
+    ensures { λ r. ⌜ r ≡ 400 ⌝ }
 {
-    300
+    400
 }
 
 // Hands out an answer: its number returned, in text_length how long the text is, written or needed.

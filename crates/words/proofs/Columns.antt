@@ -9,16 +9,18 @@ use borrow.Author.Tests.{eq-eqb}
 use Rattle.types.specs.Names.{nameOf, ownNumbers}
 use Rattle.types.specs.declared.ByteOrder.{ByteOrder}
 use Rattle.types.specs.declared.ByteOrder.the-variants.{BigEndian, LittleEndian}
+use Rattle.types.specs.declared.Origin.{Origin}
+use Rattle.types.specs.declared.Origin.the-variants.{Sda, UndeclaredLid, DeclaredLid}
 use Rattle.types.specs.declared.ReferenceLength.{ReferenceLength}
 use Rattle.types.specs.declared.ReferenceLength.the-variants.{Absent, Width}
 use Rattle.types.specs.declared.ColumnDescriptor.{ColumnDescriptor}
 use lib.Dec.{eqb}
 use lib.ListN.{length, drop, getD, drop-of-length-le}
 use lib.Seq.{drop-cons}
-use Rattle.words.specs.Words.{packType, littleEndianBit, referenceBit, referenceWidth, firstWord, secondWord, packColumns, typeNamed}
-use Rattle.words.specs.Reading.{orderNamed, referenceNamed, columnNamed, isColumn, readColumn, joined, readColumns}
+use Rattle.words.specs.Words.{packType, littleEndianBit, referenceBit, referenceWidth, originNumber, firstWord, secondWord, packColumns, typeNamed}
+use Rattle.words.specs.Reading.{orderNamed, referenceNamed, originNamed, columnNamed, isColumn, readColumn, joined, readColumns}
 use Rattle.words.proofs.TypeWords.{Named, named}
-use Rattle.words.proofs.Fields.{WidthFits, Fits, Fields, fields}
+use Rattle.words.proofs.Fields.{WidthFits, Fits, Fields, origin-small, fields}
 
 order-named : (o : ByteOrder) → orderNamed (littleEndianBit o) ≡ o
 order-named BigEndian = refl
@@ -32,9 +34,10 @@ flag-named : (b : Bool) → eqb (cond b 1 0) 1 ≡ b
 flag-named true = refl
 flag-named false = refl
 
-reference-small : (r : ReferenceLength) → referenceBit r < 2
-reference-small Absent = omega arith
-reference-small (Width n) = omega arith
+origin-named : (o : Origin) → originNamed (originNumber o) ≡ o
+origin-named Sda = refl
+origin-named UndeclaredLid = refl
+origin-named DeclaredLid = refl
 
 lowest : (a k n : ℕ) → k < 256 → n < 65536 → a % 2 ^ 24 ≡ k + n * 2 ^ 8 → (a % 2 ^ 8 ≡ k) × (a / 2 ^ 8 % 2 ^ 16 ≡ n)
 lowest a k n hk hn e = (omega arith, omega arith)
@@ -42,8 +45,8 @@ lowest a k n hk hn e = (omega arith, omega arith)
 narrow : (a k : ℕ) → k < 2 ^ 8 → a % 2 ^ 16 ≡ k → a % 2 ^ 8 ≡ k
 narrow a k h e = omega arith
 
-one-bit : (a k : ℕ) → k < 2 → a ≡ k → a % 2 ≡ k
-one-bit a k h e = omega arith
+two-bits : (a k : ℕ) → k ≤ 2 → a ≡ k → a % 2 ^ 2 ≡ k
+two-bits a k h e = omega arith
 
 module _ (c : ColumnDescriptor) (f : Fits c) where
   of-type : Named (c .«db2_type»)
@@ -55,18 +58,18 @@ module _ (c : ColumnDescriptor) (f : Fits c) where
   -- words that have the column's fields name it
   named-by : (a b : ℕ) → a % 2 ^ 8 ≡ nameOf (c .«db2_type») → a / 2 ^ 8 % 2 ^ 16 ≡ ownNumbers (c .«db2_type») → a / 2 ^ 24 % 2 ^ 8 ≡ c .«drda_type»
       → a / 2 ^ 32 % 2 ^ 8 ≡ c .«column_index» → a / 2 ^ 48 % 2 ≡ cond (c .nullable) 1 0 → a / 2 ^ 49 % 2 ≡ littleEndianBit (c .«byte_order»)
-      → a / 2 ^ 50 % 2 ≡ referenceBit (c .«extdta_reference_length»)
+      → a / 2 ^ 50 % 2 ≡ referenceBit (c .«extdta_reference_length») → a / 2 ^ 51 % 2 ^ 2 ≡ originNumber (c .origin)
       → b % 2 ^ 16 ≡ c .length → b / 2 ^ 16 % 2 ^ 8 ≡ c .precision → b / 2 ^ 24 % 2 ^ 8 ≡ c .scale → b / 2 ^ 32 % 2 ^ 16 ≡ c .ccsid
       → b / 2 ^ 48 ≡ referenceWidth (c .«extdta_reference_length») → columnNamed a b ≡ c
   unfolding columnNamed
-  named-by a b e1 e2 e3 e4 e5 e6 e7 e8 e9 e10 e11 e12 =
-      rw (e1, e2, e3, e4, e5, e6, e7, e8, e9, e10, e11, e12, of-type .back, flag-named (c .nullable), order-named (c .«byte_order»), reference-named (c .«extdta_reference_length») (f .width))
+  named-by a b e1 e2 e3 e4 e5 e6 e7 e8 e9 e10 e11 e12 e13 =
+      rw (e1, e2, e3, e4, e5, e6, e7, e8, e9, e10, e11, e12, e13, of-type .back, flag-named (c .nullable), order-named (c .«byte_order»), reference-named (c .«extdta_reference_length») (f .width), origin-named (c .origin))
 
   pub named-back : columnNamed (firstWord c) (secondWord c) ≡ c
   named-back =
       let l = lowest (firstWord c) (nameOf (c .«db2_type»)) (ownNumbers (c .«db2_type»)) (of-type .place) (of-type .numbers) (here .kind) in
       named-by (firstWord c) (secondWord c) (l .0) (l .1) (here .code) (narrow (firstWord c / 2 ^ 32) (c .«column_index») (f .index) (here .index)) (here .null) (here .little)
-      (one-bit (firstWord c / 2 ^ 50) (referenceBit (c .«extdta_reference_length»)) (reference-small (c .«extdta_reference_length»)) (here .reference))
+      (here .reference) (two-bits (firstWord c / 2 ^ 51) (originNumber (c .origin)) (origin-small (c .origin)) (here .origin))
       (here .long) (here .digits) (here .point) (here .page) (here .width)
 
   pub read-back : readColumn (firstWord c) (secondWord c) ≡ some c

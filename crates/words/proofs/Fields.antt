@@ -5,10 +5,12 @@ use mathlib.Core.Bool.{Bool, true, false, cond}
 use native.Mathlib.Omega.{arith}
 use Rattle.types.specs.declared.ByteOrder.{ByteOrder}
 use Rattle.types.specs.declared.ByteOrder.the-variants.{BigEndian, LittleEndian}
+use Rattle.types.specs.declared.Origin.{Origin}
+use Rattle.types.specs.declared.Origin.the-variants.{Sda, UndeclaredLid, DeclaredLid}
 use Rattle.types.specs.declared.ReferenceLength.{ReferenceLength}
 use Rattle.types.specs.declared.ReferenceLength.the-variants.{Absent, Width}
 use Rattle.types.specs.declared.ColumnDescriptor.{ColumnDescriptor}
-use Rattle.words.specs.Words.{packType, littleEndianBit, referenceBit, referenceWidth, firstWord, secondWord}
+use Rattle.words.specs.Words.{packType, littleEndianBit, referenceBit, referenceWidth, originNumber, firstWord, secondWord}
 use Rattle.words.proofs.TypeWords.{Fitting, named}
 
 -- a reference length has 16 bits
@@ -33,7 +35,8 @@ pub record Fields (c : ColumnDescriptor) : Type 0 where
   pub index : firstWord c / 2 ^ 32 % 2 ^ 16 ≡ c .«column_index»
   pub null : firstWord c / 2 ^ 48 % 2 ≡ cond (c .nullable) 1 0
   pub little : firstWord c / 2 ^ 49 % 2 ≡ littleEndianBit (c .«byte_order»)
-  pub reference : firstWord c / 2 ^ 50 ≡ referenceBit (c .«extdta_reference_length»)
+  pub reference : firstWord c / 2 ^ 50 % 2 ≡ referenceBit (c .«extdta_reference_length»)
+  pub origin : firstWord c / 2 ^ 51 ≡ originNumber (c .origin)
   pub long : secondWord c % 2 ^ 16 ≡ c .length
   pub digits : secondWord c / 2 ^ 16 % 2 ^ 8 ≡ c .precision
   pub point : secondWord c / 2 ^ 24 % 2 ^ 8 ≡ c .scale
@@ -48,10 +51,20 @@ order-bit : (o : ByteOrder) → littleEndianBit o ≤ 1
 order-bit BigEndian = omega arith
 order-bit LittleEndian = omega arith
 
+reference-bit : (r : ReferenceLength) → referenceBit r ≤ 1
+reference-bit Absent = omega arith
+reference-bit (Width n) = omega arith
+
+pub origin-small : (o : Origin) → originNumber o ≤ 2
+origin-small Sda = omega arith
+origin-small UndeclaredLid = omega arith
+origin-small DeclaredLid = omega arith
+
 pub fields : (c : ColumnDescriptor) → Fits c → Fields c
 fields c f =
     let n = bit (c .nullable) in
     let o = order-bit (c .«byte_order») in
+    let r = reference-bit (c .«extdta_reference_length») in
     let t = named (c .«db2_type») (f .kind) in
     let k : packType (c .«db2_type») < 2 ^ 24 = omega (arith, t .place, t .numbers) in
     record {
@@ -61,6 +74,7 @@ fields c f =
       null = omega arith;
       little = omega arith;
       reference = omega arith;
+      origin = omega arith;
       long = omega arith;
       digits = omega arith;
       point = omega arith;

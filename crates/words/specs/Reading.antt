@@ -6,6 +6,8 @@ use mathlib.Core.Option.{Option, some, none}
 use lib.Dec.{eqb}
 use Rattle.types.specs.declared.ByteOrder.{ByteOrder}
 use Rattle.types.specs.declared.ByteOrder.the-variants.{BigEndian, LittleEndian}
+use Rattle.types.specs.declared.Origin.{Origin}
+use Rattle.types.specs.declared.Origin.the-variants.{Sda, UndeclaredLid, DeclaredLid}
 use Rattle.types.specs.declared.ReferenceLength.{ReferenceLength}
 use Rattle.types.specs.declared.ReferenceLength.the-variants.{Absent, Width}
 use Rattle.types.specs.declared.ColumnDescriptor.{ColumnDescriptor}
@@ -18,6 +20,10 @@ orderNamed bit = cond (eqb bit 1) LittleEndian BigEndian
 abbrev pub referenceNamed : ℕ → ℕ → ReferenceLength
 referenceNamed bit n = cond (eqb bit 1) (Width n) Absent
 
+-- there is no origin of the number 3: it names that of 0, so that the words are no column's
+abbrev pub originNamed : ℕ → Origin
+originNamed n = cond (eqb n 1) UndeclaredLid (cond (eqb n 2) DeclaredLid Sda)
+
 -- the column that the bits of two words name, each field from its place in the layout
 unfoldable pub columnNamed : ℕ → ℕ → ColumnDescriptor
 columnNamed first second =
@@ -28,6 +34,7 @@ columnNamed first second =
       precision = second / 2 ^ 16 % 2 ^ 8;
       scale = second / 2 ^ 24 % 2 ^ 8;
       nullable = eqb (first / 2 ^ 48 % 2) 1;
+      origin = originNamed (first / 2 ^ 51 % 2 ^ 2);
       ccsid = second / 2 ^ 32 % 2 ^ 16;
       «db2_type» = typeNamed (first % 2 ^ 8) (first / 2 ^ 8 % 2 ^ 16);
       «byte_order» = orderNamed (first / 2 ^ 49 % 2);

@@ -9,6 +9,8 @@ use Rattle.types.specs.Names.{nameOf, ownNumbers, isAbsent, isLittleEndian}
 use Rattle.types.specs.declared.Db2Type.{Db2Type}
 use Rattle.types.specs.declared.Db2Type.the-variants as type
 use Rattle.types.specs.declared.ByteOrder.{ByteOrder}
+use Rattle.types.specs.declared.Origin.{Origin}
+use Rattle.types.specs.declared.Origin.the-variants.{Sda, UndeclaredLid, DeclaredLid}
 use Rattle.types.specs.declared.ReferenceLength.{ReferenceLength}
 use Rattle.types.specs.declared.ReferenceLength.the-variants.{Absent, Width}
 use Rattle.types.specs.declared.ColumnDescriptor.{ColumnDescriptor}
@@ -30,8 +32,13 @@ abbrev pub referenceWidth : ReferenceLength → ℕ
 referenceWidth Absent = 0
 referenceWidth (Width n) = n
 
+abbrev pub originNumber : Origin → ℕ
+originNumber Sda = 0
+originNumber UndeclaredLid = 1
+originNumber DeclaredLid = 2
+
 -- bits 0 to 23 the type word, 24 to 31 the DRDA type code, 32 to 47 the column's number, 48 nullable, 49 little-endian, 50 whether a reference
--- length is there; bits 51 to 63 are 0
+-- length is there, 51 and 52 the origin; bits 53 to 63 are 0
 abbrev pub firstWord : ColumnDescriptor → ℕ
 firstWord c =
     packType (c .«db2_type»)
@@ -40,6 +47,7 @@ firstWord c =
     + cond (c .nullable) 1 0 * 2 ^ 48
     + littleEndianBit (c .«byte_order») * 2 ^ 49
     + referenceBit (c .«extdta_reference_length») * 2 ^ 50
+    + originNumber (c .origin) * 2 ^ 51
 
 -- bits 0 to 15 the length, 16 to 23 the precision, 24 to 31 the scale, 32 to 47 the CCSID, 48 to 63 the reference length
 abbrev pub secondWord : ColumnDescriptor → ℕ

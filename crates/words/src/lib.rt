@@ -9,6 +9,7 @@ use types::ByteOrder;
 use types::ColumnDescriptor;
 use types::Db2Type;
 use types::Db2Value;
+use types::Origin;
 use types::Place;
 use types::ReferenceLength;
 use types::ValuePlace;
@@ -21,9 +22,9 @@ ghost use mir.Syntax.{w64};
 ghost use mir.Val.{ofZ};
 ghost use Rattle.types.specs.Names.{nameOf, ownNumbers};
 ghost use Rattle.types.specs.Held.{floatBits};
-ghost use Rattle.words.specs.Words.{packType, littleEndianBit, referenceBit, referenceWidth, firstWord, secondWord, typeNamed, readType};
+ghost use Rattle.words.specs.Words.{packType, littleEndianBit, referenceBit, referenceWidth, originNumber, firstWord, secondWord, typeNamed, readType};
 ghost use Rattle.words.specs.Told.{toldType};
-ghost use Rattle.words.specs.Reading.{orderNamed, referenceNamed, columnNamed, isColumn};
+ghost use Rattle.words.specs.Reading.{orderNamed, referenceNamed, originNamed, columnNamed, isColumn};
 ghost use Rattle.words.specs.Values.{sortWord, numberWord, lengthWord, kindWord};
 ghost use Rattle.words.specs.ValueReading.{variantNamed, valueNamed};
 
@@ -162,18 +163,30 @@ fn reference_width(reference: ReferenceLength) -> u16
     }
 }
 
+fn origin_number(origin: Origin) -> u64
+    ensures { λ r. ⌜ (r ≡ originNumber origin) × (r ≤ 2) ⌝ }
+{
+    match origin {
+        Origin::Sda => 0,
+        Origin::UndeclaredLid => 1,
+        Origin::DeclaredLid => 2,
+    }
+}
+
 pub fn column_words(c: ColumnDescriptor) -> ColumnWords
     ensures { λ r. ⌜ (r .first ≡ firstWord c) × (r .second ≡ secondWord c) ⌝ }
 {
     let db2_type = c.db2_type;
     let order = c.byte_order;
+    let origin = c.origin;
     let reference = c.extdta_reference_length;
     let first = type_word(db2_type)
         + (c.drda_type as u64) * 0x100_0000
         + (c.column_index as u64) * 0x1_0000_0000
         + flag_bit(c.nullable) * 0x1_0000_0000_0000
         + little_endian_bit(order) * 0x2_0000_0000_0000
-        + reference_bit(reference) * 0x4_0000_0000_0000;
+        + reference_bit(reference) * 0x4_0000_0000_0000
+        + origin_number(origin) * 0x8_0000_0000_0000;
     let second = (c.length as u64)
         + (c.precision as u64) * 0x1_0000
         + (c.scale as u64) * 0x100_0000
@@ -255,6 +268,18 @@ fn reference_named(bit: u64, n: u16) -> ReferenceLength
     ReferenceLength::Absent
 }
 
+fn origin_named(n: u64) -> Origin
+    ensures { λ r. ⌜ r ≡ originNamed n ⌝ }
+{
+    if n == 1 {
+        return Origin::UndeclaredLid;
+    }
+    if n == 2 {
+        return Origin::DeclaredLid;
+    }
+    Origin::Sda
+}
+
 // The type that the bits of a column's first word name.
 pub fn type_of(first: u64) -> Db2Type
     ensures { λ r. ⌜ r ≡ typeNamed (first % 2 ^ 8) (first / 2 ^ 8 % 2 ^ 16) ⌝ }
@@ -277,14 +302,22 @@ pub fn column_named(first: u64, second: u64) -> ColumnDescriptor
     let width = (second / 0x1_0000_0000_0000 % 0x1_0000) as u16;
     let extdta_reference_length = reference_named(first / 0x4_0000_0000_0000 % 2, width);
     let byte_order = order_named(first / 0x2_0000_0000_0000 % 2);
+    let origin = origin_named(first / 0x8_0000_0000_0000 % 4);
+    let column_index = (first / 0x1_0000_0000 % 0x100) as u8;
+    let drda_type = (first / 0x100_0000 % 0x100) as u8;
+    let length = (second % 0x1_0000) as u16;
+    let precision = (second / 0x1_0000 % 0x100) as u8;
+    let scale = (second / 0x100_0000 % 0x100) as u8;
+    let ccsid = (second / 0x1_0000_0000 % 0x1_0000) as u16;
     ColumnDescriptor {
-        column_index: (first / 0x1_0000_0000 % 0x100) as u8,
-        drda_type: (first / 0x100_0000 % 0x100) as u8,
-        length: (second % 0x1_0000) as u16,
-        precision: (second / 0x1_0000 % 0x100) as u8,
-        scale: (second / 0x100_0000 % 0x100) as u8,
+        column_index,
+        drda_type,
+        length,
+        precision,
+        scale,
         nullable: first / 0x1_0000_0000_0000 % 2 == 1,
-        ccsid: (second / 0x1_0000_0000 % 0x1_0000) as u16,
+        origin,
+        ccsid,
         db2_type,
         byte_order,
         extdta_reference_length,
@@ -329,18 +362,18 @@ fn holds(tag: u8, n: u16) -> bool
     }
 }
 
-// Whether two words are a column's. A column's number has 8 bits of its 16, nothing stands above its bits, and a reference length is 0 where
-// there is none.
+// Whether two words are a column's. A column's number has 8 bits of its 16, there are three origins and nothing stands above them, and a reference length
+// is 0 where there is none.
 pub fn is_column(first: u64, second: u64) -> bool
     ensures { λ r. ⌜ r ≡ isColumn first second ⌝ }
 {
     if first / 0x100_0000_0000 % 0x100 != 0 {
         return false;
     }
-    if 0x8_0000_0000_0000 <= first {
+    if 0x18_0000_0000_0000 <= first {
         return false;
     }
-    if first / 0x4_0000_0000_0000 * 0xFFFF < second / 0x1_0000_0000_0000 {
+    if first / 0x4_0000_0000_0000 % 2 * 0xFFFF < second / 0x1_0000_0000_0000 {
         return false;
     }
     holds((first % 0x100) as u8, (first / 0x100 % 0x1_0000) as u16)

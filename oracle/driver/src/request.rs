@@ -1,8 +1,9 @@
 //! Requests and answers, line by line. A line is a request, or a request with an answer behind ` A `, which is dropped, and with
 //! it the columns of a `Q` line. A request may write one byte many times, as `00*1048577`, also among other bytes, as `41+00*300+42`. A request in lower
-//! case asks for all that the port answers, also what the Rust lacks; where it writes a byte so, the answer does too. Other answers never do.
+//! case asks for all that the port answers, also what the Rust lacks, and its columns have their origins; where it writes a byte so, the answer does too. Other
+//! answers never do.
 use crate::leaf::{Answer, Leaf, PRECISION};
-use port::column::{Column, Name, Numbers, Order, Type, NAMES};
+use port::column::{Column, Name, Numbers, Order, Origin, Type, NAMES};
 use std::fmt;
 
 /// How much of an answer a line shows.
@@ -30,6 +31,14 @@ impl Form {
                 format!("{} {RELEASE} {rest}", kind.to_lowercase())
             }
             _ => line,
+        }
+    }
+
+    /// A column in this form.
+    pub fn column(self, column: &Column) -> String {
+        match self {
+            Form::Shared => column.to_string(),
+            Form::Whole => column.with_origin(),
         }
     }
 }
@@ -66,7 +75,7 @@ pub fn parse(line: &str) -> Result<(Form, Request), String> {
     let fields: Vec<&str> = asked.split(' ').collect();
     let of_kind = |kind, rest: &[&str]| {
         let fields = [&[kind], rest].concat();
-        Ok((Form::Whole, request(asked, &fields)?))
+        Ok((Form::Whole, request(Form::Whole, asked, &fields)?))
     };
     match fields[..] {
         ["t", RELEASE, ref rest @ ..] => of_kind("T", rest),
@@ -74,12 +83,12 @@ pub fn parse(line: &str) -> Result<(Form, Request), String> {
         ["q", RELEASE, ref rest @ ..] => of_kind("Q", rest),
         ["h", RELEASE, ref rest @ ..] => of_kind("H", rest),
         ["t" | "g" | "q" | "h", ..] => Err(format!("no release that is answered: {}", cut(asked))),
-        _ => Ok((Form::Shared, request(asked, &fields)?)),
+        _ => Ok((Form::Shared, request(Form::Shared, asked, &fields)?)),
     }
 }
 
-/// What fields in upper case ask; `asked` is their line.
-fn request(asked: &str, fields: &[&str]) -> Result<Request, String> {
+/// What fields ask, those of a line in lower case with its kind in upper case and without its release; `asked` is their line.
+fn request(form: Form, asked: &str, fields: &[&str]) -> Result<Request, String> {
     match *fields {
         ["T", ccsid, data] => {
             let ccsid = number(ccsid)?;
@@ -99,7 +108,7 @@ fn request(asked: &str, fields: &[&str]) -> Result<Request, String> {
             let columns: Result<Vec<Column>, String> = columns
                 .iter()
                 .enumerate()
-                .map(|(place, field)| column(place, field))
+                .map(|(place, field)| column(form, place, field))
                 .collect();
             Ok(Request::Row {
                 columns: columns?,
@@ -130,9 +139,16 @@ fn call(leaf: Leaf, data: &str) -> Result<Request, String> {
     Ok(Request::Leaf(Call { leaf, data }))
 }
 
-/// A column by its fields; its number is its place.
-fn column(place: usize, field: &str) -> Result<Column, String> {
+/// A column by its fields; its number is its place. One without an origin behind its other fields is an SDA's.
+fn column(form: Form, place: usize, field: &str) -> Result<Column, String> {
     let none = || format!("no column: {}", cut(field));
+    let (field, origin) = match form {
+        Form::Shared => (field, Origin::Sda),
+        Form::Whole => {
+            let (field, letter) = field.rsplit_once(':').ok_or_else(none)?;
+            (field, origin(letter).ok_or_else(none)?)
+        }
+    };
     let fields: Vec<&str> = field.split(':').collect();
     let [db2_type, code, length, precision, scale, nullable, ccsid, reference, order] = fields[..]
     else {
@@ -163,7 +179,17 @@ fn column(place: usize, field: &str) -> Result<Column, String> {
             "L" => Order::Little,
             _ => return Err(none()),
         },
+        origin,
     })
+}
+
+fn origin(letter: &str) -> Option<Origin> {
+    match letter {
+        "S" => Some(Origin::Sda),
+        "U" => Some(Origin::UndeclaredLid),
+        "D" => Some(Origin::DeclaredLid),
+        _ => None,
+    }
 }
 
 /// A type by its name and, behind points, its numbers.
@@ -306,21 +332,25 @@ impl fmt::Display for Hex<'_> {
     }
 }
 
-impl fmt::Display for Request {
-    fn fmt(&self, f: &mut fmt::Formatter<'_>) -> fmt::Result {
-        match self {
-            Request::Leaf(call) => call.fmt(f),
-            Request::Description { data, row } => write!(f, "Q {} R {}", Hex(data), Hex(row)),
+impl Request {
+    /// The request's line in a form.
+    pub fn shown(&self, form: Form) -> String {
+        form.of(match self {
+            Request::Leaf(call) => call.to_string(),
+            Request::Description { data, row } => format!("Q {} R {}", Hex(data), Hex(row)),
             Request::Row { columns, data } => {
-                write!(f, "H {}", columns.len())?;
-                for column in columns {
-                    write!(f, " {column}")?;
-                }
-                write!(f, " R {}", Hex(data))
+                let count = columns.len();
+                format!("H {count}{} R {}", columns_shown(form, columns), Hex(data))
             }
-            Request::FixedLength(asked) => write!(f, "F {asked}"),
-        }
+            Request::FixedLength(asked) => format!("F {asked}"),
+        })
     }
+}
+
+/// Columns, each behind a space.
+pub fn columns_shown(form: Form, columns: &[Column]) -> String {
+    let columns = columns.iter().map(|column| form.column(column));
+    columns.map(|column| " ".to_string() + &column).collect()
 }
 
 impl fmt::Display for Call {
@@ -372,7 +402,7 @@ mod tests {
     /// The request of a line, written again.
     fn again(line: &str) -> String {
         let (form, request) = parse(line).unwrap();
-        form.of(request.to_string())
+        request.shown(form)
     }
 
     #[test]
@@ -382,7 +412,9 @@ mod tests {
             "g 2 13488 -",
             "q 2 0576D00500 R -",
             "h 2 0 R -",
-            "h 2 1 Blob:C8:32768:0:0:0:0:0:L R -",
+            "h 2 1 Blob:C8:32768:0:0:0:0:0:L:S R -",
+            "h 2 1 Integer:02:4:0:0:0:0:-:B:U R 0000002A",
+            "h 2 3 Char.3:31:3:0:0:1:37:65535:L:D Xml:DC:0:0:0:0:0:-:B:S Xml:DC:0:0:0:0:0:-:L:U R -",
             "T 1208 C141",
             "G 13488 0041D800",
             "G 0 -",
@@ -410,6 +442,13 @@ mod tests {
         assert_eq!(again("H 0 R 00 A OK 0 - 0"), "H 0 R 00");
         assert_eq!(again("t 2 1208 C1 A EFBFBD 1"), "t 2 1208 C1");
         assert_eq!(again("q 2 - R 00 C 0 A OK 0 - 0 0"), "q 2 - R 00");
+        let described = "q 2 0676D0020004 R 0000002A";
+        assert_eq!(
+            again(&format!(
+                "{described} C 1 Integer:02:4:0:0:0:0:-:B:U A OK 4 - 0 0 I:42"
+            )),
+            described
+        );
         for answer in [
             "C 0 A OK 0 - 0",
             "C - A REFUSE2",
@@ -418,6 +457,21 @@ mod tests {
             let line = format!("Q 0570DC0000 R 00 {answer}");
             assert_eq!(again(&line), "Q 0570DC0000 R 00");
         }
+    }
+
+    /// The origins of a request's columns: those of a line in upper case are SDAs'.
+    #[test]
+    fn columns_have_the_origin_behind_them() {
+        let origins = |line: &str| match parse(line).unwrap() {
+            (_, Request::Row { columns, .. }) => columns.iter().map(|c| c.origin).collect(),
+            _ => Vec::new(),
+        };
+        let column = "Integer:02:4:0:0:0:0:-:B";
+        assert_eq!(
+            origins(&format!("h 2 3 {column}:U {column}:S {column}:D R -")),
+            [Origin::UndeclaredLid, Origin::Sda, Origin::DeclaredLid]
+        );
+        assert_eq!(origins(&format!("H 1 {column} R -")), [Origin::Sda]);
     }
 
     #[test]
@@ -519,6 +573,17 @@ mod tests {
             "g 2 C1",
             "q 2 -",
             "q - R -",
+            "H 1 Xml:DC:0:0:0:0:0:-:L:S R -",
+            "H 1 Xml:DC:0:0:0:0:0:-:L:U R -",
+            "h 2 1 Xml:DC:0:0:0:0:0:-:L R -",
+            "h 2 2 Xml:DC:0:0:0:0:0:-:L:S Xml:DC:0:0:0:0:0:-:L R -",
+            "h 2 1 Xml:DC:0:0:0:0:0:-:L: R -",
+            "h 2 1 Xml:DC:0:0:0:0:0:-:L:B R -",
+            "h 2 1 Xml:DC:0:0:0:0:0:-:L:s R -",
+            "h 2 1 Xml:DC:0:0:0:0:0:-:L:SU R -",
+            "h 2 1 Xml:DC:0:0:0:0:0:-:L:S:S R -",
+            "h 2 1 Xml:DC:0:0:0:0:0:-:S:L R -",
+            "h 2 1 Xml:DC:0:0:0:0:0:-:S R -",
             "h 2 1 R -",
             "h 1 0 R -",
             "l 2 00",

@@ -151,6 +151,18 @@ pub enum Order {
     Little,
 }
 
+/// Where a description has a column from. An origin's place is its number in a column's first word.
+#[derive(Debug, Clone, Copy, PartialEq, Eq)]
+pub enum Origin {
+    Sda,
+    /// A LID of a D0 group that no entry declares,
+    UndeclaredLid,
+    /// or that one declares.
+    DeclaredLid,
+}
+
+pub const ORIGINS: [Origin; 3] = [Origin::Sda, Origin::UndeclaredLid, Origin::DeclaredLid];
+
 /// A column descriptor.
 #[derive(Debug, Clone, Copy, PartialEq, Eq)]
 pub struct Column {
@@ -164,10 +176,11 @@ pub struct Column {
     pub ccsid: u16,
     pub reference: Option<u16>,
     pub order: Order,
+    pub origin: Origin,
 }
 
 impl Column {
-    /// None where the words are no column's: no type, a spare bit that is not 0, or a reference length that is not there.
+    /// None where the words are no column's: no type, no origin, a spare bit that is not 0, or a reference length that is not there.
     pub fn from_words(words: [u64; 2]) -> Option<Column> {
         let [first, second] = words;
         let column = Column {
@@ -184,6 +197,7 @@ impl Column {
                 0 => Order::Big,
                 _ => Order::Little,
             },
+            origin: *ORIGINS.get(bits(first, 51, 2) as usize)?,
         };
         (column.words() == words).then_some(column)
     }
@@ -194,13 +208,24 @@ impl Column {
             | u64::from(self.index) << 32
             | u64::from(self.nullable) << 48
             | u64::from(self.order == Order::Little) << 49
-            | u64::from(self.reference.is_some()) << 50;
+            | u64::from(self.reference.is_some()) << 50
+            | (self.origin as u64) << 51;
         let second = u64::from(self.length)
             | u64::from(self.precision) << 16
             | u64::from(self.scale) << 24
             | u64::from(self.ccsid) << 32
             | u64::from(self.reference.unwrap_or(0)) << 48;
         [first, second]
+    }
+
+    /// The column as a line in lower case has it: its origin behind the fields of the others.
+    pub fn with_origin(&self) -> String {
+        let origin = match self.origin {
+            Origin::Sda => 'S',
+            Origin::UndeclaredLid => 'U',
+            Origin::DeclaredLid => 'D',
+        };
+        format!("{self}:{origin}")
     }
 }
 
@@ -223,7 +248,7 @@ impl fmt::Display for Type {
     }
 }
 
-/// All fields but the number, which a line does not show.
+/// All fields but the number, which a line does not show, and the origin, which one in upper case does not.
 impl fmt::Display for Column {
     fn fmt(&self, f: &mut fmt::Formatter<'_>) -> fmt::Result {
         let Column {
@@ -277,10 +302,23 @@ mod tests {
         let column = Column::from_words(words).unwrap();
         assert_eq!(column.to_string(), "Blob:C9:32772:5:2:1:1208:4:L");
         assert_eq!((column.index, column.words()), (3, words));
-        for bit in 51..64 {
+        for bit in 53..64 {
             assert_eq!(Column::from_words([words[0] | 1 << bit, words[1]]), None);
         }
         assert_eq!(Column::from_words([words[0] ^ 1 << 50, words[1]]), None);
         assert_eq!(Column::from_words([words[0] | 1 << 8, words[1]]), None);
+    }
+
+    #[test]
+    fn three_numbers_are_an_origin() {
+        let words = |origin: u64| [origin << 51 | 0x0003_C9_00_00_0D, 0];
+        for (number, (origin, letter)) in ORIGINS.into_iter().zip(["S", "U", "D"]).enumerate() {
+            let words = words(number as u64);
+            let column = Column::from_words(words).unwrap();
+            assert_eq!((column.origin, column.words()), (origin, words));
+            let shown = column.with_origin();
+            assert_eq!(shown, format!("Blob:C9:0:0:0:0:0:-:B:{letter}"));
+        }
+        assert_eq!(Column::from_words(words(3)), None);
     }
 }

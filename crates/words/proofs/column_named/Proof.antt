@@ -22,27 +22,30 @@ reference-named-requires c κs = search needs
 order-named-requires : tie.Need-order-named-requires
 order-named-requires c κs = search needs
 
-cast-t8 : tie.Need-cast-t8
-cast-t8 c = search needs
+origin-named-requires : tie.Need-origin-named-requires
+origin-named-requires c κs = search needs
 
-cast-t13 : tie.Need-cast-t13
-cast-t13 c = search needs
+cast-column-index : tie.Need-cast-column-index
+cast-column-index c = search needs
 
-cast-t11 : tie.Need-cast-t11
-cast-t11 c = search needs
+cast-drda-type : tie.Need-cast-drda-type
+cast-drda-type c = search needs
 
-cast-t17 : tie.Need-cast-t17
-cast-t17 c = search needs
+cast-length : tie.Need-cast-length
+cast-length c = search needs
 
-cast-t20 : tie.Need-cast-t20
-cast-t20 c = search needs
+cast-precision : tie.Need-cast-precision
+cast-precision c = search needs
 
-cast-t26 : tie.Need-cast-t26
-cast-t26 c = search needs
+cast-scale : tie.Need-cast-scale
+cast-scale c = search needs
+
+cast-ccsid : tie.Need-cast-ccsid
+cast-ccsid c = search needs
 
 returns : tie.Need-returns
 unfolding columnNamed
-returns c = rw (c .before .before .type-named .ensures, c .before .reference-named .ensures, c .order-named .ensures)
+returns c = rw (c .before .before .before .type-named .ensures, c .before .before .reference-named .ensures, c .before .order-named .ensures, c .origin-named .ensures)
 
 pub column-named-spec : {M : Type 1} → statement M
 column-named-spec =
@@ -54,10 +57,11 @@ column-named-spec =
     cast-width
     reference-named-requires
     order-named-requires
-    cast-t8
-    cast-t13
-    cast-t11
-    cast-t17
-    cast-t20
-    cast-t26
+    origin-named-requires
+    cast-column-index
+    cast-drda-type
+    cast-length
+    cast-precision
+    cast-scale
+    cast-ccsid
     returns)

@@ -51,6 +51,15 @@ mul-first-5 c = search needs
 add-first-5 : tie.Need-add-first-5
 add-first-5 c = search needs
 
+origin-number-requires : tie.Need-origin-number-requires
+origin-number-requires c κs = search needs
+
+mul-first-6 : tie.Need-mul-first-6
+mul-first-6 c = search needs
+
+add-first-6 : tie.Need-add-first-6
+add-first-6 c = search needs
+
 cast-second : tie.Need-cast-second
 cast-second c = search needs
 
@@ -116,6 +125,9 @@ column-words-spec =
     reference-bit-requires
     mul-first-5
     add-first-5
+    origin-number-requires
+    mul-first-6
+    add-first-6
     cast-second
     cast-second-2
     mul-second

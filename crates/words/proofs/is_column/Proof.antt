@@ -15,7 +15,7 @@ mul-if3 : tie.Need-mul-if3
 mul-if3 c = search needs
 
 returns-3 : tie.Need-returns-3
-returns-3 c = width-alone (c .before .before .before .args .first) (c .before .before .before .args .second) (c .before .if2 .left) (c .if3 .taken)
+returns-3 c = width-alone (c .before .before .before .args .first) (c .before .before .before .args .second) (c .if3 .taken)
 
 cast-holds : tie.Need-cast-holds
 cast-holds c = search needs

@@ -40,7 +40,7 @@ fn rust_answer(form: Form, request: &Request) -> String {
         }
         Request::Description { data, row } => {
             let description = descriptions::rust_side::describe(data);
-            described(&description, |list| {
+            described(form, &description, |list| {
                 rows::rust_side::answer(list, row).shown(form, row)
             })
         }
@@ -67,7 +67,7 @@ impl Port {
             }
             Request::Description { data, row } => {
                 let description = self.descriptions.describe(data);
-                described(&description, |list| {
+                described(form, &description, |list| {
                     self.rows.answer(&list.words, row).shown(form, row)
                 })
             }
@@ -81,10 +81,11 @@ impl Port {
 }
 
 /// The answer to a description and, where there are columns, the row's answer with them.
-fn described(description: &Description, row: impl FnOnce(&List) -> String) -> String {
+fn described(form: Form, description: &Description, row: impl FnOnce(&List) -> String) -> String {
+    let shown = description.shown(form);
     match description {
-        Description::Columns(columns) => format!("{description} A {}", row(&List::of(columns))),
-        _ => description.to_string(),
+        Description::Columns(columns) => format!("{shown} A {}", row(&List::of(columns))),
+        _ => shown,
     }
 }
 

@@ -5,6 +5,7 @@ use differential::descriptions::compare::{Counts, Run, Stage};
 use differential::descriptions::faults::{Faulty, FAULTS};
 use differential::descriptions::port_side::{Archive, Library};
 use differential::run::Until;
+use port::column::{Origin, ORIGINS};
 use std::process::ExitCode;
 
 fn main() -> ExitCode {
@@ -20,12 +21,24 @@ fn run<L: Library>(library: L, until: Until, seed: u64) -> Report {
     let end = run.from(Stage::Types);
     let descriptions = grouped(run.counts.descriptions());
     let types = grouped(run.counts.types());
+    // No description has a column of type Null.
+    let mut counts = counted(&answers(&run.counts), &run.counts.by_name);
+    let by_origin = run.counts.by_origin.into_iter().zip(ORIGINS);
+    counts.extend(by_origin.map(|(count, origin)| (count, came_from(origin))));
     Report {
-        // No description has a column of type Null.
-        counts: counted(&answers(&run.counts), &run.counts.by_name),
+        counts,
         cases: format!("{descriptions} descriptions and {types} types"),
         end,
     }
+}
+
+fn came_from(origin: Origin) -> String {
+    let origin = match origin {
+        Origin::Sda => "an SDA",
+        Origin::UndeclaredLid => "an undeclared LID",
+        Origin::DeclaredLid => "a declared LID",
+    };
+    format!("columns from {origin}")
 }
 
 fn answers(counts: &Counts) -> [(u64, &'static str); 7] {

@@ -30,7 +30,7 @@ fn run<L: Library>(library: L, until: Until, seed: u64) -> Report {
     }
 }
 
-fn answers(counts: &Counts) -> [(u64, &'static str); 15] {
+fn answers(counts: &Counts) -> [(u64, &'static str); 17] {
     [
         (counts.accepted, "accepted"),
         (
@@ -50,6 +50,11 @@ fn answers(counts: &Counts) -> [(u64, &'static str); 15] {
             counts.replaced_by_value,
             "by value too, with characters replaced",
         ),
+        (
+            counts.contradicted,
+            "accepted with an origin that contradicts the byte order",
+        ),
+        (counts.other_origins, "with other origins too"),
         (counts.alone, "demand 3: the bytes used alone"),
         (counts.longer, "demand 3: a longer input"),
         (counts.shorter, "demand 3: a shorter beginning"),

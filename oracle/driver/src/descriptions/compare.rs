@@ -4,10 +4,10 @@ use super::inputs::{self, KINDS};
 use super::port_side::{Library, PortSide};
 use super::{rust_side, Description, FixedLength};
 use crate::random::Random;
-use crate::request::Request;
+use crate::request::{Form, Request};
 use crate::run::{self, Difference, End, Flow, Until};
 use crate::shrink::Shrinking;
-use port::column::{Name, Numbers, Type, NAMES};
+use port::column::{Name, Numbers, Type, NAMES, ORIGINS};
 use port::NO_TYPE_WORD;
 use std::ops::ControlFlow::{Break, Continue};
 
@@ -32,7 +32,7 @@ const STAGES: [Stage; 5] = [
 /// The longest sequences of triplets that are all tried.
 const LONGEST: usize = 4;
 
-/// How many cases ran, by the Rust's answer, and how many columns by their type.
+/// How many cases ran, by the Rust's answer, and how many columns by their type and by their origin.
 #[derive(Default)]
 pub struct Counts {
     pub no_column: u64,
@@ -43,6 +43,7 @@ pub struct Counts {
     pub varies: u64,
     pub no_type: u64,
     pub by_name: [u64; NAMES.len()],
+    pub by_origin: [u64; ORIGINS.len()],
 }
 
 impl Counts {
@@ -61,6 +62,7 @@ impl Counts {
                 self.columns += 1;
                 for column in columns {
                     self.by_name[column.db2_type.name as usize] += 1;
+                    self.by_origin[column.origin as usize] += 1;
                 }
             }
             Description::Refusal(1) => self.refused_1 += 1,
@@ -141,7 +143,7 @@ impl<L: Library> Run<L> {
         }
         // The format has no line for a word that is no type's: the call is named, so that no one takes it for a request.
         let request = match asked {
-            Some(asked) => Request::FixedLength(asked).to_string(),
+            Some(asked) => Request::FixedLength(asked).shown(Form::Shared),
             None => format!("vejupa_raw_fixed_length(0x{word:X})"),
         };
         Break(End::Different(Box::new(Difference {
@@ -235,13 +237,15 @@ pub fn smallest<L: Library>(port: &mut PortSide<L>, data: &[u8]) -> Difference {
     let rust = rust_side::describe(&smallest);
     let port = port.describe(&smallest);
     let lengths = Some((smallest.len(), data.len()));
+    let form = Form::telling(rust.shown(Form::Shared) != port.shown(Form::Shared));
     let request = Request::Description {
         data: smallest,
         row: Vec::new(),
     };
+    let request = request.shown(form);
     Difference {
-        rust: format!("{request} {rust}"),
-        port: format!("{request} {port}"),
+        rust: format!("{request} {}", rust.shown(form)),
+        port: format!("{request} {}", port.shown(form)),
         lengths,
     }
 }

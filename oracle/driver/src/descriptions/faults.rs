@@ -1,8 +1,8 @@
 //! Libraries with a fault, to see that the differential run notices each. A fault shows only on some inputs, as a real one would.
 use super::inputs::triplets;
 use super::port_side::{Archive, Library, AMPLE};
-use super::{COLUMN_LIMIT, DESCRIPTION_LIMIT};
-use port::column::{Column, Name, Order};
+use super::{wrong_origins, COLUMN_LIMIT, DESCRIPTION_LIMIT};
+use port::column::{Column, Name, Order, Origin};
 use port::{Described, FixedLength, TOO_FEW_WORDS};
 
 #[derive(Debug, Clone, Copy, PartialEq, Eq)]
@@ -57,9 +57,50 @@ pub enum Fault {
     LobBit,
     /// A word with a bit above a type's is taken.
     HighBitTaken,
+    // Origins.
+    /// Every LID is undeclared,
+    AllUndeclared,
+    /// or declared,
+    AllDeclared,
+    /// or the one where it is the other.
+    OriginsSwapped,
+    /// A declared LID is number 3.
+    OriginThree,
+    /// An entry behind a group declares,
+    LaterEntryDeclares,
+    /// or one within a group of inner triplets,
+    InnerEntryDeclares,
+    /// or an SDA behind an MDD without data, which is a column,
+    EmptyMddDeclares,
+    /// or one without data, LID 00.
+    EmptySdaDeclares,
+    /// An entry of type 00 does not declare,
+    TypeZeroUndeclared,
+    /// or one of CCSID 0,
+    CcsidZeroUndeclared,
+    /// or one of LID 00,
+    LidZeroUndeclared,
+    /// or one whose type is its LID.
+    SameTypeUndeclared,
+    /// A second entry for a LID takes the first one back.
+    SecondEntryUndeclares,
+    /// An entry declares for the next group alone.
+    EntriesForOneGroup,
+    /// The columns of a group all have the first one's origin.
+    FirstOfGroup,
+    /// A LID keeps the origin that it had in the first group.
+    FirstUse,
+    /// A column has the origin of the one before it.
+    PreviousOrigin,
+    /// An SDA is an undeclared LID,
+    SdaIsLid,
+    /// or an inner one is,
+    InnerSdaIsLid,
+    /// or one whose code is a declared LID is that.
+    SdaOfDeclaredCode,
 }
 
-pub const FAULTS: [Fault; 25] = [
+pub const FAULTS: [Fault; 45] = [
     Fault::LaterEntry,
     Fault::GroupReal,
     Fault::GroupVarChar,
@@ -85,6 +126,26 @@ pub const FAULTS: [Fault; 25] = [
     Fault::GraphicCharacters,
     Fault::LobBit,
     Fault::HighBitTaken,
+    Fault::AllUndeclared,
+    Fault::AllDeclared,
+    Fault::OriginsSwapped,
+    Fault::OriginThree,
+    Fault::LaterEntryDeclares,
+    Fault::InnerEntryDeclares,
+    Fault::EmptyMddDeclares,
+    Fault::EmptySdaDeclares,
+    Fault::TypeZeroUndeclared,
+    Fault::CcsidZeroUndeclared,
+    Fault::LidZeroUndeclared,
+    Fault::SameTypeUndeclared,
+    Fault::SecondEntryUndeclares,
+    Fault::EntriesForOneGroup,
+    Fault::FirstOfGroup,
+    Fault::FirstUse,
+    Fault::PreviousOrigin,
+    Fault::SdaIsLid,
+    Fault::InnerSdaIsLid,
+    Fault::SdaOfDeclaredCode,
 ];
 
 /// The archive with a fault.
@@ -197,15 +258,25 @@ impl Faulty {
     }
 
     /// Puts the fault into the words, where it is one of them.
-    fn wrong_words(&self, answer: Described, words: &mut [u64]) {
+    fn wrong_words(&self, data: &[u8], answer: Described, words: &mut [u64]) {
         let used = match answer.number {
             0 => 2 * answer.count,
             _ => 0,
         };
-        for pair in words[..used].as_chunks_mut::<2>().0 {
-            let mut column = Column::from_words(*pair).expect("the archive's columns are some");
-            self.wrong_column(&mut column);
+        let pairs = words[..used].as_chunks_mut::<2>().0;
+        let read = |pair: &[u64; 2]| Column::from_words(*pair).expect("the archive's columns");
+        let mut columns: Vec<Column> = pairs.iter().map(read).collect();
+        for column in &mut columns {
+            self.wrong_column(column);
+        }
+        if !columns.is_empty() {
+            wrong_origins::put(self.0, data, &mut columns);
+        }
+        for (pair, column) in pairs.iter_mut().zip(columns) {
             *pair = column.words();
+            if self.0 == Fault::OriginThree && column.origin == Origin::DeclaredLid {
+                pair[0] |= 3 << 51;
+            }
         }
         match (self.0, answer.number) {
             (Fault::SpareBit, 0) if used > 0 => words[0] |= 1 << 63,
@@ -229,7 +300,7 @@ impl Library for Faulty {
         if let Some(wrong) = self.wrong_number(data, answer, words.len()) {
             return wrong;
         }
-        self.wrong_words(answer, own);
+        self.wrong_words(data, answer, own);
         words.copy_from_slice(own);
         answer
     }
@@ -289,7 +360,7 @@ mod tests {
             Fault::DeclaredNullable => {
                 "Q 0378510370510676D0510000 R - C 1 LobChar.0:51:0:0:0:1:0:-:B"
             }
-            Fault::DeclaredBinary => "Q 0378300370300676D0300000 R - C 1 Binary.0:30:0:0:0:0:0:-:B",
+            Fault::DeclaredBinary => "Q 0378300370000676D0000000 R - C 1 Binary.0:30:0:0:0:0:0:-:B",
             Fault::IndexFromOne => "Q 037000 R - C - A BADINDEX",
             Fault::ReferenceLost | Fault::ReferenceZero => {
                 "Q 0570C88000 R - C 1 Blob:C8:32768:0:0:0:0:-:L"
@@ -309,8 +380,65 @@ mod tests {
             Fault::GraphicCharacters => "F Graphic.1 A 1",
             Fault::LobBit => "F LobBytes.32768 A 32768",
             Fault::HighBitTaken => "vejupa_raw_fixed_length(0x10000000000) A 2",
+            _ => &of_origin(fault),
         };
         line.to_string()
+    }
+
+    /// The same for the faults of origins.
+    fn of_origin(fault: Fault) -> String {
+        // What is declared, an SDA's column and an undeclared LID's, each without its origin.
+        const DECLARED: &str = "VarChar.0:00:0:0:0:0:0:-:B";
+        const SDA: &str = "VarChar.0:00:0:0:0:0:0:-:L";
+        const UNDECLARED: &str = "VarChar.0:00:0:0:0:0:1208:-:B";
+        let (asked, columns) = match fault {
+            Fault::OriginThree => {
+                return "Q 0378000370000676D0000000 R - C - A BADWORD".to_string();
+            }
+            Fault::AllUndeclared
+            | Fault::TypeZeroUndeclared
+            | Fault::CcsidZeroUndeclared
+            | Fault::LidZeroUndeclared
+            | Fault::SameTypeUndeclared => ("0378000370000676D0000000", format!("1 {DECLARED}:U")),
+            Fault::AllDeclared | Fault::OriginsSwapped => {
+                ("0676D0000000", format!("1 {UNDECLARED}:D"))
+            }
+            Fault::LaterEntryDeclares => ("0676D0000000037800037000", format!("1 {UNDECLARED}:D")),
+            Fault::InnerEntryDeclares => (
+                "08760378000370000676D0000000",
+                format!("2 {SDA}:S {UNDECLARED}:D"),
+            ),
+            Fault::EmptyMddDeclares => (
+                "02780370000676D0000000",
+                format!("2 {SDA}:S {UNDECLARED}:D"),
+            ),
+            Fault::EmptySdaDeclares => ("03780002700676D0000000", format!("1 {UNDECLARED}:D")),
+            Fault::SecondEntryUndeclares => (
+                "0378000370000378000370000676D0000000",
+                format!("1 {DECLARED}:U"),
+            ),
+            // The first group has no column.
+            Fault::EntriesForOneGroup => {
+                ("0378000370000376D00676D0000000", format!("1 {DECLARED}:U"))
+            }
+            Fault::FirstOfGroup => (
+                "0378000370000976D0010000000000",
+                format!("2 VarChar.0:01:0:0:0:1:1208:-:B:U {DECLARED}:U"),
+            ),
+            Fault::FirstUse => (
+                "0676D00000000378000370000676D0000000",
+                format!("2 {UNDECLARED}:U {DECLARED}:U"),
+            ),
+            Fault::PreviousOrigin => ("0370000676D0000000", format!("2 {SDA}:S {UNDECLARED}:S")),
+            Fault::SdaIsLid => ("037000", format!("1 {SDA}:U")),
+            Fault::InnerSdaIsLid => ("0576037000", format!("1 {SDA}:U")),
+            Fault::SdaOfDeclaredCode => (
+                "037800037031037031",
+                "1 Binary.0:31:0:0:0:1:0:-:L:D".to_string(),
+            ),
+            _ => panic!("{fault:?} is none of origins"),
+        };
+        format!("q 2 {asked} R - C {columns}")
     }
 
     fn repeated(part: &str, times: usize, answer: &str) -> String {

@@ -3,11 +3,12 @@ use super::{COLUMN_LIMIT, DESCRIPTION_LIMIT};
 use crate::random::Random;
 use std::ops::Range;
 
-const SDA: u8 = 0x70;
-const RLO: u8 = 0x71;
-const GDA: u8 = 0x76;
-const MDD: u8 = 0x78;
-const COMPACT: u8 = 0xD0;
+pub const SDA: u8 = 0x70;
+pub const RLO: u8 = 0x71;
+pub const GDA: u8 = 0x76;
+pub const MDD: u8 = 0x78;
+/// The first byte of a group of LIDs.
+pub const COMPACT: u8 = 0xD0;
 
 /// Triplets of every kind, to stand in sequences. LID 44 is declared where an MDD with data stands before one of its SDAs; an SDA
 /// that no such MDD precedes is a column. The first two are declarations, so that short sequences have two of them and a
@@ -46,12 +47,12 @@ pub const KINDS: [&[u8]; 40] = [
     &[9, GDA, COMPACT, 0x0F, 0x05, 0x02, 0x44, 0x00, 0x09],
     &[6, GDA, COMPACT, 0xCE, 0x80, 0x0A],
     &[5, GDA, COMPACT, 0x44, 0x00],
-    // Groups of inner triplets: a column, a column behind an unknown one, lengths 0, 1 and too long, no data.
+    // Groups of inner triplets: a column, a column behind an unknown one, lengths 0, 1 and too long, the last behind what would be an entry outside, no data.
     &[7, GDA, 5, SDA, 0x02, 0x00, 0x04],
     &[10, GDA, 3, 0x99, 0x00, 5, SDA, 0x31, 0x00, 0x05],
     &[8, GDA, 3, SDA, 0x44, 0, SDA, 0x02],
     &[5, GDA, 1, SDA, 0x02],
-    &[9, GDA, 3, MDD, 0x31, 5, SDA, 0x02, 0x00],
+    &[12, GDA, 3, MDD, 0x31, 3, SDA, 0x44, 5, SDA, 0x02, 0x00],
     &[2, GDA],
     &[3, RLO, 0x44],
     &[3, 0x75, 0x44],
@@ -119,7 +120,27 @@ pub fn of_code(code: u8) -> Vec<Vec<u8>> {
     }
     all.push(triplet(GDA, &[&[code], &column[..], &column].concat()));
     all.push([&[code], &column[..]].concat().repeat(50));
+    all.extend(declared_or_not(code));
     all
+}
+
+/// Groups with a LID, before its entry and behind it, and behind what is no entry for it.
+fn declared_or_not(lid: u8) -> Vec<Vec<u8>> {
+    let group = [6, GDA, COMPACT, lid, 0x00, 0x04];
+    let other = [lid ^ 0x40, 0x00, 0x04];
+    let both = triplet(GDA, &[&group[2..], &other, &group[3..]].concat());
+    let (mdd, sda) = ([3, MDD, 0x31], [3, SDA, lid]);
+    let entry = [mdd, sda].concat();
+    vec![
+        [&group[..], &entry, &group, &group].concat(),
+        [&entry[..], &entry, &both].concat(),
+        [&both[..], &entry, &both].concat(),
+        [&triplet(GDA, &entry)[..], &group].concat(),
+        [&[2, MDD], &sda[..], &group].concat(),
+        [&mdd[..], &[2, SDA], &group].concat(),
+        [&mdd[..], &[2, 0x99], &sda, &group].concat(),
+        [&mdd[..], &group, &sda, &group].concat(),
+    ]
 }
 
 /// A declaration by an MDD of a type and an SDA with this data, and a group of one column.

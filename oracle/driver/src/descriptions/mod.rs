@@ -2,15 +2,19 @@
 //!
 //! - here: the answers, in one form
 //! - `rust_side`, `port_side`: the two that answer
+//! - `origins`: where a column came from, which the Rust does not say
 //! - `inputs`: descriptions to ask about
 //! - `compare`: the differential run
-//! - `faults`: wrong libraries, to see that the run notices them
+//! - `faults`, `wrong_origins`: wrong libraries, to see that the run notices them
 pub mod compare;
 pub mod faults;
 pub mod inputs;
+pub mod origins;
 pub mod port_side;
 pub mod rust_side;
+pub mod wrong_origins;
 
+use crate::request::{columns_shown, Form};
 use port::column::Column;
 use std::fmt;
 
@@ -48,22 +52,18 @@ pub enum FixedLength {
     BadFixed,
 }
 
-/// The answer of a `Q` line, from ` C ` on; where there are columns the row's answer is to follow.
-impl fmt::Display for Description {
-    fn fmt(&self, f: &mut fmt::Formatter<'_>) -> fmt::Result {
+impl Description {
+    /// The answer of a `Q` or `q` line, from ` C ` on; where there are columns the row's answer is to follow.
+    pub fn shown(&self, form: Form) -> String {
         match self {
             Description::Columns(columns) => {
-                write!(f, "C {}", columns.len())?;
-                for column in columns {
-                    write!(f, " {column}")?;
-                }
-                Ok(())
+                format!("C {}{}", columns.len(), columns_shown(form, columns))
             }
-            Description::Refusal(number) => write!(f, "C - A REFUSE{number}"),
-            Description::BadIndex => f.write_str("C - A BADINDEX"),
-            Description::BadWord => f.write_str("C - A BADWORD"),
-            Description::BadRest => f.write_str("C - A BADREST"),
-            Description::Bad101 => f.write_str("C - A BAD101"),
+            Description::Refusal(number) => format!("C - A REFUSE{number}"),
+            Description::BadIndex => "C - A BADINDEX".to_string(),
+            Description::BadWord => "C - A BADWORD".to_string(),
+            Description::BadRest => "C - A BADREST".to_string(),
+            Description::Bad101 => "C - A BAD101".to_string(),
         }
     }
 }

@@ -1,8 +1,9 @@
-//! The answers of the published Rust. It has no limits of its own: those of the port are applied here.
-use super::{Description, FixedLength, COLUMN_LIMIT, DESCRIPTION_LIMIT};
+//! The answers of the published Rust. It has no limits of its own: those of the port are applied here. Nor does it say where a column came from: that is a
+//! second opinion, of `origins`.
+use super::{origins, Description, FixedLength, COLUMN_LIMIT, DESCRIPTION_LIMIT};
 use db2_proto::fdoca::{parse_qrydsc, ByteOrder, ColumnDescriptor};
 use db2_proto::types::Db2Type;
-use port::column::{Column, Name, Order, Type};
+use port::column::{Column, Name, Order, Origin, Type};
 
 pub fn describe(data: &[u8]) -> Description {
     if data.len() > DESCRIPTION_LIMIT {
@@ -12,7 +13,12 @@ pub fn describe(data: &[u8]) -> Description {
     if columns.len() > COLUMN_LIMIT {
         return Description::Refusal(2);
     }
-    Description::Columns(columns.iter().map(column).collect())
+    let origins = origins::of(data, &columns);
+    let both = columns.iter().zip(origins);
+    Description::Columns(
+        both.map(|(published, origin)| column(published, origin))
+            .collect(),
+    )
 }
 
 /// The columns that the Rust gives, without limits.
@@ -27,7 +33,7 @@ pub fn fixed_length(asked: Type) -> FixedLength {
     }
 }
 
-fn column(column: &ColumnDescriptor) -> Column {
+fn column(column: &ColumnDescriptor, origin: Origin) -> Column {
     Column {
         index: u16::try_from(column.column_index).expect("below the limit"),
         db2_type: named(&column.db2_type),
@@ -42,6 +48,7 @@ fn column(column: &ColumnDescriptor) -> Column {
             ByteOrder::BigEndian => Order::Big,
             ByteOrder::LittleEndian => Order::Little,
         },
+        origin,
     }
 }
 
@@ -121,6 +128,7 @@ pub fn published_type(asked: Type) -> Db2Type {
 #[cfg(test)]
 mod tests {
     use super::*;
+    use crate::request::Form;
     use port::column::NAMES;
 
     #[test]
@@ -155,15 +163,24 @@ mod tests {
     /// A few of the published rules' own examples.
     #[test]
     fn known_answers() {
-        let shown = |data: &[u8]| describe(data).to_string();
-        assert_eq!(shown(&[]), "C 0");
+        let shown = |data: &[u8]| describe(data).shown(Form::Shared);
+        let whole = |data: &[u8]| describe(data).shown(Form::Whole);
+        let group = [9, 0x76, 0xD0, 5, 0, 2, 0x0F, 5, 2];
+        let column = [5, 0x70, 0xC8, 0x80, 0];
+        assert_eq!((shown(&[]), whole(&[])), ("C 0".into(), "C 0".into()));
         assert_eq!(
-            shown(&[9, 0x76, 0xD0, 5, 0, 2, 0x0F, 5, 2]),
+            shown(&group),
             "C 2 SmallInt:05:2:0:0:1:0:-:B Decimal.5.2:0F:3:5:2:1:0:-:B"
         );
         assert_eq!(
-            shown(&[5, 0x70, 0xC8, 0x80, 0]),
-            "C 1 Blob:C8:32768:0:0:0:0:0:L"
+            whole(&group),
+            "C 2 SmallInt:05:2:0:0:1:0:-:B:U Decimal.5.2:0F:3:5:2:1:0:-:B:U"
+        );
+        assert_eq!(shown(&column), "C 1 Blob:C8:32768:0:0:0:0:0:L");
+        assert_eq!(whole(&column), "C 1 Blob:C8:32768:0:0:0:0:0:L:S");
+        assert_eq!(
+            whole(&[3, 0x78, 0x30, 3, 0x70, 0x44, 6, 0x76, 0xD0, 0x44, 0, 2]),
+            "C 1 Char.2:30:2:0:0:0:0:-:B:D"
         );
         assert_eq!(fixed_length(Name::Graphic.with(3)), FixedLength::Bytes(6));
         assert_eq!(fixed_length(Name::Xml.plain()), FixedLength::Varies);

@@ -60,12 +60,13 @@ fn smallest<L: Library>(port: &mut PortSide<L>, description: &[u8], data: &[u8])
     let rust = rust_side::answer(&listed(&columns).unwrap_or_default(), &data);
     let port = differing(port, &description, &data).unwrap_or_else(|| rust.clone());
     let lengths = Some((data.len(), first));
+    let columns = columns.shown(Form::Whole);
     let line = |answer: &Answer| {
         let asked = Request::Description {
             data: description.clone(),
             row: data.clone(),
         };
-        let asked = Form::Whole.of(asked.to_string());
+        let asked = asked.shown(Form::Whole);
         format!("{asked} {columns} A {}", answer.shown(Form::Whole, &data))
     };
     Difference {

@@ -3,7 +3,7 @@ use super::List;
 use crate::descriptions::COLUMN_LIMIT;
 use crate::inputs::{random_ccsid, random_scale, CCSIDS};
 use crate::random::Random;
-use port::column::{Column, Name, Numbers, Order, Type, NAMES};
+use port::column::{Column, Name, Numbers, Order, Origin, Type, NAMES, ORIGINS};
 
 /// Lengths that a type holds, around those that matter to some type.
 const OWN_LENGTHS: [u16; 20] = [
@@ -91,6 +91,7 @@ pub fn plain(db2_type: Type) -> Column {
         ccsid: 0,
         reference: None,
         order: Order::Big,
+        origin: Origin::Sda,
     }
 }
 
@@ -315,6 +316,7 @@ pub fn random_column(random: &mut Random) -> Column {
         ccsid: random_ccsid(random),
         reference,
         order: random.pick(&[Order::Big, Order::Little]),
+        origin: random.pick(&ORIGINS),
         ..plain(db2_type)
     }
 }

@@ -10,7 +10,7 @@ use crate::descriptions::{self, Description, COLUMN_LIMIT};
 use crate::inputs::{fill, Style};
 use crate::random::Random;
 use crate::run::{self, End, Flow, Until};
-use port::column::{Column, Name, NAMES};
+use port::column::{Column, Name, Order, Origin, NAMES, ORIGINS};
 use std::ops::ControlFlow::{self, Break, Continue};
 
 /// The parts of a run. The last has no end of its own.
@@ -51,11 +51,15 @@ pub struct Counts {
     pub external: u64,
     /// Accepted rows with characters replaced.
     pub replaced: u64,
+    /// Accepted rows with a column whose origin no description would give one of its byte order.
+    pub contradicted: u64,
     pub by_name: [u64; NAMES.len()],
     pub descriptions: u64,
     /// Rows of descriptions that the row call by value was asked about, and those of them with characters replaced.
     pub by_value: u64,
     pub replaced_by_value: u64,
+    /// Rows that were also asked about with other origins.
+    pub other_origins: u64,
     pub longer: u64,
     pub shorter: u64,
     pub alone: u64,
@@ -75,6 +79,7 @@ impl Counts {
                 self.with_text += u64::from(!answer.text.is_empty());
                 let mut firsts = answer.values.iter().step_by(3);
                 self.external += u64::from(firsts.any(|word| word & 1 << 8 != 0));
+                self.contradicted += u64::from(list.columns.iter().any(is_contradicted));
             }
             Outcome::TooShort { .. } => self.too_short += 1,
             Outcome::Refusal(3) => self.refused_3 += 1,
@@ -86,6 +91,11 @@ impl Counts {
             self.by_name[column.db2_type.name as usize] += 1;
         }
     }
+}
+
+/// In a description's list the columns of SDAs are little-endian, all others big-endian.
+fn is_contradicted(column: &Column) -> bool {
+    (column.origin == Origin::Sda) != (column.order == Order::Little)
 }
 
 pub struct Run<L> {
@@ -131,6 +141,7 @@ impl<L: Library> Run<L> {
         rust_side::answer_into(list, data, &mut self.rust);
         self.counts.add(list, &self.rust);
         if *self.port.answer(&list.words, data) == self.rust {
+            self.other_origins(list, data)?;
             return self.by_value(list, data);
         }
         Break(End::Different(Box::new(smallest(
@@ -193,12 +204,15 @@ impl<L: Library> Run<L> {
         self.tags()
     }
 
-    /// A column of each type with each bit of its words turned, alone and behind another.
+    /// A column of each type and origin with each bit of its words turned, alone and behind another.
     fn turned_bits(&mut self) -> Flow {
         for column in columns::one_of_each() {
-            for reference in [None, Some(0x0102)] {
+            let references = [None, Some(0x0102)].into_iter();
+            let both = references.flat_map(|reference| ORIGINS.map(|origin| (reference, origin)));
+            for (reference, origin) in both {
                 let column = Column {
                     reference,
+                    origin,
                     ..column
                 };
                 for bit in 0..128 {

@@ -18,6 +18,12 @@ faults! {
     OddWordTaken,
     /// The first spare bit of a column's words is not looked at.
     SpareBitTaken,
+    /// The number 3 is an origin.
+    OriginThreeTaken,
+    /// Only 0 is an origin.
+    OriginRefused,
+    /// An origin that contradicts the byte order is none.
+    ContradictionRefused,
     /// A width without the bit that says that it is there is not seen.
     WidthWithoutBitTaken,
     /// A column's number above 255 is taken.
@@ -75,6 +81,17 @@ faults! {
     ValueFromBody,
     /// The bytes used are counted from the body's start.
     UsedWithoutSkip,
+    // The origin, which has no part in a row.
+    /// A declared LID's column is nullable.
+    DeclaredNullable,
+    /// An SDA's column is little-endian, whatever it says,
+    SdaLittle,
+    /// or a LID's big-endian.
+    LidBig,
+    /// A LID's graphic lengths count bytes.
+    LidGraphicInBytes,
+    /// An undeclared LID's CCSID is 1208.
+    UndeclaredCcsid,
     // Numbers.
     SmallIntUnsigned,
     IntegerUnsigned,
@@ -293,10 +310,13 @@ mod tests {
             Fault::ColumnsEarly
             | Fault::OddWordTaken
             | Fault::SpareBitTaken
+            | Fault::OriginThreeTaken
             | Fault::WidthWithoutBitTaken
             | Fault::LargeNumberTaken
             | Fault::NoColumnFirst
             | Fault::TooFewFirst => Stage::Words,
+            // All columns of this stage are SDAs': only the rows that are asked about again show it.
+            Fault::DeclaredNullable | Fault::LidBig => Stage::Shapes,
             Fault::FoundOfLast | Fault::FoundOf64Before => Stage::Texts,
             _ => Stage::Any,
         }

@@ -5,6 +5,7 @@
 //! - `compare`: the differential run
 //! - `beginnings`: demand 3, on the compiled code
 //! - `by_value`: the row call by value, on rows with a description's columns
+//! - `origins`: the same row with other origins
 //! - `smallest`: the smallest row that differs
 //! - `model`: a row call written a third time, with a switch for each fault
 //! - `faults`: the faults, to see that the run notices them
@@ -15,14 +16,15 @@ pub mod compare;
 pub mod faults;
 pub mod inputs;
 pub mod model;
+pub mod origins;
 pub mod port_side;
 pub mod rust_side;
 pub mod smallest;
 
 use crate::descriptions::COLUMN_LIMIT;
-use crate::request::{Form, Hex};
+use crate::request::{Form, Hex, Request};
 use db2_proto::fdoca::ColumnDescriptor;
-use port::column::{Column, Name};
+use port::column::{Column, Name, Origin};
 use port::value::{Held, Sort, Value, VALUE_WORDS};
 use std::fmt;
 
@@ -101,6 +103,12 @@ impl List {
         self.words.len() / 2
     }
 
+    /// Whether every column is an SDA's, as those of a line in upper case are.
+    fn of_sdas(&self) -> bool {
+        let mut origins = self.columns.iter().map(|column| column.origin);
+        origins.all(|origin| origin == Origin::Sda)
+    }
+
     /// Whether a line can show the list: columns, each with its place for its number. Above the limit the number may be any.
     fn has_line(&self) -> bool {
         self.columns.len() * 2 == self.words.len()
@@ -118,12 +126,11 @@ pub fn request(form: Form, list: &List, data: &[u8]) -> String {
         let words: Vec<String> = list.words.iter().map(|word| format!("{word:X}")).collect();
         return format!("vejupa_raw_decode_row({}; {})", words.join(" "), Hex(data));
     }
-    let columns: String = list
-        .columns
-        .iter()
-        .map(|column| format!(" {column}"))
-        .collect();
-    form.of(format!("H {}{columns} R {}", list.count(), Hex(data)))
+    let request = Request::Row {
+        columns: list.columns.clone(),
+        data: data.to_vec(),
+    };
+    request.shown(form)
 }
 
 /// What a side answers: an outcome and, where it is accepted, the values' words and the texts.

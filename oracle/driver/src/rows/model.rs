@@ -8,7 +8,7 @@ use crate::descriptions::{rust_side::describe, Description, COLUMN_LIMIT};
 use crate::replaced::Reading;
 use db2_proto::fdoca::exposed;
 use db2_proto::types::decode_packed_decimal;
-use port::column::{Column, Name, Order};
+use port::column::{Column, Name, Order, Origin};
 use port::value::{Sort, Value, VALUE_WORDS};
 use port::{Decoded, NO_COLUMN_WORDS, TOO_FEW_WORDS};
 
@@ -114,18 +114,44 @@ impl Model {
 
     fn column(&self, [mut first, mut second]: [u64; 2]) -> Option<Column> {
         if self.has(Fault::SpareBitTaken) {
+            first &= !(1 << 53);
+        }
+        if self.has(Fault::OriginThreeTaken) && first >> 51 & 3 == 3 {
             first &= !(1 << 51);
         }
         if self.has(Fault::WidthWithoutBitTaken) && first & 1 << 50 == 0 {
             second &= (1 << 48) - 1;
         }
-        let column = Column::from_words([first, second])?;
+        let column = self.by_origin(Column::from_words([first, second])?)?;
         let largest = if self.has(Fault::LargeNumberTaken) {
             u16::MAX
         } else {
             LARGEST_NUMBER
         };
         (column.index <= largest).then_some(column)
+    }
+
+    /// A column as the row call takes it. Only by a fault it is another, or none, for its origin.
+    fn by_origin(&self, column: Column) -> Option<Column> {
+        let of_sda = column.origin == Origin::Sda;
+        let little = column.order == Order::Little;
+        let is_graphic = matches!(column.db2_type.name, Name::Graphic | Name::VarGraphic);
+        let mut taken = column;
+        match self.0 {
+            Some(Fault::OriginRefused) if !of_sda => return None,
+            Some(Fault::ContradictionRefused) if of_sda != little => return None,
+            Some(Fault::DeclaredNullable) if column.origin == Origin::DeclaredLid => {
+                taken.nullable = true;
+            }
+            Some(Fault::SdaLittle) if of_sda => taken.order = Order::Little,
+            Some(Fault::LidBig) if !of_sda => taken.order = Order::Big,
+            Some(Fault::LidGraphicInBytes) if !of_sda && is_graphic => taken.order = Order::Big,
+            Some(Fault::UndeclaredCcsid) if column.origin == Origin::UndeclaredLid => {
+                taken.ccsid = 1208;
+            }
+            _ => {}
+        }
+        Some(taken)
     }
 
     /// The refusal before the row is read, if any.

@@ -299,12 +299,12 @@ mod tests {
             ("Binary.1:61:1:0:0:0:1208:-:B", "80", "OK 1 - 0 0 B:0:80"),
         ] {
             assert_eq!(
-                shown(&format!("h 2 1 {column} R {row}")),
+                shown(&format!("h 2 1 {column}:D R {row}")),
                 answer,
                 "{column}"
             );
         }
-        let two = "h 2 2 Char.1:31:1:0:0:1:1208:-:B Clob:CB:9:0:0:0:37:-:B R";
+        let two = "h 2 2 Char.1:31:1:0:0:1:1208:-:B:S Clob:CB:9:0:0:0:37:-:B:U R";
         assert_eq!(
             shown(&format!("{two} 00800000000180")),
             "OK 7 - 6 2 C:EFBFBD K:EFBFBD"
@@ -352,5 +352,20 @@ mod tests {
         assert_eq!(answer(&odd, &long).outcome, Outcome::Refusal(102));
         let odd = List::of_words(vec![0; 259]);
         assert_eq!(answer(&odd, &long).outcome, Outcome::Refusal(3));
+    }
+
+    /// A SmallInt by its words: with each of three origins it is the same column to a row, and the number 3 is no origin.
+    #[test]
+    fn origins_by_the_words() {
+        let of_word = |word: u64| answer(&List::of_words(vec![word, 0]), &[0, 42]);
+        let plain = of_word(0);
+        assert_eq!(plain.shown(Form::Shared, &[]), "OK 2 - 0 S:42");
+        assert_eq!(
+            [1, 2].map(|origin| of_word(origin << 51)),
+            [(); 2].map(|()| plain.clone())
+        );
+        for word in (53..64).map(|bit| 1 << bit).chain([3 << 51]) {
+            assert_eq!(of_word(word).outcome, Outcome::Refusal(102), "{word:X}");
+        }
     }
 }

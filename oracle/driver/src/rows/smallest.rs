@@ -5,7 +5,7 @@ use super::{request, rust_side, Answer, List};
 use crate::request::Form;
 use crate::run::Difference;
 use crate::shrink::Shrinking;
-use port::column::{Column, Numbers, Order, Type};
+use port::column::{Column, Numbers, Order, Origin, Type};
 
 /// How many bytes a pass may ask about that makes a row smaller.
 const BUDGET: usize = 8_000_000;
@@ -27,7 +27,7 @@ pub fn smallest<L: Library>(port: &mut PortSide<L>, list: &List, data: &[u8]) ->
     let rust = rust_side::answer(&list, &left);
     let port = differing(port, &list, &left, &rust).unwrap_or(rust.clone());
     let shared = |answer: &Answer| answer.shown(Form::Shared, &left);
-    let form = Form::telling(shared(&rust) != shared(&port));
+    let form = Form::telling(list.of_sdas() && shared(&rust) != shared(&port));
     let asked = request(form, &list, &left);
     Difference {
         rust: format!("{asked} A {}", rust.shown(form, &left)),
@@ -162,7 +162,8 @@ impl<L: Library> Smallest<'_, L> {
     fn plain_columns(&mut self) {
         for place in 0..self.list.columns.len() {
             let own = self.list.columns[place].db2_type;
-            let fields: [fn(&mut Column); 8] = [
+            let fields: [fn(&mut Column); 9] = [
+                |column| column.origin = Origin::Sda,
                 |column| column.nullable = false,
                 |column| column.reference = None,
                 |column| column.ccsid = 0,

@@ -186,7 +186,9 @@ static void print_rows(const struct vejupa_column *columns, size_t count, const 
 int main(void) {
     struct vejupa_column columns[VEJUPA_MAX_COLUMNS];
     size_t count;
-    uint32_t refusal = vejupa_parse_qrydsc(DESCRIPTION, sizeof DESCRIPTION, columns, VEJUPA_MAX_COLUMNS, &count);
+    /* A description that breaks off is refused here. Columns may be missing in one: rows would lack their values, and each next row would be looked for within
+     * the one before it. */
+    uint32_t refusal = vejupa_parse_whole_qrydsc(DESCRIPTION, sizeof DESCRIPTION, columns, VEJUPA_MAX_COLUMNS, &count);
     if (refusal != VEJUPA_ACCEPTED) {
         printf("the description: refusal %" PRIu32 ": %s\n", refusal, vejupa_refusal_name(refusal));
         return 1;

@@ -43,9 +43,9 @@ extern "C" {
 #endif
 
 /* The version of these calls. CHANGELOG.md says what changed. */
-#define VEJUPA_VERSION "0.4.0"
+#define VEJUPA_VERSION "0.5.0"
 
-/* Answers. 1 to 9 are the refusals of docs/RULES.md. */
+/* Answers. 1 to 9 and 15 are the refusals of docs/RULES.md. */
 #define VEJUPA_ACCEPTED 0
 #define VEJUPA_QRYDSC_TOO_LONG 1       /* a description of more than 65,536 bytes */
 #define VEJUPA_TOO_MANY_COLUMNS 2      /* a description of more than 128 columns */
@@ -56,6 +56,7 @@ extern "C" {
 #define VEJUPA_DECIMAL_TOO_LONG 7      /* a packed decimal of more than 128 bytes */
 #define VEJUPA_BUFFER_TOO_SHORT 8      /* the row ends before a value does; with the bytes expected and the bytes there are */
 #define VEJUPA_TEXT_BUFFER_TOO_SHORT 9 /* the texts do not fit into the lent buffer; with the length needed */
+#define VEJUPA_QRYDSC_BROKEN_OFF 15    /* a description that breaks off: bytes are left behind its last whole triplet */
 #define VEJUPA_TOO_LITTLE_ROOM 101     /* there is less room than there are columns, or values */
 #define VEJUPA_NO_COLUMN 102           /* what stands for a column, or for a type, is none */
 
@@ -125,8 +126,8 @@ enum vejupa_type {
     VEJUPA_TYPE_NULL = 28
 };
 
-/* Where a description has a column from. Nothing is decoded by it. As vejupa_parse_qrydsc writes columns, those from an SDA are little-endian and those from a
- * LID big-endian; a caller's own list may have any origin beside either byte order. There is no origin of the number 3, and such words are no column's. */
+/* Where a description has a column from. Nothing is decoded by it. Of the columns that a description gives, those from an SDA are little-endian and those from
+ * a LID big-endian; a caller's own list may have any origin beside either byte order. There is no origin of the number 3, and such words are no column's. */
 enum vejupa_origin {
     VEJUPA_ORIGIN_SDA = 0,            /* an SDA (simple data array) */
     VEJUPA_ORIGIN_UNDECLARED_LID = 1, /* a LID (local identifier) of a D0 group that no environment entry declares */
@@ -167,7 +168,9 @@ enum vejupa_sort {
 #define VEJUPA_NONNULL
 #endif
 
-uint32_t vejupa_raw_parse_qrydsc(const uint8_t *data, size_t data_len, uint64_t *column_words, size_t column_words_len, size_t *count) VEJUPA_NONNULL;
+uint32_t vejupa_raw_parse_whole_qrydsc(const uint8_t *data, size_t data_len, uint64_t *column_words, size_t column_words_len, size_t *count) VEJUPA_NONNULL;
+uint32_t vejupa_raw_parse_qrydsc(const uint8_t *data, size_t data_len, uint64_t *column_words, size_t column_words_len, size_t *count,
+                                 uint32_t *broken_off) VEJUPA_NONNULL;
 uint32_t vejupa_raw_decode_row(const uint64_t *column_words, size_t column_words_len, const uint8_t *data, size_t data_len, uint64_t *value_words,
                                size_t value_words_len, uint8_t *text, size_t text_len, size_t *used, size_t *text_length, size_t *replaced,
                                size_t *expected, size_t *actual) VEJUPA_NONNULL;
@@ -188,7 +191,7 @@ uint32_t vejupa_raw_bytes_are_likely_text(const uint8_t *bytes, size_t bytes_len
 
 /* The version as a number: 10000 times the first part, 100 times the second, and the third. Each file that includes this header refers to this symbol: with
  * an archive of another version it does not link. */
-uint32_t vejupa_version_0_4_0(void);
+uint32_t vejupa_version_0_5_0(void);
 #if defined(__GNUC__)
 #if defined(__has_attribute)
 #if __has_attribute(retain)
@@ -197,7 +200,7 @@ __attribute__((retain)) /* also where the linker drops unused sections */
 #endif
 __attribute__((used))
 #endif
-static uint32_t (*const vejupa_version_wanted)(void) = vejupa_version_0_4_0;
+static uint32_t (*const vejupa_version_wanted)(void) = vejupa_version_0_5_0;
 
 /* An address for an array without elements, which may come with NULL; of any other array its own. */
 static inline const void *vejupa_given(const void *p, size_t n) {
@@ -215,14 +218,34 @@ static inline size_t vejupa_at_most(size_t n, size_t limit) { return n < limit ?
 /* ---- The calls. */
 
 /* The columns that a description (QRYDSC) lists, in order: the first *count of `columns`, which has room for `columns_room` of them. VEJUPA_MAX_COLUMNS are
- * always enough; a call without room counts. Answers 0, 1, 2 or 101; with 101 *count is the number of columns as well.
+ * always enough; a call without room counts. This is the call for a description that comes from a host: one that breaks off is refused.
  *
- * A damaged description is not refused: where it breaks off, or a length in it is wrong, the columns read up to there are all that there are. Nor is one
- * that goes on in a triplet 7F, as Apache Derby's server sends from the 85th column on: those columns are missing. Compare *count with the number that
- * the query has. */
-static inline uint32_t vejupa_parse_qrydsc(const uint8_t *data, size_t data_len, struct vejupa_column *columns, size_t columns_room, size_t *count) {
+ * A description is read as triplets, one behind the other: a length byte, which counts itself, a type byte and data. It breaks off where bytes are left behind
+ * the last whole one: a single byte; a length of 0 or 1, and so zeros at the end too; a length that runs past the end. The empty description does not.
+ *
+ * Answers the first of these that applies, or 0:
+ *     1     `data` has more than 65,536 bytes
+ *     15    the description breaks off
+ *     2     it has more than 128 columns
+ *     101   there is room for fewer columns than it has: *count is the number of columns all the same
+ *
+ * Not all damage is noticed: a cut exactly between two triplets, a wrong length that happens to fit, and damage within a triplet or a group are not, and the
+ * columns are then fewer than the host's, or others. Nor is a description refused that goes on in a triplet 7F, as Apache Derby's server sends from the 85th
+ * column on: those columns are missing. Compare *count with the number that the query has. */
+static inline uint32_t vejupa_parse_whole_qrydsc(const uint8_t *data, size_t data_len, struct vejupa_column *columns, size_t columns_room,
+                                                 size_t *count) {
+    return vejupa_raw_parse_whole_qrydsc((const uint8_t *)vejupa_given(data, data_len), data_len, (uint64_t *)vejupa_lent(columns, columns_room),
+                                         VEJUPA_COLUMN_WORDS * vejupa_at_most(columns_room, VEJUPA_MAX_COLUMNS), count);
+}
+
+/* The same, save that a description that breaks off is not refused: the columns read up to there are all that there are, and *broken_off is 1; of any other it
+ * is 0. The call is there for descriptions that were stored with such an ending, when nothing refused them, so that the rows stored beside them can still be
+ * decoded; heed *broken_off, as columns may be missing. Answers the first of 1, 2 and 101 that applies, or 0. *broken_off tells of an accepted description
+ * alone: with each other answer it is 0, also where a call without room counts. The damage that is not noticed above is not noticed here either. */
+static inline uint32_t vejupa_parse_qrydsc(const uint8_t *data, size_t data_len, struct vejupa_column *columns, size_t columns_room, size_t *count,
+                                           uint32_t *broken_off) {
     return vejupa_raw_parse_qrydsc((const uint8_t *)vejupa_given(data, data_len), data_len, (uint64_t *)vejupa_lent(columns, columns_room),
-                                   VEJUPA_COLUMN_WORDS * vejupa_at_most(columns_room, VEJUPA_MAX_COLUMNS), count);
+                                   VEJUPA_COLUMN_WORDS * vejupa_at_most(columns_room, VEJUPA_MAX_COLUMNS), count, broken_off);
 }
 
 /* What the row call answers beside the values. What does not apply is 0. */
@@ -234,7 +257,7 @@ struct vejupa_row {
     size_t actual;      /* and the bytes there are for it. For an indicator both count from the row's first byte behind the two leading ones */
 };
 
-/* The values of one row, one for each column: values[k] is of columns[k]. `columns` are as vejupa_parse_qrydsc writes them or a caller's own
+/* The values of one row, one for each column: values[k] is of columns[k]. `columns` are as the two calls above write them or a caller's own
  * (vejupa_make_column). The values' texts go into `text`, one after the other from its first byte; vejupa_value_bytes shows a value's bytes. `data` may go on
  * after the row. Of a column the call goes by the type with its own numbers, nullable, the CCSID, the byte order and the reference length, and by the length of
  * Timestamp, Boolean, Blob, Clob and DbClob alone.
@@ -331,6 +354,7 @@ static inline const char *vejupa_refusal_name(uint32_t answer) {
     case VEJUPA_DECIMAL_TOO_LONG: return "a packed decimal of more than 128 bytes";
     case VEJUPA_BUFFER_TOO_SHORT: return "the row is too short";
     case VEJUPA_TEXT_BUFFER_TOO_SHORT: return "the text buffer is too short";
+    case VEJUPA_QRYDSC_BROKEN_OFF: return "the description breaks off";
     case VEJUPA_TOO_LITTLE_ROOM: return "too little room for the columns or values";
     case VEJUPA_NO_COLUMN: return "what stands for a column or a type is none";
     default: return "no answer of this library";
@@ -367,8 +391,8 @@ static inline int vejupa_type_has_length(uint32_t type) {
     }
 }
 
-/* The numbers that the type itself holds: what the row call goes by. vejupa_parse_qrydsc makes them of length, precision and scale, so that they are the same,
- * but for a DecFloat's digits; in a caller's own list they may differ. */
+/* The numbers that the type itself holds: what the row call goes by. Of a description's columns they are made of length, precision and scale, so that they are
+ * the same, but for a DecFloat's digits; in a caller's own list they may differ. */
 static inline uint16_t vejupa_column_type_numbers(const struct vejupa_column *column) { return (uint16_t)(column->words[0] >> 8 & 0xFFFF); }
 
 /* Of a Decimal the two numbers that its type holds. */

@@ -214,24 +214,159 @@ static void bytes_of_values(void) {
     }
 }
 
+static const uint8_t integer[] = {0x05, 0x70, 0x02, 0x00, 0x04};
+static uint8_t described[sizeof integer * (VEJUPA_MAX_COLUMNS + 1) + 64];
+static const struct vejupa_column untouched = {{UINT64_C(0xA5A5A5A5A5A5A5A5), UINT64_C(0xA5A5A5A5A5A5A5A5)}};
+
+/* Into `described` so many Integers, and then other bytes; the number of all. */
+static size_t integers_and(size_t count, const char *last, size_t last_len) {
+    size_t k;
+    for (k = 0; k < sizeof integer * count; k++) {
+        described[k] = integer[k % sizeof integer];
+    }
+    memcpy(described + k, last, last_len);
+    return k + last_len;
+}
+
+/* Whether `columns` begins with so many columns that are written; no other is changed. */
+static int are_written(size_t count) {
+    size_t k;
+    for (k = 0; k < LENGTH(columns); k++) {
+        if ((memcmp(&columns[k], &untouched, sizeof untouched) != 0) != (k < count)) {
+            return 0;
+        }
+    }
+    return 1;
+}
+
+static void untouch(void) {
+    size_t k;
+    for (k = 0; k < LENGTH(columns); k++) {
+        columns[k] = untouched;
+    }
+}
+
+/* Whether vejupa_parse_whole_qrydsc answers so, with such a number of columns, and writes them if it accepts and nothing else. */
+static int whole_answers(const uint8_t *data, size_t data_len, size_t room, uint32_t answer, size_t number) {
+    size_t count = SIZE_MAX;
+    untouch();
+    return vejupa_parse_whole_qrydsc(data, data_len, columns, room, &count) == answer && count == number &&
+           are_written(answer == VEJUPA_ACCEPTED ? number : 0);
+}
+
+/* The same of vejupa_parse_qrydsc, with its flag. */
+static int any_answers(const uint8_t *data, size_t data_len, size_t room, uint32_t answer, size_t number, uint32_t flag) {
+    size_t count = SIZE_MAX;
+    uint32_t broken_off = UINT32_MAX;
+    untouch();
+    return vejupa_parse_qrydsc(data, data_len, columns, room, &count, &broken_off) == answer && count == number && broken_off == flag &&
+           are_written(answer == VEJUPA_ACCEPTED ? number : 0);
+}
+
 /* Leaves 128 Integers in `columns`. */
 static void descriptions(void) {
-    static uint8_t integers[5 * (VEJUPA_MAX_COLUMNS + 1)];
-    static const uint8_t integer[] = {0x05, 0x70, 0x02, 0x00, 0x04};
-    size_t count, k;
-    for (k = 0; k < sizeof integers; k++) {
-        integers[k] = integer[k % sizeof integer];
-    }
-    CHECK(vejupa_parse_qrydsc(large, VEJUPA_MAX_QRYDSC + 1, columns, 0, &count) == VEJUPA_QRYDSC_TOO_LONG && count == 0);
-    CHECK(vejupa_parse_qrydsc(integers, sizeof integers, columns, LENGTH(columns), &count) == VEJUPA_TOO_MANY_COLUMNS && count == 0);
-    CHECK(vejupa_parse_qrydsc(integers, 10, columns, 1, &count) == VEJUPA_TOO_LITTLE_ROOM && count == 2);
-    CHECK(vejupa_raw_parse_qrydsc(integers, 10, columns->words, 3, &count) == VEJUPA_TOO_LITTLE_ROOM && count == 2);
-    CHECK(columns[0].words[0] == 0 && columns[0].words[1] == 0);
-    CHECK(vejupa_parse_qrydsc(integers, 10, NULL, 0, &count) == VEJUPA_TOO_LITTLE_ROOM && count == 2);
-    CHECK(vejupa_parse_qrydsc(NULL, 0, NULL, 0, &count) == VEJUPA_ACCEPTED && count == 0);
-    CHECK(vejupa_parse_qrydsc(integers, 10, columns, SIZE_MAX, &count) == VEJUPA_ACCEPTED && count == 2);
-    CHECK(vejupa_parse_qrydsc(integers, 640, columns, 128, &count) == VEJUPA_ACCEPTED && count == 128);
+    size_t count, all = integers_and(VEJUPA_MAX_COLUMNS + 1, "", 0);
+    uint32_t broken_off;
+    CHECK(any_answers(large, VEJUPA_MAX_QRYDSC + 1, 0, VEJUPA_QRYDSC_TOO_LONG, 0, 0));
+    CHECK(whole_answers(large, VEJUPA_MAX_QRYDSC + 1, 0, VEJUPA_QRYDSC_TOO_LONG, 0));
+    CHECK(any_answers(described, all, LENGTH(columns), VEJUPA_TOO_MANY_COLUMNS, 0, 0));
+    CHECK(whole_answers(described, all, LENGTH(columns), VEJUPA_TOO_MANY_COLUMNS, 0));
+    CHECK(any_answers(described, 10, 1, VEJUPA_TOO_LITTLE_ROOM, 2, 0) && whole_answers(described, 10, 1, VEJUPA_TOO_LITTLE_ROOM, 2));
+    CHECK(vejupa_raw_parse_qrydsc(described, 10, columns->words, 3, &count, &broken_off) == VEJUPA_TOO_LITTLE_ROOM && count == 2 && broken_off == 0);
+    CHECK(vejupa_raw_parse_whole_qrydsc(described, 10, columns->words, 3, &count) == VEJUPA_TOO_LITTLE_ROOM && count == 2);
+    CHECK(are_written(0));
+    CHECK(vejupa_parse_qrydsc(described, 10, NULL, 0, &count, &broken_off) == VEJUPA_TOO_LITTLE_ROOM && count == 2 && broken_off == 0);
+    CHECK(vejupa_parse_whole_qrydsc(described, 10, NULL, 0, &count) == VEJUPA_TOO_LITTLE_ROOM && count == 2);
+    CHECK(vejupa_parse_qrydsc(NULL, 0, NULL, 0, &count, &broken_off) == VEJUPA_ACCEPTED && count == 0 && broken_off == 0);
+    CHECK(vejupa_parse_whole_qrydsc(NULL, 0, NULL, 0, &count) == VEJUPA_ACCEPTED && count == 0);
+    CHECK(any_answers(described, 10, SIZE_MAX, VEJUPA_ACCEPTED, 2, 0) && whole_answers(described, 10, SIZE_MAX, VEJUPA_ACCEPTED, 2));
+    CHECK(any_answers(described, 640, 128, VEJUPA_ACCEPTED, 128, 0) && whole_answers(described, 640, 128, VEJUPA_ACCEPTED, 128));
     CHECK(vejupa_column_number(&columns[127]) == 127 && vejupa_column_type(&columns[127]) == VEJUPA_TYPE_INTEGER);
+}
+
+/* What a description ends with: whether it breaks off there, and how many columns the end has. */
+struct end {
+    const char *bytes;
+    size_t length;
+    int breaks_off;
+    size_t columns;
+};
+
+#define END(bytes, breaks_off, columns) {(bytes), sizeof(bytes) - 1, (breaks_off), (columns)}
+
+static const struct end ends[] = {
+    END("\x00", 1, 0), /* one byte is left */
+    END("\x02", 1, 0),
+    END("\xFF", 1, 0),
+    END("\x00\x70", 1, 0), /* a length of 0 */
+    END("\x00\x70\x02\x00\x04", 1, 0),
+    END("\x01\x70", 1, 0), /* of 1 */
+    END("\x01\x70\x02\x00\x04", 1, 0),
+    END("\x03\x70", 1, 0), /* past the end */
+    END("\x05\x70\x02\x00", 1, 0),
+    END("\xFF\x76\xD0\x02\x00\x04", 1, 0),
+    END("\x00\x00\x00\x00\x00\x00\x00\x00", 1, 0), /* zeros */
+    END("\x00\x05\x70\x02\x00\x04", 1, 0),         /* a whole triplet behind it is not read */
+    END("", 0, 0),                                 /* nothing: no description at all, or a cut between two triplets */
+    END("\x02\x70", 0, 0),                         /* an SDA without data */
+    END("\x03\x70\x02", 0, 1),                     /* without some of its fields */
+    END("\x03\x78\x31", 0, 0),                     /* a type that no SDA follows */
+    END("\x05\x7F\x02\x00\x04", 0, 0),             /* a triplet that is passed over */
+    END("\x05\x76\xD0\x02\x00", 0, 0),             /* a rest within a D0 group */
+    END("\x08\x76\xD0\x02\x00\x04\x02\x00", 0, 1),
+    END("\x09\x76\x05\x70\x02\x00\x04\x05\x70", 0, 1),     /* within another group: a rest, */
+    END("\x0A\x76\x05\x70\x02\x00\x04\x00\x70\x02", 0, 1), /* a length of 0, */
+    END("\x0A\x76\x05\x70\x02\x00\x04\x01\x70\x02", 0, 1), /* of 1, */
+    END("\x0A\x76\x05\x70\x02\x00\x04\x04\x70\x02", 0, 1), /* one that runs out of it */
+};
+
+/* So many Integers and an end, with room for so many columns. */
+static void with_end(size_t count, const struct end *end, size_t room) {
+    size_t length = integers_and(count, end->bytes, end->length), all = count + end->columns;
+    uint32_t answer = room < all ? VEJUPA_TOO_LITTLE_ROOM : VEJUPA_ACCEPTED;
+    CHECK(any_answers(described, length, room, answer, all, answer == VEJUPA_ACCEPTED && end->breaks_off));
+    if (end->breaks_off) {
+        CHECK(whole_answers(described, length, room, VEJUPA_QRYDSC_BROKEN_OFF, 0));
+    } else {
+        CHECK(whole_answers(described, length, room, answer, all));
+    }
+}
+
+/* Behind more columns than there may be: breaking off comes first. */
+static void with_end_behind_too_many(const struct end *end, size_t room) {
+    size_t length = integers_and(VEJUPA_MAX_COLUMNS + 1, end->bytes, end->length);
+    CHECK(any_answers(described, length, room, VEJUPA_TOO_MANY_COLUMNS, 0, 0));
+    CHECK(whole_answers(described, length, room, end->breaks_off ? VEJUPA_QRYDSC_BROKEN_OFF : VEJUPA_TOO_MANY_COLUMNS, 0));
+}
+
+/* Each end behind no, some and many columns, with too little room and with enough. */
+static void ends_of_descriptions(void) {
+    static const size_t counts[] = {0, 1, 2, 127}, rooms[] = {0, 1, 2, 3, 127, 128, LENGTH(columns)};
+    size_t i, j, k;
+    for (i = 0; i < LENGTH(ends); i++) {
+        for (j = 0; j < LENGTH(rooms); j++) {
+            for (k = 0; k < LENGTH(counts); k++) {
+                with_end(counts[k], &ends[i], rooms[j]);
+            }
+            with_end_behind_too_many(&ends[i], rooms[j]);
+        }
+    }
+    CHECK(any_answers(large, VEJUPA_MAX_QRYDSC, LENGTH(columns), VEJUPA_ACCEPTED, 0, 1));
+    CHECK(whole_answers(large, VEJUPA_MAX_QRYDSC, LENGTH(columns), VEJUPA_QRYDSC_BROKEN_OFF, 0));
+    CHECK(any_answers(large, VEJUPA_MAX_QRYDSC + 1, LENGTH(columns), VEJUPA_QRYDSC_TOO_LONG, 0, 0));
+    CHECK(whole_answers(large, VEJUPA_MAX_QRYDSC + 1, LENGTH(columns), VEJUPA_QRYDSC_TOO_LONG, 0));
+}
+
+/* An environment entry and a group of its columns, cut anywhere: it breaks off save between two triplets. */
+static void descriptions_cut_off(void) {
+    static const uint8_t data[] = {0x03, 0x78, 0x31, 0x08, 0x70, 0x40, 0x00, 0x00, 0x00, 0x00, 0x25, 0x09, 0x76, 0xD0, 0x02, 0x00, 0x04, 0x40, 0x00, 0x08};
+    size_t length;
+    for (length = 0; length <= sizeof data; length++) {
+        int between = length == 0 || length == 3 || length == 11 || length == sizeof data;
+        size_t count = length == sizeof data ? 2 : 0;
+        CHECK(any_answers(data, length, LENGTH(columns), VEJUPA_ACCEPTED, count, !between));
+        CHECK(whole_answers(data, length, LENGTH(columns), between ? VEJUPA_ACCEPTED : VEJUPA_QRYDSC_BROKEN_OFF, count));
+    }
 }
 
 /* An SDA, a LID that is not declared and one that is, and a row of their columns. */
@@ -239,16 +374,16 @@ static void described_origins(void) {
     static const uint8_t description[] = {0x03, 0x78, 0x33, 0x08, 0x70, 0x41, 0x00, 0x00, 0x00, 0x00, 0x25, 0x05, 0x70,
                                           0x02, 0x00, 0x04, 0x09, 0x76, 0xD0, 0x02, 0x00, 0x04, 0x41, 0x00, 0x14};
     static const uint8_t data[] = {0x2A, 0x00, 0x00, 0x00, 0x00, 0x00, 0x00, 0x2A, 0x00, 0x00, 0x02, 0xC1, 0xC2};
-    struct vejupa_column described[3];
+    struct vejupa_column found[3];
     size_t count;
-    CHECK(vejupa_parse_qrydsc(description, sizeof description, described, 3, &count) == VEJUPA_ACCEPTED && count == 3);
-    CHECK(described[0].words[0] == UINT64_C(0x0002000002000001) && described[0].words[1] == 4);
-    CHECK(described[1].words[0] == UINT64_C(0x0008000102000001) && described[1].words[1] == 4);
-    CHECK(described[2].words[0] == UINT64_C(0x0011000233001408) && described[2].words[1] == UINT64_C(0x0000002500000014));
-    CHECK(vejupa_column_origin(&described[0]) == VEJUPA_ORIGIN_SDA && vejupa_column_little_endian(&described[0]));
-    CHECK(vejupa_column_origin(&described[1]) == VEJUPA_ORIGIN_UNDECLARED_LID && !vejupa_column_little_endian(&described[1]));
-    CHECK(vejupa_column_origin(&described[2]) == VEJUPA_ORIGIN_DECLARED_LID && !vejupa_column_little_endian(&described[2]));
-    CHECK(vejupa_decode_row(described, 3, data, sizeof data, values, 3, text, sizeof text, &row) == VEJUPA_ACCEPTED && numbers(13, 2, 0, 0));
+    CHECK(vejupa_parse_whole_qrydsc(description, sizeof description, found, 3, &count) == VEJUPA_ACCEPTED && count == 3);
+    CHECK(found[0].words[0] == UINT64_C(0x0002000002000001) && found[0].words[1] == 4);
+    CHECK(found[1].words[0] == UINT64_C(0x0008000102000001) && found[1].words[1] == 4);
+    CHECK(found[2].words[0] == UINT64_C(0x0011000233001408) && found[2].words[1] == UINT64_C(0x0000002500000014));
+    CHECK(vejupa_column_origin(&found[0]) == VEJUPA_ORIGIN_SDA && vejupa_column_little_endian(&found[0]));
+    CHECK(vejupa_column_origin(&found[1]) == VEJUPA_ORIGIN_UNDECLARED_LID && !vejupa_column_little_endian(&found[1]));
+    CHECK(vejupa_column_origin(&found[2]) == VEJUPA_ORIGIN_DECLARED_LID && !vejupa_column_little_endian(&found[2]));
+    CHECK(vejupa_decode_row(found, 3, data, sizeof data, values, 3, text, sizeof text, &row) == VEJUPA_ACCEPTED && numbers(13, 2, 0, 0));
     CHECK(vejupa_value_integer(&values[0]) == 42 && vejupa_value_integer(&values[1]) == 42 && is_text(row.text_length, "AB"));
 }
 
@@ -286,7 +421,7 @@ static void rows(void) {
     CHECK(decode(2, ten, 4, 0) == VEJUPA_NO_COLUMN && numbers(0, 0, 0, 0));
     CHECK(vejupa_is_column(&columns[0]) && !vejupa_is_column(&columns[1]));
 
-    CHECK(vejupa_parse_qrydsc(small_int_and_decimal, sizeof small_int_and_decimal, columns, 2, &count) == VEJUPA_ACCEPTED);
+    CHECK(vejupa_parse_whole_qrydsc(small_int_and_decimal, sizeof small_int_and_decimal, columns, 2, &count) == VEJUPA_ACCEPTED);
     CHECK(decode(2, data, sizeof data, 5) == VEJUPA_TEXT_BUFFER_TOO_SHORT && numbers(0, 6, 0, 0));
     CHECK(vejupa_decode_row(columns, 2, data, sizeof data, values, 2, NULL, 0, &row) == VEJUPA_TEXT_BUFFER_TOO_SHORT && numbers(0, 6, 0, 0));
     CHECK(decode(2, data, sizeof data, 6) == VEJUPA_ACCEPTED && numbers(7, 6, 0, 0));
@@ -307,18 +442,18 @@ static void rows_one_after_the_other(void) {
                                         0x00, ' ',  ' ',  ' ',  ' ',  ' ',  ' ',  ' ',  ' ',  ' ',  ' ',  ' ',  0x00, 0x00, 0x00, 0x00, 0x00, 0x00, 0xFF, 0xFF};
     size_t count, at = 0, rows = 0;
     CHECK(vejupa_decode_row(NULL, 0, NULL, 0, NULL, 0, NULL, 0, &row) == VEJUPA_ACCEPTED && numbers(0, 0, 0, 0));
-    CHECK(vejupa_parse_qrydsc(small_ints, sizeof small_ints, columns, 1, &count) == VEJUPA_ACCEPTED);
+    CHECK(vejupa_parse_whole_qrydsc(small_ints, sizeof small_ints, columns, 1, &count) == VEJUPA_ACCEPTED);
     while (at < sizeof query_end && decode(count, query_end + at, sizeof query_end - at, 0) == VEJUPA_ACCEPTED) {
         CHECK(row.used == 2);
         at += row.used;
         rows++;
     }
     CHECK(sizeof query_end == 62 && rows == 30 && at == 60);
-    CHECK(vejupa_parse_qrydsc(nullable_pairs, sizeof nullable_pairs, columns, 2, &count) == VEJUPA_ACCEPTED);
+    CHECK(vejupa_parse_whole_qrydsc(nullable_pairs, sizeof nullable_pairs, columns, 2, &count) == VEJUPA_ACCEPTED);
     CHECK(decode(count, bare, sizeof bare, 0) == VEJUPA_ACCEPTED && row.used == 8);
     CHECK(vejupa_value_integer(&values[0]) == 1792 && vejupa_value_integer(&values[1]) == 256);
     CHECK(decode(1, bare, 1, 0) == VEJUPA_ACCEPTED && row.used == 1 && vejupa_value_is_null(&values[0]));
-    CHECK(vejupa_parse_qrydsc(small_ints, sizeof small_ints, columns, 1, &count) == VEJUPA_ACCEPTED);
+    CHECK(vejupa_parse_whole_qrydsc(small_ints, sizeof small_ints, columns, 1, &count) == VEJUPA_ACCEPTED);
     CHECK(decode(count, minus_one, sizeof minus_one, 0) == VEJUPA_ACCEPTED && row.used == 4 && vejupa_value_integer(&values[0]) == 1);
 }
 
@@ -424,14 +559,15 @@ static void fixed_lengths(void) {
 
 /* Each answer has words of its own, and a number that is none has others. */
 static void names(void) {
-    static const uint32_t answers[] = {0, 1, 2, 3, 4, 5, 6, 7, 8, 9, 101, 102, 10};
+    static const uint32_t answers[] = {0, 1, 2, 3, 4, 5, 6, 7, 8, 9, 15, 101, 102, 10};
     size_t i, j;
     for (i = 0; i < LENGTH(answers); i++) {
         for (j = 0; j < i; j++) {
             CHECK(strcmp(vejupa_refusal_name(answers[i]), vejupa_refusal_name(answers[j])) != 0);
         }
     }
-    CHECK(strcmp(vejupa_refusal_name(10), vejupa_refusal_name(UINT32_MAX)) == 0);
+    CHECK(strcmp(vejupa_refusal_name(10), vejupa_refusal_name(UINT32_MAX)) == 0 && strcmp(vejupa_refusal_name(10), vejupa_refusal_name(14)) == 0);
+    CHECK(strcmp(vejupa_refusal_name(VEJUPA_QRYDSC_BROKEN_OFF), "the description breaks off") == 0);
     for (i = 0; i <= VEJUPA_TYPE_NULL + 1; i++) {
         for (j = 0; j < i; j++) {
             CHECK(strcmp(vejupa_type_name((uint32_t)i), vejupa_type_name((uint32_t)j)) != 0);
@@ -470,6 +606,8 @@ int main(void) {
     fields_of_values();
     bytes_of_values();
     described_origins();
+    ends_of_descriptions();
+    descriptions_cut_off();
     descriptions();
     rows();
     rows_one_after_the_other();

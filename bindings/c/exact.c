@@ -1,4 +1,4 @@
-/* Makes the calls of a stored list (the format of oracle/README.md: Q, T, G, L and P lines, and q, t and g; others are passed over) with every slice in
+/* Makes the calls of a stored list (the format of oracle/README.md: Q, T, G, L and P lines, q, t and g, and n; others are passed over) with every slice in
  * memory of exactly its length, so that a memory checker sees a byte read or written outside of it. It compares no answer: oracle/check does.
  * tools/check-memory runs it. */
 #include <ctype.h>
@@ -25,20 +25,47 @@ static void *exactly(size_t n) {
     return memory;
 }
 
-static int digit(char c) {
-    const char *digits = "0123456789ABCDEF", *at = c == '\0' ? NULL : strchr(digits, c);
-    return at == NULL ? -1 : (int)(at - digits);
+#define DIGITS "0123456789ABCDEF"
+
+static uint8_t digit(char c) { return (uint8_t)(strchr(DIGITS, c) - DIGITS); }
+
+/* One part of a field: bytes in hexadecimal, or one byte many times, as 00*1048577; `-` is none. */
+struct part {
+    const char *digits;
+    size_t length;
+    size_t step; /* from the digits of one byte to those of the next */
+};
+
+static struct part part_of(const char *field) {
+    size_t digits = strspn(field, DIGITS);
+    struct part one = {field, digits / 2, 2};
+    if (field[digits] == '*') {
+        one.length = (size_t)strtoul(field + digits + 1, NULL, 10);
+        one.step = 0;
+    }
+    return one;
 }
 
-/* The bytes of a field in hexadecimal, `-` for none, or of one byte many times, as 00*1048577. */
+/* Where the next part begins, behind a +; NULL where there is none. */
+static const char *next_part(const char *field) {
+    const char *plus = strchr(field, '+');
+    return plus == NULL ? NULL : plus + 1;
+}
+
+/* The bytes of a field, of all its parts. */
 static struct slice bytes_of(const char *field) {
-    const char *star = strchr(field, '*');
-    size_t written = strcmp(field, "-") == 0 ? 0 : strlen(field) / 2;
-    struct slice s = {NULL, star == NULL ? written : (size_t)strtoul(star + 1, NULL, 10)};
+    struct slice s = {NULL, 0};
+    size_t at = 0;
+    for (const char *rest = field; rest != NULL; rest = next_part(rest)) {
+        s.length += part_of(rest).length;
+    }
     s.start = exactly(s.length);
-    for (size_t i = 0; i < s.length; i++) {
-        const char *pair = star == NULL ? field + 2 * i : field;
-        s.start[i] = (uint8_t)(16 * digit(pair[0]) + digit(pair[1]));
+    for (const char *rest = field; rest != NULL; rest = next_part(rest)) {
+        struct part part = part_of(rest);
+        for (size_t i = 0; i < part.length; i++) {
+            const char *pair = part.digits + part.step * i;
+            s.start[at++] = (uint8_t)(16 * digit(pair[0]) + digit(pair[1]));
+        }
     }
     return s;
 }
@@ -76,19 +103,50 @@ static void row(const struct vejupa_column *columns, size_t count, struct slice 
     }
 }
 
-static void description(struct slice data, struct slice row_data) {
+/* Either call for descriptions. */
+static uint32_t parse(int whole, struct slice data, struct vejupa_column *columns, size_t room, size_t *count) {
+    uint32_t broken_off = 0, refusal;
+    if (whole) {
+        refusal = vejupa_parse_whole_qrydsc(data.start, data.length, columns, room, count);
+    } else {
+        refusal = vejupa_parse_qrydsc(data.start, data.length, columns, room, count, &broken_off);
+    }
+    touched += broken_off;
+    return refusal;
+}
+
+/* Reads the words of every column. */
+static void touch_columns(const struct vejupa_column *columns, size_t count) {
+    for (size_t k = 0; k < count; k++) {
+        touched += columns[k].words[0] ^ columns[k].words[1];
+    }
+}
+
+/* A description by one of the two. The row is decoded by the columns of the one that takes more descriptions: by the other's it would be the same. */
+static void description(int whole, struct slice data, struct slice row_data) {
     struct vejupa_column *columns = exactly(0);
     size_t count;
-    uint32_t refusal = vejupa_parse_qrydsc(data.start, data.length, columns, 0, &count);
+    uint32_t refusal = parse(whole, data, columns, 0, &count);
     if (refusal == VEJUPA_TOO_LITTLE_ROOM) {
         free(columns);
         columns = exactly(count * sizeof *columns);
-        refusal = vejupa_parse_qrydsc(data.start, data.length, columns, count, &count);
+        refusal = parse(whole, data, columns, count, &count);
     }
-    if (refusal == VEJUPA_ACCEPTED) {
+    if (refusal == VEJUPA_ACCEPTED && whole) {
+        touch_columns(columns, count);
+    } else if (refusal == VEJUPA_ACCEPTED) {
         row(columns, count, row_data);
     }
     free(columns);
+}
+
+/* A description by both, from its field and the row's. */
+static void descriptions(const char *field, const char *row_field) {
+    struct slice data = bytes_of(field), row_data = bytes_of(row_field);
+    description(1, data, row_data);
+    description(0, data, row_data);
+    free(data.start);
+    free(row_data.start);
 }
 
 static uint32_t convert(char kind, unsigned number, struct slice data, uint8_t *text, size_t text_room, size_t *text_length, size_t *replaced) {
@@ -128,10 +186,9 @@ int main(void) {
             }
         }
         if (n == 4 && strcmp(fields[0], "Q") == 0) {
-            struct slice data = bytes_of(fields[1]), row_data = bytes_of(fields[3]);
-            description(data, row_data);
-            free(data.start);
-            free(row_data.start);
+            descriptions(fields[1], fields[3]);
+        } else if (n >= 2 && strcmp(fields[0], "n") == 0) {
+            descriptions(fields[1], "-"); /* such a line has no row */
         } else if (n >= 3 && (*fields[0] == 'T' || *fields[0] == 'G' || *fields[0] == 'P')) {
             struct slice data = bytes_of(fields[2]);
             text_of(*fields[0], (unsigned)strtoul(fields[1], NULL, 10), data);
@@ -145,6 +202,6 @@ int main(void) {
         }
         calls++;
     }
-    printf("%lu requests, the bytes of their values add up to %lu\n", calls, touched);
+    printf("%lu requests, what was read of their answers adds up to %lu\n", calls, touched);
     return 0;
 }

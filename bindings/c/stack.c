@@ -1,6 +1,6 @@
 /* How much stack the calls take: each is made on a stack of its own, filled with a pattern first, whose bytes are then counted from the end that stayed. It
- * prints one line, and fails where a call took more than the header says. Long texts take other ways through the library than short ones, so there
- * are both. tools/check-bindings compiles and runs it. */
+ * prints one line, and fails where a call took more than the header says. Long texts take other ways through the library than short ones, and
+ * descriptions of columns other ways than bytes that describe none, so there are all of these. tools/check-bindings compiles and runs it. */
 #define _XOPEN_SOURCE 700
 #include <stdio.h>
 #include <stdlib.h>
@@ -21,7 +21,8 @@ static size_t text_room;
 static uint8_t text[3 * sizeof data + 14 + 258];
 static struct vejupa_column columns[VEJUPA_MAX_COLUMNS];
 static struct vejupa_value values[VEJUPA_MAX_COLUMNS];
-static size_t count, text_length, replaced;
+static size_t columns_room, count, text_length, replaced;
+static uint32_t broken_off;
 static struct vejupa_row row;
 
 static void nothing(void) {}
@@ -29,7 +30,8 @@ static void characters(void) { (void)vejupa_decode_character_bytes(data, data_le
 static void graphics(void) { (void)vejupa_decode_graphic_bytes(data, data_len, ccsid, text, text_room, &text_length, &replaced); }
 static void decimal(void) { (void)vejupa_decode_packed_decimal(data, 128, 2, text, text_room, &text_length); }
 static void likely(void) { (void)vejupa_bytes_are_likely_text(data, data_len); }
-static void description(void) { (void)vejupa_parse_qrydsc(data, data_len, columns, VEJUPA_MAX_COLUMNS, &count); }
+static void whole_description(void) { (void)vejupa_parse_whole_qrydsc(data, data_len, columns, columns_room, &count); }
+static void any_description(void) { (void)vejupa_parse_qrydsc(data, data_len, columns, columns_room, &count, &broken_off); }
 static void decode(void) { (void)vejupa_decode_row(columns, 1, data, data_len, values, VEJUPA_MAX_COLUMNS, text, text_room, &row); }
 
 /* The bytes of stack that a call took, the beginning of such a stack included. */
@@ -78,6 +80,44 @@ static void calls(size_t n) {
     }
 }
 
+/* Both calls for descriptions on the first n bytes of `data`: without room for a column, and with room for all. */
+static void description_calls(size_t n) {
+    data_len = n;
+    for (columns_room = 0; columns_room <= VEJUPA_MAX_COLUMNS; columns_room += VEJUPA_MAX_COLUMNS) {
+        call(whole_description);
+        call(any_description);
+    }
+}
+
+/* A description of so many columns, each by one of these triplets in turn, and its length: an SDA, a group of one, and a D0 group of a LID that an entry
+ * declares, or of one that none does. */
+static size_t describe(size_t column_count) {
+    static const uint8_t entry[] = {0x03, 0x78, 0x31, 0x08, 0x70, 0x40, 0x00, 0x00, 0x00, 0x00, 0x25};
+    static const uint8_t triplets[4][9] = {{0x09, 0x70, 0x0C, 0x00, 0x03, 0x05, 0x02, 0x00, 0x25},
+                                           {0x09, 0x76, 0x07, 0x70, 0x30, 0x00, 0x08, 0x04, 0xB8},
+                                           {0x06, 0x76, 0xD0, 0x40, 0x00, 0x08},
+                                           {0x06, 0x76, 0xD0, 0x0F, 0x05, 0x02}};
+    size_t at = sizeof entry, k;
+    memcpy(data, entry, at);
+    for (k = 0; k < column_count; k++) {
+        memcpy(data + at, triplets[k % 4], triplets[k % 4][0]);
+        at += triplets[k % 4][0];
+    }
+    return at;
+}
+
+/* Few columns, as many as can be, and one too many; whole, and with a byte behind it. */
+static void descriptions(void) {
+    static const size_t column_counts[] = {0, 1, 4, VEJUPA_MAX_COLUMNS, VEJUPA_MAX_COLUMNS + 1};
+    size_t k;
+    for (k = 0; k < sizeof column_counts / sizeof *column_counts; k++) {
+        size_t length = describe(column_counts[k]);
+        data[length] = 0x05;
+        description_calls(length);
+        description_calls(length + 1);
+    }
+}
+
 /* Characters of one, two, three and four bytes by turns, in UTF-8. */
 static void mixed(void) {
     static const char characters_by_turns[] = "A\xC3\xA9\xE6\xBC\xA2\xF0\x9F\x98\x80";
@@ -100,9 +140,9 @@ int main(void) {
         for (k = 0; k < sizeof lengths / sizeof *lengths; k++) {
             calls(lengths[k]);
         }
-        data_len = sizeof data;
-        call(description);
+        description_calls(sizeof data);
     }
+    descriptions();
     if (taken(nothing) > 512 || most > SAID) {
         printf("a call took %zu bytes of stack\n", most);
         return 1;

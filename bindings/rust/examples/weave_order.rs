@@ -99,7 +99,9 @@ fn print_rows(columns: &Columns) {
 }
 
 fn main() -> Result<(), Refusal> {
-    let columns = Columns::parse(DESCRIPTION)?;
+    // A description that breaks off is refused here. Columns may be missing in one: rows would lack their values, and each next row would be
+    // looked for within the one before it.
+    let columns = Columns::parse_whole(DESCRIPTION)?;
     print_columns(&columns);
     print_rows(&columns);
     print!("\nthe first row, cut off: ");

@@ -155,33 +155,93 @@ impl Column {
     }
 }
 
-/// The columns that a description (QRYDSC) lists, in order.
+/// The columns that a description (QRYDSC) lists, in order, where it does not break off: the call for what comes from a host.
+/// [`Columns::parse_whole`] is the same in the form that the row call takes.
 ///
-/// A description that is damaged or cut off is not refused: what comes out are the columns before the damage. Nor is one that goes on in a
-/// triplet 7F, as Apache Derby's server sends from the 85th column on: those columns are missing. How many a query has, its caller may know otherwise.
+/// A description is read as triplets, one behind the other: a length byte, which counts itself, a type byte and data. It *breaks off* where
+/// bytes are left behind the last whole one: a single byte; a length of 0 or 1, and so zeros at the end too; a length that runs past the
+/// end. The empty description does not.
+///
+/// Not all damage is noticed: a cut exactly between two triplets, a wrong length that happens to fit, and damage within a triplet or a group
+/// are not, and the columns are then fewer than the host's, or others. Nor is a description refused that goes on in a triplet 7F, as Apache
+/// Derby's server sends from the 85th column on: those columns are missing. Compare their number with that of the query, where it is known.
 ///
 /// # Errors
-/// [`Refusal::QrydscTooLong`] and [`Refusal::TooManyColumns`].
+/// The first of [`Refusal::QrydscTooLong`], [`Refusal::QrydscBrokenOff`] and [`Refusal::TooManyColumns`] that applies.
 ///
 /// ```
-/// use vejupa::{parse_qrydsc, Db2Type};
-/// let columns = parse_qrydsc(&[0x05, 0x70, 0x02, 0x00, 0x04])?;
-/// assert_eq!(columns.len(), 1);
+/// use vejupa::{parse_whole_qrydsc, Db2Type, Refusal};
+/// let two = [0x05, 0x70, 0x02, 0x00, 0x04, 0x05, 0x70, 0x04, 0x00, 0x02];
+/// let columns = parse_whole_qrydsc(&two)?;
+/// assert_eq!(columns.len(), 2);
 /// assert_eq!(columns[0].db2_type, Db2Type::Integer);
 ///
-/// let cut_off = parse_qrydsc(&[0x05, 0x70, 0x02, 0x00, 0x04, 0x05, 0x70, 0x02])?;
-/// assert_eq!(cut_off.len(), 1);
+/// assert_eq!(parse_whole_qrydsc(&two[..8]), Err(Refusal::QrydscBrokenOff));
+/// // Cut between the two, it is the description of one column.
+/// assert_eq!(parse_whole_qrydsc(&two[..5])?.len(), 1);
+/// # Ok::<(), Refusal>(())
+/// ```
+pub fn parse_whole_qrydsc(data: &[u8]) -> Result<Vec<Column>, Refusal> {
+    Columns::parse_whole(data).map(|columns| columns.iter().collect())
+}
+
+/// The columns that a description (QRYDSC) lists, in order, also where it breaks off; and whether it does. For what comes from a host call
+/// [`parse_whole_qrydsc`] or [`Columns::parse_whole`]: they refuse a description that breaks off.
+///
+/// This one is there for descriptions that were stored with such an ending, when nothing refused them, so that the rows stored beside them
+/// can still be decoded. Of one that breaks off, the columns read up to there are all that there are. The damage that
+/// [`parse_whole_qrydsc`] does not notice is not noticed here either.
+///
+/// # Errors
+/// The first of [`Refusal::QrydscTooLong`] and [`Refusal::TooManyColumns`] that applies.
+///
+/// ```
+/// use vejupa::parse_qrydsc;
+/// let stored = [0x05, 0x70, 0x02, 0x00, 0x04, 0x05, 0x70, 0x04];
+/// let description = parse_qrydsc(&stored)?;
+/// if description.broken_off {
+///     eprintln!("the description breaks off: columns may be missing");
+/// }
+/// let row = description.columns.decode_row(&[0x2A, 0x00, 0x00, 0x00])?;
+/// assert_eq!(row.values.len(), 1);
+/// # assert!(description.broken_off);
 /// # Ok::<(), vejupa::Refusal>(())
 /// ```
-pub fn parse_qrydsc(data: &[u8]) -> Result<Vec<Column>, Refusal> {
-    Columns::parse(data).map(|columns| columns.iter().collect())
+pub fn parse_qrydsc(data: &[u8]) -> Result<Description, Refusal> {
+    let mut words = [0; COLUMN_WORDS * MAX_COLUMNS];
+    let answer = raw::parse_qrydsc(data, &mut words);
+    Ok(Description {
+        columns: described(answer.number, answer.count, &words)?,
+        broken_off: answer.broken_off != 0,
+    })
+}
+
+// What was written of the words, where the description was accepted.
+fn described(number: u32, count: usize, words: &[u64]) -> Result<Columns, Refusal> {
+    match number {
+        ACCEPTED => Ok(Columns {
+            words: words[..COLUMN_WORDS * count].to_vec(),
+        }),
+        _ => Err(Refusal::from_number(number)),
+    }
+}
+
+/// What [`parse_qrydsc`] gives: the columns, and whether the description breaks off behind them.
+#[derive(Debug, Clone, PartialEq, Eq, Hash, Default)]
+#[non_exhaustive]
+#[must_use = "the description may break off"]
+pub struct Description {
+    /// The columns: all of the description, or those read up to where it breaks off.
+    pub columns: Columns,
+    /// Whether the description breaks off, so that columns may be missing.
+    pub broken_off: bool,
 }
 
 /// A list of columns, laid out for the row call once and for all its rows.
 ///
 /// ```
 /// use vejupa::{Column, Columns, Db2Type};
-/// let columns = Columns::parse(&[0x05, 0x70, 0x02, 0x00, 0x04])?;
+/// let columns = Columns::parse_whole(&[0x05, 0x70, 0x02, 0x00, 0x04])?;
 /// for column in &columns {
 ///     assert_eq!(column.db2_type, Db2Type::Integer);
 /// }
@@ -197,19 +257,23 @@ pub struct Columns {
 }
 
 impl Columns {
-    /// The columns that a description (QRYDSC) lists. One that is damaged or cut off gives the columns before the damage.
+    /// The columns that a description (QRYDSC) lists, where it does not break off: [`parse_whole_qrydsc`] in the form that the row call
+    /// takes, which says what is noticed and what is not. [`parse_qrydsc`] also takes one that breaks off, as it may have been stored.
     ///
     /// # Errors
-    /// As [`parse_qrydsc`].
-    pub fn parse(data: &[u8]) -> Result<Columns, Refusal> {
+    /// As [`parse_whole_qrydsc`].
+    ///
+    /// ```
+    /// use vejupa::{Columns, Refusal};
+    /// let two = [0x05, 0x70, 0x02, 0x00, 0x04, 0x05, 0x70, 0x04, 0x00, 0x02];
+    /// assert_eq!(Columns::parse_whole(&two)?.len(), 2);
+    /// assert_eq!(Columns::parse_whole(&two[..9]), Err(Refusal::QrydscBrokenOff));
+    /// # Ok::<(), Refusal>(())
+    /// ```
+    pub fn parse_whole(data: &[u8]) -> Result<Columns, Refusal> {
         let mut words = [0; COLUMN_WORDS * MAX_COLUMNS];
-        let answer = raw::parse_qrydsc(data, &mut words);
-        if answer.number != ACCEPTED {
-            return Err(Refusal::from_number(answer.number));
-        }
-        Ok(Columns {
-            words: words[..COLUMN_WORDS * answer.count].to_vec(),
-        })
+        let answer = raw::parse_whole_qrydsc(data, &mut words);
+        described(answer.number, answer.count, &words)
     }
 
     /// How many columns there are.

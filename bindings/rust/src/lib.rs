@@ -6,7 +6,7 @@
 //! use vejupa::{decode_row_into, Buffers, Columns, Value};
 //!
 //! // The host describes its columns once: an Integer, and a Decimal of 5 digits, 2 of them behind the point, that may be null.
-//! let columns = Columns::parse(&[0x09, 0x76, 0xD0, 0x02, 0x00, 0x04, 0x0F, 0x05, 0x02])?;
+//! let columns = Columns::parse_whole(&[0x09, 0x76, 0xD0, 0x02, 0x00, 0x04, 0x0F, 0x05, 0x02])?;
 //!
 //! // Rows follow. The buffers are used for one after the other.
 //! let mut buffers = Buffers::new();
@@ -17,9 +17,10 @@
 //! # Ok::<(), vejupa::Refusal>(())
 //! ```
 //!
-//! [`parse_qrydsc`] and [`decode_row`] are the same in a shorter form, with owned values, which allocates for each row. [`Rows`] goes
-//! through rows that lie one after the other. [`decode_character_bytes`] and the like convert single texts. [`raw`] has the calls on
-//! plain words and lent slices.
+//! [`parse_whole_qrydsc`] and [`decode_row`] are the same in a shorter form, with owned values, which allocates for each row. A description
+//! that breaks off is refused; [`parse_qrydsc`] is for one that was stored so: it gives the columns read up to there, and says that it
+//! breaks off. [`Rows`] goes through rows that lie one after the other. [`decode_character_bytes`] and the like convert single texts.
+//! [`raw`] has the calls on plain words and lent slices.
 //!
 //! # The archive
 //!
@@ -45,7 +46,9 @@ mod text;
 mod types;
 mod value;
 
-pub use column::{parse_qrydsc, Column, Columns, ColumnsIntoIter, ColumnsIter};
+pub use column::{
+    parse_qrydsc, parse_whole_qrydsc, Column, Columns, ColumnsIntoIter, ColumnsIter, Description,
+};
 pub use refusal::Refusal;
 pub use row::{decode_row, decode_row_into, Buffers, OwnedRow, Row, Values};
 pub use rows::Rows;

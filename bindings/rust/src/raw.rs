@@ -12,8 +12,16 @@ mod foreign {
     }
 
     unsafe extern "C" {
-        pub fn vejupa_version_0_4_0() -> u32;
+        pub fn vejupa_version_0_5_0() -> u32;
         pub fn vejupa_raw_parse_qrydsc(
+            data: *const u8,
+            data_len: usize,
+            column_words: *mut u64,
+            column_words_len: usize,
+            count: *mut usize,
+            broken_off: *mut u32,
+        ) -> u32;
+        pub fn vejupa_raw_parse_whole_qrydsc(
             data: *const u8,
             data_len: usize,
             column_words: *mut u64,
@@ -92,7 +100,7 @@ mod foreign {
 
 // The symbol has the version's name: a program does not link with an archive of another one.
 #[used]
-static OF_THIS_VERSION: unsafe extern "C" fn() -> u32 = foreign::vejupa_version_0_4_0;
+static OF_THIS_VERSION: unsafe extern "C" fn() -> u32 = foreign::vejupa_version_0_5_0;
 
 /// What every call answers where it accepts.
 pub const ACCEPTED: u32 = 0;
@@ -151,6 +159,17 @@ pub struct DescriptionAnswer {
     pub number: u32,
     /// Accepted and [`TOO_FEW_WORDS`]: the number of columns. Else 0.
     pub count: usize,
+    /// Accepted: 1 where the description breaks off, else 0. With any other number 0.
+    pub broken_off: u32,
+}
+
+/// What `parse_whole_qrydsc` answers beside the words.
+#[derive(Debug, Clone, Copy, PartialEq, Eq)]
+pub struct WholeDescriptionAnswer {
+    /// [`ACCEPTED`], a refusal's number or [`TOO_FEW_WORDS`].
+    pub number: u32,
+    /// Accepted and [`TOO_FEW_WORDS`]: the number of columns. Else 0.
+    pub count: usize,
 }
 
 /// What `fixed_length` answers.
@@ -173,12 +192,13 @@ const UNWRITTEN: usize = usize::MAX;
 
 /// The archive's version: 10,000 for each major one, 100 for each minor one, 1 for each patch.
 pub fn version() -> u32 {
-    unsafe { foreign::vejupa_version_0_4_0() }
+    unsafe { foreign::vejupa_version_0_5_0() }
 }
 
 /// Two words a column into `column_words`, for as many columns as are described.
 pub fn parse_qrydsc(data: &[u8], column_words: &mut [u64]) -> DescriptionAnswer {
     let mut count = UNWRITTEN;
+    let mut broken_off = u32::MAX;
     let number = unsafe {
         foreign::vejupa_raw_parse_qrydsc(
             data.as_ptr(),
@@ -186,9 +206,29 @@ pub fn parse_qrydsc(data: &[u8], column_words: &mut [u64]) -> DescriptionAnswer 
             column_words.as_mut_ptr(),
             column_words.len(),
             &mut count,
+            &mut broken_off,
         )
     };
-    DescriptionAnswer { number, count }
+    DescriptionAnswer {
+        number,
+        count,
+        broken_off,
+    }
+}
+
+/// The same, of a description that does not break off; one that does is refused by 15.
+pub fn parse_whole_qrydsc(data: &[u8], column_words: &mut [u64]) -> WholeDescriptionAnswer {
+    let mut count = UNWRITTEN;
+    let number = unsafe {
+        foreign::vejupa_raw_parse_whole_qrydsc(
+            data.as_ptr(),
+            data.len(),
+            column_words.as_mut_ptr(),
+            column_words.len(),
+            &mut count,
+        )
+    };
+    WholeDescriptionAnswer { number, count }
 }
 
 /// Three words a value into `value_words`, and the texts into `text`.

@@ -37,10 +37,12 @@ pub enum Refusal {
         /// The length needed.
         needed: usize,
     },
+    /// 15: a description that breaks off: bytes are left behind its last whole triplet. It is tested behind 1 and before 2.
+    QrydscBrokenOff,
 }
 
 impl Refusal {
-    /// The refusal's number, 1 to 9.
+    /// The refusal's number.
     pub fn number(self) -> u32 {
         match self {
             Refusal::QrydscTooLong => 1,
@@ -52,6 +54,7 @@ impl Refusal {
             Refusal::DecimalTooLong => 7,
             Refusal::BufferTooShort { .. } => 8,
             Refusal::TextBufferTooShort { .. } => 9,
+            Refusal::QrydscBrokenOff => 15,
         }
     }
 
@@ -68,6 +71,7 @@ impl Refusal {
             5 => Refusal::DecFloatColumn,
             6 => Refusal::DecimalEmpty,
             7 => Refusal::DecimalTooLong,
+            15 => Refusal::QrydscBrokenOff,
             // To ask for the version also makes every program refer to its symbol where the compiler lets the linker drop a static (`raw`).
             _ => panic!(
                 "the library of version {} answered {number}, which is no refusal here",
@@ -100,6 +104,7 @@ impl fmt::Display for Refusal {
                 f,
                 format_args!("refusal 9: the text buffer is too short: {needed} bytes needed"),
             ),
+            Refusal::QrydscBrokenOff => pad(f, format_args!("refusal 15: the description breaks off")),
         }
     }
 }

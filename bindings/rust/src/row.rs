@@ -154,8 +154,8 @@ pub struct Row<'a> {
 /// [`Refusal::CountTooLarge`], [`Refusal::InputTooLong`], [`Refusal::DecFloatColumn`] and [`Refusal::BufferTooShort`].
 ///
 /// ```
-/// use vejupa::{decode_row, parse_qrydsc, Value};
-/// let columns = parse_qrydsc(&[0x09, 0x76, 0xD0, 0x05, 0x00, 0x02, 0x0F, 0x05, 0x02])?;
+/// use vejupa::{decode_row, parse_whole_qrydsc, Value};
+/// let columns = parse_whole_qrydsc(&[0x09, 0x76, 0xD0, 0x05, 0x00, 0x02, 0x0F, 0x05, 0x02])?;
 /// let row = decode_row(&[0x00, 0x00, 0x2A, 0x00, 0x12, 0x34, 0x5C], &columns)?;
 /// assert_eq!(row.values, [Value::SmallInt(42), Value::Decimal("123.45")]);
 /// assert_eq!(row.used, 7);
@@ -172,7 +172,7 @@ pub fn decode_row(data: &[u8], columns: &[Column]) -> Result<OwnedRow, Refusal> 
 ///
 /// ```
 /// use vejupa::{decode_row_into, Buffers, Columns};
-/// let columns = Columns::parse(&[0x05, 0x70, 0x02, 0x00, 0x04])?;
+/// let columns = Columns::parse_whole(&[0x05, 0x70, 0x02, 0x00, 0x04])?;
 /// let mut buffers = Buffers::new();
 /// let mut sum = 0;
 /// for bytes in [[0x2A, 0, 0, 0], [0x01, 0, 0, 0]] {

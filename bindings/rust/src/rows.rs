@@ -29,7 +29,7 @@ use std::iter::FusedIterator;
 ///
 /// ```
 /// use vejupa::{Columns, Rows};
-/// let columns = Columns::parse(&[0x06, 0x76, 0xD0, 0x04, 0x00, 0x02])?;
+/// let columns = Columns::parse_whole(&[0x06, 0x76, 0xD0, 0x04, 0x00, 0x02])?;
 /// // Two rows of a SmallInt, and the beginning of a query end.
 /// let block = [0xFF, 0x00, 0x00, 0x07, 0xFF, 0x00, 0x00, 0x08, 0x00, 0x64, 0x00, 0x00, 0x00];
 /// let mut rows = Rows::new(&block, &columns);
@@ -47,7 +47,7 @@ use std::iter::FusedIterator;
 ///
 /// ```
 /// use vejupa::{Columns, OwnedRow, Refusal, Rows};
-/// let columns = Columns::parse(&[0x06, 0x76, 0xD0, 0x04, 0x00, 0x02])?;
+/// let columns = Columns::parse_whole(&[0x06, 0x76, 0xD0, 0x04, 0x00, 0x02])?;
 /// let rows: Result<Vec<OwnedRow>, Refusal> = Rows::new(&[0x00, 0x07, 0x00, 0x08], &columns).collect();
 /// assert_eq!(rows?.len(), 2);
 /// # Ok::<(), Refusal>(())

@@ -200,9 +200,9 @@ pub enum ByteOrder {
 /// have any origin beside either byte order.
 ///
 /// ```
-/// use vejupa::{parse_qrydsc, Origin};
+/// use vejupa::{parse_whole_qrydsc, Origin};
 /// // An SDA, and a D0 group with one LID.
-/// let columns = parse_qrydsc(&[0x05, 0x70, 0x02, 0x00, 0x04, 0x06, 0x76, 0xD0, 0x02, 0x00, 0x04])?;
+/// let columns = parse_whole_qrydsc(&[0x05, 0x70, 0x02, 0x00, 0x04, 0x06, 0x76, 0xD0, 0x02, 0x00, 0x04])?;
 /// assert_eq!(columns[0].origin, Origin::Sda);
 /// assert_eq!(columns[1].origin, Origin::UndeclaredLid);
 /// # Ok::<(), vejupa::Refusal>(())

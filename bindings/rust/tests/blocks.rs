@@ -11,7 +11,7 @@ const SMALL_INT: &[u8] = &[0x06, 0x76, 0xD0, 0x04, 0x00, 0x02];
 const TWO_NULLABLE: &[u8] = &[0x09, 0x76, 0xD0, 0x05, 0x00, 0x02, 0x05, 0x00, 0x02];
 
 fn columns(description: &[u8]) -> Columns {
-    Columns::parse(description).unwrap()
+    Columns::parse_whole(description).unwrap()
 }
 
 fn numbers(row: &OwnedRow) -> Vec<Option<i64>> {

@@ -1,10 +1,10 @@
-//! Descriptions, columns and their words.
+//! Columns, described and made, and their words.
 mod common;
 
 use common::{all_sorts, walked_both_ways};
-use vejupa::raw::{self, DescriptionAnswer, LengthAnswer, TOO_FEW_WORDS};
+use vejupa::raw::{self, LengthAnswer};
 use vejupa::{
-    decode_row, parse_qrydsc, ByteOrder, Column, Columns, Db2Type, Origin, OwnedRow, Refusal, Value,
+    decode_row, parse_whole_qrydsc, ByteOrder, Column, Columns, Db2Type, Origin, OwnedRow, Value,
 };
 
 /// One of each type.
@@ -137,16 +137,16 @@ fn a_description_and_its_columns() {
     decimal.scale = 2;
     decimal.nullable = true;
     decimal.origin = Origin::UndeclaredLid;
-    let columns = parse_qrydsc(&description).unwrap();
+    let columns = parse_whole_qrydsc(&description).unwrap();
     assert_eq!(columns.len(), 2);
     assert_eq!(columns[1], decimal);
 
-    let packed = Columns::parse(&description).unwrap();
+    let packed = Columns::parse_whole(&description).unwrap();
     assert_eq!(packed, Columns::from(&columns[..]));
     assert_eq!(packed.get(1), Some(decimal));
     assert_eq!(packed.get(2), None);
     assert_eq!(packed.get(usize::MAX), None);
-    assert!(Columns::parse(&[]).unwrap().is_empty());
+    assert!(Columns::parse_whole(&[]).unwrap().is_empty());
 }
 
 /// An SDA, by itself and within a group; a LID before it is declared and after.
@@ -159,7 +159,7 @@ fn where_columns_come_from() {
     ];
     let group = [0x09, 0x76, 0xD0, 0x02, 0x00, 0x04, 0x41, 0x00, 0x14];
     let parts = [&sda[..], &group, &declaration, &group, &group_of_an_sda];
-    let described = parse_qrydsc(&parts.concat()).unwrap();
+    let described = parse_whole_qrydsc(&parts.concat()).unwrap();
 
     let integer = Column::new(Db2Type::Integer).with_length(4);
     let from_sda = integer.with_byte_order(ByteOrder::LittleEndian);
@@ -262,21 +262,6 @@ fn columns_one_by_one() {
     assert_eq!(types, TYPES);
 }
 
-/// What is cut off, or has a length that cannot be, ends the list and is no refusal.
-#[test]
-fn damaged_descriptions() {
-    let two = [0x05, 0x70, 0x02, 0x00, 0x04, 0x05, 0x70, 0x04, 0x00, 0x02];
-    for length in 0..two.len() {
-        let columns = parse_qrydsc(&two[..length]).unwrap();
-        assert_eq!(columns.len(), length / 5, "{length} bytes");
-    }
-    let mut damaged = two;
-    damaged[5] = 0x01;
-    assert_eq!(parse_qrydsc(&damaged), parse_qrydsc(&two[..5]));
-    damaged[5] = 0x06;
-    assert_eq!(parse_qrydsc(&damaged), parse_qrydsc(&two[..5]));
-}
-
 /// The type's own numbers count, not those beside it: three bytes of Char, two of Decimal.
 #[test]
 fn a_type_goes_by_its_own_numbers() {
@@ -292,35 +277,6 @@ fn a_type_goes_by_its_own_numbers() {
     }
     let row = decode_row(b"abc\x12\x3C", &columns).unwrap();
     assert_eq!(row.values, [Value::Char("abc"), Value::Decimal("12.3")]);
-}
-
-#[test]
-fn descriptions_that_are_refused() {
-    assert_eq!(
-        parse_qrydsc(&[0; vejupa::MAX_QRYDSC + 1]),
-        Err(Refusal::QrydscTooLong)
-    );
-    assert_eq!(parse_qrydsc(&[0; vejupa::MAX_QRYDSC]), Ok(vec![]));
-    let integer = [0x05, 0x70, 0x02, 0x00, 0x04];
-    assert_eq!(parse_qrydsc(&integer.repeat(128)).unwrap().len(), 128);
-    assert_eq!(
-        parse_qrydsc(&integer.repeat(129)),
-        Err(Refusal::TooManyColumns)
-    );
-}
-
-#[test]
-fn too_few_words_are_left_as_they_are() {
-    let integer = [0x05, 0x70, 0x02, 0x00, 0x04];
-    let mut words = [7; 3];
-    assert_eq!(
-        raw::parse_qrydsc(&integer.repeat(2), &mut words),
-        DescriptionAnswer {
-            number: TOO_FEW_WORDS,
-            count: 2
-        }
-    );
-    assert_eq!(words, [7; 3]);
 }
 
 #[test]

@@ -1,7 +1,7 @@
 //! The cases A to P of the rules ("At the edges"), each with its whole outcome. crates/edges has the same table for the prover.
 use vejupa::{
-    decode_packed_decimal, decode_row, decode_row_into, parse_qrydsc, Buffers, Columns, Refusal,
-    Value,
+    decode_packed_decimal, decode_row, decode_row_into, parse_qrydsc, parse_whole_qrydsc, Buffers,
+    Columns, Refusal, Value,
 };
 
 struct Case {
@@ -116,13 +116,16 @@ const ROWS: [Case; 11] = [
 fn rows() {
     let mut buffers = Buffers::new();
     for case in ROWS {
-        let columns = parse_qrydsc(case.description).unwrap();
+        let columns = parse_whole_qrydsc(case.description).unwrap();
         let row = decode_row(case.row, &columns).unwrap();
         assert_eq!(row.values, case.values, "{}", case.letter);
         assert_eq!(row.external_columns, case.external, "{}", case.letter);
         assert_eq!(row.used, case.used, "{}", case.letter);
 
-        let columns = Columns::parse(case.description).unwrap();
+        let columns = Columns::parse_whole(case.description).unwrap();
+        let description = parse_qrydsc(case.description).unwrap();
+        assert!(!description.broken_off, "{}", case.letter);
+        assert_eq!(description.columns, columns, "{}", case.letter);
         let row = decode_row_into(case.row, &columns, &mut buffers).unwrap();
         let external: Vec<usize> = row.external_columns().collect();
         assert!(row.values().eq(case.values.iter().copied()), "{row:?}");
@@ -133,7 +136,7 @@ fn rows() {
 
 #[test]
 fn e_is_too_short() {
-    let columns = parse_qrydsc(NULLABLE_INTEGER).unwrap();
+    let columns = parse_whole_qrydsc(NULLABLE_INTEGER).unwrap();
     let refusal = decode_row(&[0xFF, 0xFF], &columns).unwrap_err();
     assert_eq!(
         refusal,

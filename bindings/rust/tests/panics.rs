@@ -14,7 +14,7 @@ fn said<T>(call: impl FnOnce() -> T) -> (String, String, u32) {
 fn of_three_columns(check: impl FnOnce(Row)) {
     let integers = [0x05, 0x70, 0x02, 0x00, 0x04].repeat(3);
     let mut buffers = Buffers::new();
-    let columns = Columns::parse(&integers).unwrap();
+    let columns = Columns::parse_whole(&integers).unwrap();
     check(decode_row_into(&[0; 12], &columns, &mut buffers).unwrap());
 }
 

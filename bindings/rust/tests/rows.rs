@@ -261,7 +261,7 @@ fn one_row_after_another_without_allocation() {
 fn buffers_serve_narrow_rows_after_wide_ones() {
     let (wide, bytes) = all_sorts();
     let wide = Columns::from(&wide[..]);
-    let narrow = Columns::parse(&[0x05, 0x70, 0x02, 0x00, 0x04]).unwrap();
+    let narrow = Columns::parse_whole(&[0x05, 0x70, 0x02, 0x00, 0x04]).unwrap();
     let mut buffers = Buffers::with_text(1);
     for _ in 0..2 {
         let row = decode_row_into(&bytes, &wide, &mut buffers).unwrap();

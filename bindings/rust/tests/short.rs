@@ -1,24 +1,11 @@
 //! Which column of a row is too short.
+mod common;
+
+use common::Random;
 use vejupa::raw::{self, BUFFER_TOO_SHORT};
 use vejupa::{
     decode_row, decode_row_into, Buffers, ByteOrder, Column, Columns, Db2Type, Origin, Refusal,
 };
-
-/// Numbers that look random and are the same in each run.
-struct Random(u64);
-
-impl Random {
-    fn below(&mut self, end: usize) -> usize {
-        self.0 ^= self.0 << 13;
-        self.0 ^= self.0 >> 7;
-        self.0 ^= self.0 << 17;
-        (self.0 % end as u64) as usize
-    }
-
-    fn pick<T: Copy>(&mut self, of: &[T]) -> T {
-        of[self.below(of.len())]
-    }
-}
 
 /// Of all forms that a value's length has: fixed, told by the row, by the column, by a reference, by all the rest.
 const TYPES: [Db2Type; 24] = [

@@ -3,8 +3,8 @@ mod common;
 
 use common::VALUES;
 use vejupa::{
-    decode_row, decode_row_into, parse_qrydsc, Buffers, Column, Columns, Db2Type, Origin, Refusal,
-    Rows, Value,
+    decode_row, decode_row_into, parse_qrydsc, parse_whole_qrydsc, Buffers, Column, Columns,
+    Db2Type, Origin, Refusal, Rows, Value,
 };
 
 #[test]
@@ -172,8 +172,9 @@ fn refusals() {
             actual: 3,
         },
         Refusal::TextBufferTooShort { needed: 4 },
+        Refusal::QrydscBrokenOff,
     ];
-    for (number, refusal) in (1..).zip(all) {
+    for (number, refusal) in (1..=9).chain([15]).zip(all) {
         let text = refusal.to_string();
         assert_eq!(refusal.number(), number);
         assert!(text.starts_with(&format!("refusal {number}: ")), "{text}");
@@ -189,6 +190,7 @@ fn refusals() {
         all[8].to_string(),
         "refusal 9: the text buffer is too short: 4 bytes needed"
     );
+    assert_eq!(all[9].to_string(), "refusal 15: the description breaks off");
 }
 
 #[test]
@@ -205,6 +207,19 @@ fn lists_of_columns() {
     assert_eq!(format!("{left:?}"), format!("[{:?}]", columns[1]));
 }
 
+#[test]
+fn descriptions() {
+    let cut_off = parse_qrydsc(&DESCRIPTION[..1]).unwrap();
+    assert_eq!(
+        format!("{cut_off:?}"),
+        "Description { columns: [], broken_off: true }"
+    );
+    let whole = parse_qrydsc(DESCRIPTION).unwrap();
+    let shown = format!("{whole:?}");
+    assert!(shown.contains("db2_type: Blob"), "{shown}");
+    assert!(shown.ends_with("], broken_off: false }"), "{shown}");
+}
+
 const DESCRIPTION: &[u8] = &[
     0x0C, 0x76, 0xD0, 0x05, 0x00, 0x02, 0x60, 0x00, 0x02, 0xC8, 0x80, 0x04,
 ];
@@ -214,7 +229,7 @@ const SHOWN: &str =
 
 #[test]
 fn rows() {
-    let columns = Columns::parse(DESCRIPTION).unwrap();
+    let columns = Columns::parse_whole(DESCRIPTION).unwrap();
     let mut buffers = Buffers::new();
     let row = decode_row_into(ROW, &columns, &mut buffers).unwrap();
     assert_eq!(format!("{row:?}"), format!("Row {SHOWN}"));
@@ -224,14 +239,14 @@ fn rows() {
         format!("{values:?}"),
         "[Binary(X'8B1A'), Blob(X'00000007')]"
     );
-    let row = decode_row(ROW, &parse_qrydsc(DESCRIPTION).unwrap()).unwrap();
+    let row = decode_row(ROW, &parse_whole_qrydsc(DESCRIPTION).unwrap()).unwrap();
     assert_eq!(format!("{row:?}"), format!("OwnedRow {SHOWN}"));
 }
 
 /// How much room there is and how much is left, and not the bytes.
 #[test]
 fn what_holds_bytes() {
-    let columns = Columns::parse(DESCRIPTION).unwrap();
+    let columns = Columns::parse_whole(DESCRIPTION).unwrap();
     let mut buffers = Buffers::with_text(1000);
     assert_eq!(
         format!("{buffers:?}"),

@@ -1,4 +1,4 @@
-// Whether types and columns stand in a line, which is whole where its kind is written in lower case. Each function of the form x_at answers the place behind what it looks for, as those of `place` do; each of
+// Whether types and columns stand in a line, which is full where its kind is written in lower case. Each function of the form x_at answers the place behind what it looks for, as those of `place` do; each of
 // the form x_of reads what x_at then finds.
 use crate::lines::bytes;
 use crate::lines::field;
@@ -117,9 +117,9 @@ fn order_at(line: &[u8], at: usize, order: ByteOrder) -> usize {
     }
 }
 
-// An origin and the colon before it, in a whole line; nothing in another.
-fn origin_at(line: &[u8], at: usize, whole: bool, origin: Origin) -> usize {
-    if !whole {
+// An origin and the colon before it, in a full line; nothing in another.
+fn origin_at(line: &[u8], at: usize, full: bool, origin: Origin) -> usize {
+    if !full {
         return at;
     }
     match origin {
@@ -135,8 +135,8 @@ fn next_decimal_at(line: &[u8], at: usize, n: u64) -> usize {
     decimal_at(line, digits, n)
 }
 
-// type:code:length:precision:scale:nullable:ccsid:reference:order, and in a whole line :origin
-pub fn column_at(line: &[u8], at: usize, whole: bool, c: ColumnDescriptor) -> usize {
+// type:code:length:precision:scale:nullable:ccsid:reference:order, and in a full line :origin
+pub fn column_at(line: &[u8], at: usize, full: bool, c: ColumnDescriptor) -> usize {
     let t = c.db2_type;
     let reference = c.extdta_reference_length;
     let order = c.byte_order;
@@ -154,7 +154,7 @@ pub fn column_at(line: &[u8], at: usize, whole: bool, c: ColumnDescriptor) -> us
     p = reference_at(line, p, reference);
     p = text_at(line, p, b":");
     p = order_at(line, p, order);
-    origin_at(line, p, whole, origin)
+    origin_at(line, p, full, origin)
 }
 
 // So many more columns, each behind a space. A list has no places for them, so they are passed over.
@@ -168,7 +168,7 @@ fn more_columns_at(line: &[u8], at: usize, count: usize) -> usize {
 
 // The number of columns, and each behind a space; a column's number is its place. A count above 128, for which the row call has a refusal, says more
 // columns than a list has places for.
-pub fn columns_at(line: &[u8], at: usize, whole: bool, columns: Columns) -> usize {
+pub fn columns_at(line: &[u8], at: usize, full: bool, columns: Columns) -> usize {
     let count = columns.count;
     let mut p = decimal_at(line, at, count as u64);
     let mut i: usize = 0;
@@ -181,10 +181,21 @@ pub fn columns_at(line: &[u8], at: usize, whole: bool, columns: Columns) -> usiz
             return NOWHERE;
         }
         p = text_at(line, p, b" ");
-        p = column_at(line, p, whole, column);
+        p = column_at(line, p, full, column);
         i += 1;
     }
     p
+}
+
+// How a description ends, and the space before it, in a full line; nothing in another.
+pub fn ending_at(line: &[u8], at: usize, full: bool, broken_off: bool) -> usize {
+    if !full {
+        return at;
+    }
+    if broken_off {
+        return text_at(line, at, b" broken");
+    }
+    text_at(line, at, b" whole")
 }
 
 // The number of a part of a column; 0 where it is none.
@@ -216,7 +227,7 @@ fn order_of(s: &[u8]) -> ByteOrder {
     ByteOrder::BigEndian
 }
 
-// The origin that a column of a whole line writes. A column of another line writes none, and is an SDA's.
+// The origin that a column of a full line writes. A column of another line writes none, and is an SDA's.
 fn origin_of(s: &[u8]) -> Origin {
     let written = part(s, 9, b':');
     if check::same(written, b"U") {

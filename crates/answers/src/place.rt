@@ -28,9 +28,9 @@ pub fn decimal_at(line: &[u8], at: usize, n: u64) -> usize {
     text_at(line, at, &digits[..count])
 }
 
-// How many characters were replaced, behind a space, in a whole line. In another nothing stands there for them.
-pub fn replaced_at(line: &[u8], at: usize, whole: bool, replaced: usize) -> usize {
-    if whole {
+// How many characters were replaced, behind a space, in a full line. In another nothing stands there for them.
+pub fn replaced_at(line: &[u8], at: usize, full: bool, replaced: usize) -> usize {
+    if full {
         let digits = text_at(line, at, b" ");
         return decimal_at(line, digits, replaced as u64);
     }

@@ -158,11 +158,11 @@ fn externals_at(line: &[u8], at: usize, answer: RowAnswer, count: usize) -> usiz
     p
 }
 
-// OK <used> <external> <text> <value>*n, for an accepted row of so many columns; the texts are all of `text`. In a whole line
+// OK <used> <external> <text> <value>*n, for an accepted row of so many columns; the texts are all of `text`. In a full line
 // the characters replaced stand behind <text>.
 fn accepted_at<'a>(
     line: &[u8],
-    whole: bool,
+    full: bool,
     answer: RowAnswer,
     count: usize,
     row: &'a [u8],
@@ -175,7 +175,7 @@ fn accepted_at<'a>(
     p = externals_at(line, p, answer, count);
     p = text_at(line, p, b" ");
     p = decimal_at(line, p, text.len() as u64);
-    p = replaced_at(line, p, whole, answer.replaced);
+    p = replaced_at(line, p, full, answer.replaced);
     values_at(line, p, answer, count, row, text, out)
 }
 
@@ -197,7 +197,7 @@ fn refused_at(line: &[u8], answer: RowAnswer) -> usize {
 // refused, no character counts as replaced. `out` is room for the bytes of a value.
 pub fn is_answer<'a>(
     line: &[u8],
-    whole: bool,
+    full: bool,
     answer: RowAnswer,
     count: usize,
     row: &'a [u8],
@@ -206,7 +206,7 @@ pub fn is_answer<'a>(
 ) -> bool {
     let outcome = answer.outcome;
     if outcome.number() == 0 {
-        return accepted_at(line, whole, answer, count, row, text, out) == line.len();
+        return accepted_at(line, full, answer, count, row, text, out) == line.len();
     }
     if answer.replaced != 0 {
         return false;

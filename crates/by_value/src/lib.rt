@@ -3,9 +3,11 @@
 use types::MAX_COLUMNS;
 use words::value_words;
 ghost use mathlib.Core.Path.{_≡_};
+ghost use mathlib.Core.Bool.{cond};
 ghost use Prim.Native.Nat.{_%_};
+ghost use Rattle.refusal.specs.Refusal.{toldNumber};
 ghost use Rattle.types.specs.Places.{maxColumns};
-ghost use Rattle.qrydsc.specs.Qrydsc.{description};
+ghost use Rattle.qrydsc.specs.Qrydsc.{description, wholeDescription};
 ghost use Rattle.rules.specs.Conversions.{rowAnswer, rowText};
 ghost use Rattle.by_value.specs.ByValue.{lengthAt, numberAt};
 
@@ -30,6 +32,37 @@ pub extern "C" fn by_value_count_columns(data: &[u8]) -> u64
     let described = qrydsc::parse_qrydsc(data);
     let columns = described.columns;
     columns.count as u64
+}
+
+// Whether the description breaks off, as 1 and 0.
+#[no_mangle]
+pub extern "C" fn by_value_broken_off(data: &[u8]) -> u64
+    ensures { λ r. ⌜ r ≡ cond (description (now («data» .entry)) .«broken_off») 1 0 ⌝ }
+{
+    let described = qrydsc::parse_qrydsc(data);
+    if described.broken_off { 1 } else { 0 }
+}
+
+// The same as the first, by the entry that takes whole descriptions alone.
+#[no_mangle]
+pub extern "C" fn by_value_parse_whole_qrydsc(data: &[u8], index: u64) -> u64
+    ensures { λ r. ⌜ r ≡ lengthAt (wholeDescription (now («data» .entry)) .columns) (index % maxColumns) ⌝ }
+{
+    let described = qrydsc::parse_whole_qrydsc(data);
+    let columns = described.columns;
+    let place = index as usize % MAX_COLUMNS;
+    let column = columns.columns[place];
+    column.length as u64
+}
+
+// Its refusal's number, or 0.
+#[no_mangle]
+pub extern "C" fn by_value_whole_number(data: &[u8]) -> u64
+    ensures { λ r. ⌜ r ≡ toldNumber (wholeDescription (now («data» .entry)) .outcome) ⌝ }
+{
+    let described = qrydsc::parse_whole_qrydsc(data);
+    let outcome = described.outcome;
+    outcome.number() as u64
 }
 
 // The number of the value at a place of a row's answer. The description is read once; the row is decoded once and then `rounds` times again, each time

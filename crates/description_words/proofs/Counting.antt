@@ -2,15 +2,15 @@
 -- come is not kept by the code: that there is one is enough. Assumes nothing.
 use mathlib.Core.Path.{_≡_, refl, sym, ap, _∙_}
 use mathlib.Core.Bool.{Bool, true, false, cond}
-use mathlib.Core.List.{List, [], _∷_, _++_}
+use mathlib.Core.List.{List, [], _∷_}
 use mathlib.Core.Logic.{inl, inr}
 use types.Run.{OneOf}
-use Prim.Native.Nat.{ℕ, suc, _+_, _-_, _*_, _/_, _≤_, _<_}
+use Prim.Native.Nat.{ℕ, _+_, _-_, _/_, _≤_, _<_}
 use native.Mathlib.Omega.{arith}
 use lib.Dec.{eqb, ltb}
 use lib.ListN.{length, getD, drop, length-drop, length-append}
-use lib.Seq.{slice, slice-empty, length-slice}
-use borrow.Author.Tests.{eq-eqb, ne-eqb, lt-ltb, le-ltb, ltb-true, ltb-false}
+use lib.Seq.{slice, length-slice}
+use borrow.Author.Tests.{eq-eqb, ne-eqb, ltb-true, ltb-false}
 use Rattle.types.specs.declared.ColumnDescriptor.{ColumnDescriptor}
 use Rattle.types.specs.Places.{maxColumns}
 use Rattle.column.specs.declared.EnvEntry.{EnvEntry}
@@ -19,8 +19,8 @@ use Rattle.triplets.specs.declared.Pending.{Pending}
 use Rattle.triplets.specs.declared.Pending.the-variants as pending
 use Rattle.triplets.specs.Descriptors.{pendingAfter, noEntries, environmentAfter, sdaColumns, outerSda, lidColumns, innerColumns, groupColumns, tripletColumns, columnsFrom, columnsOf}
 use Rattle.triplets.specs.Triplets.{triplet, readingOf, reading}
-use Rattle.triplets.specs.Steps.{outerFrom, toCome}
-use Rattle.triplets.proofs.StepLaws.{first-byte, no-data}
+use Rattle.triplets.specs.Steps.{outerFrom, endFrom, toCome}
+use Rattle.triplets.proofs.StepLaws.{end-here, end-after, first-byte, no-data}
 use Rattle.triplets.proofs.ReadingLaws.{Found}
 use Rattle.qrydsc.proofs.Progress.{all-to-come}
 use Rattle.description_words.specs.Counted.{sdaCount, Counts, Counted}
@@ -119,20 +119,28 @@ pub record Counting (s : List ℕ) (k i : ℕ) (pend : Pending) : Type 0 where
   pub few : k ≤ i
   pub environment : List EnvEntry
   pub total : k + length (columnsFrom pend environment (outerFrom s i)) ≡ length (columnsOf s)
+  pub ends : endFrom s i ≡ endFrom s 0
 
 pub counting-start : (s : List ℕ) → Counting s 0 0 pending.Nothing
 unfolding toCome
-counting-start s = record { within = omega arith; few = omega arith; environment = noEntries; total = omega (arith, ap length (all-to-come s)) }
+counting-start s = record { within = omega arith; few = omega arith; environment = noEntries; total = omega (arith, ap length (all-to-come s)); ends = refl }
 
 module _ {s : List ℕ} {k i : ℕ} {pend : Pending} (c : Counting s k i pend) where
-  pub counting-end : reading 2 (slice i (length s) s) .triplets ≡ [] → Counted (columnsOf s) k
+  pub counting-end : reading 2 (slice i (length s) s) .triplets ≡ [] → reading 2 (slice i (length s) s) .unread ≡ slice i (length s) s → Counted s k i
   unfolding columnsFrom
-  counting-end h =
+  counting-end h u =
       let t = (rw h at (c .total)) in
-      record { all = λ few. omega arith; more = λ many. omega arith }
+      record {
+        all = λ few. omega arith;
+        more = λ many. omega arith;
+        within = c .within;
+        ends = c .ends;
+        ended = λ few. end-here s i (c .within) u ∙ c .ends;
+      }
 
-  pub counting-full : maxColumns < k → Counted (columnsOf s) k
-  counting-full h = record { all = λ few. omega arith; more = λ many. omega (arith, c .total) }
+  pub counting-full : maxColumns < k → Counted s k i
+  counting-full h =
+      record { all = λ few. omega arith; more = λ many. omega (arith, c .total); within = c .within; ends = c .ends; ended = λ few. omega arith }
 
   -- a triplet of another kind
   pub counting-silent : (kind m : ℕ) → Found 2 s i (length s) kind m → (OneOf (0x70 ∷ 0x76 ∷ 0x78 ∷ []) kind → ⊥) → Counting s k m pending.Nothing
@@ -147,6 +155,7 @@ module _ {s : List ℕ} {k i : ℕ} {pend : Pending} (c : Counting s k i pend) w
         few = omega (arith, c .few);
         environment = environmentAfter pend (c .environment) (triplet kind (slice (i + 2) m s));
         total = (rw (f .more, sda, gda, mdd) at (c .total));
+        ends = end-after f ∙ c .ends;
       }
 
   pub counting-more : (kind m r : ℕ)
@@ -161,4 +170,4 @@ module _ {s : List ℕ} {k i : ℕ} {pend : Pending} (c : Counting s k i pend) w
       let t = (rw (f .more) at (c .total)) in
       let one = n .same (c .environment) in
       let both = length-append (tripletColumns pend (c .environment) body) (columnsFrom (pendingAfter body) (environmentAfter pend (c .environment) body) (outerFrom s m)) in
-      record { within = h; few = omega (arith, c .few, n .few); environment = environmentAfter pend (c .environment) body; total = omega arith }
+      record { within = h; few = omega (arith, c .few, n .few); environment = environmentAfter pend (c .environment) body; total = omega arith; ends = end-after f ∙ c .ends }

@@ -13,9 +13,8 @@ use Rattle.column.specs.Group.{firstEntry, noEntry}
 use Rattle.triplets.specs.declared.Pending.the-variants as pending
 use Rattle.triplets.specs.declared.Cursor.{Cursor}
 use Rattle.triplets.specs.declared.Cursor.the-variants as cursor
-use Rattle.triplets.specs.declared.Step.the-variants as step
 use Rattle.triplets.specs.Descriptors.{noEntries, declare, columnsOf}
-use Rattle.triplets.specs.Steps.{toCome, CursorWithin, Goes, Leads}
+use Rattle.triplets.specs.Steps.{toCome, CursorWithin, Goes}
 use Rattle.qrydsc.specs.Qrydsc.{withIndex, numbered}
 use Rattle.qrydsc.proofs.Progress.{all-to-come}
 use Rattle.words.specs.Words.{firstWord, secondWord, packColumns}
@@ -44,9 +43,9 @@ placing-start s d few room =
     }
 
 module _ {s d out : List ℕ} {k : ℕ} {env : List EnvEntry} {c : Cursor} (i : Placing s d out k env c) where
-  pub placing-end : Leads s c step.End → out ≡ overwritten (wordsFrom 0 (columnsOf s)) d
+  pub placing-end : ((e : List EnvEntry) → toCome s e c ≡ []) → out ≡ overwritten (wordsFrom 0 (columnsOf s)) d
   unfolding packColumns numbered
-  placing-end h = end (i .writing) (rw (h env))
+  placing-end none = end (i .writing) (rw (none env))
 
   -- no column, and another environment
   pub placing-on : {n : Cursor} (after : List EnvEntry → List EnvEntry) → Goes s c n (λ e. toCome s (after e) n) → Placing s d out k (after env) n

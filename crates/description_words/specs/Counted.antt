@@ -1,4 +1,4 @@
--- For inner functions; no public promise rests on it. How many columns there are. Assumes nothing.
+-- For inner functions; no public promise rests on it. How many columns there are, and where counting them ended. Assumes nothing.
 use Prim.Native.Nat.{ℕ, _≤_, _<_}
 use mathlib.Core.Path.{_≡_}
 use mathlib.Core.Bool.{cond}
@@ -8,6 +8,8 @@ use lib.ListN.{length}
 use Rattle.types.specs.declared.ColumnDescriptor.{ColumnDescriptor}
 use Rattle.types.specs.Places.{maxColumns}
 use Rattle.column.specs.declared.EnvEntry.{EnvEntry}
+use Rattle.triplets.specs.Descriptors.{columnsOf}
+use Rattle.triplets.specs.Steps.{endFrom}
 
 -- a triplet of the kind k whose data goes from a to e: one column where it is an SDA with data
 unfoldable pub sdaCount : ℕ → ℕ → ℕ → ℕ
@@ -18,7 +20,11 @@ pub record Counts (bytes : ℕ) (columns : List EnvEntry → List ColumnDescript
   pub few : r ≤ bytes
   pub same : (env : List EnvEntry) → r ≡ length (columns env)
 
--- r is the number of the columns, or both are more than a list has places for
-pub record Counted (cs : List ColumnDescriptor) (r : ℕ) : Type 0 where
-  pub all : r ≤ maxColumns → r ≡ length cs
-  pub more : maxColumns < r → maxColumns < length cs
+-- r is the number of a description's columns, or both are more than a list has places for; the triplets before a place are read, and where r is the number,
+-- these are all
+pub record Counted (s : List ℕ) (r at : ℕ) : Type 0 where
+  pub all : r ≤ maxColumns → r ≡ length (columnsOf s)
+  pub more : maxColumns < r → maxColumns < length (columnsOf s)
+  pub within : at ≤ length s
+  pub ends : endFrom s at ≡ endFrom s 0
+  pub ended : r ≤ maxColumns → at ≡ endFrom s 0

@@ -95,16 +95,25 @@ fn pending_after(data: &[u8], kind: u8, start: usize, end: usize) -> Pending
     Pending::Nothing
 }
 
+// How many columns were counted, and the place behind the triplets that were read for it.
+pub struct ColumnCount {
+    pub columns: usize,
+    pub end: usize,
+}
+
 // How many columns a description has: where they are more than a list holds, it stops with some number above that.
-pub fn count_columns(data: &[u8]) -> usize
-    ensures { λ r. ⌜ Counted (columnsOf (now («data» .entry))) r ⌝ }
+pub fn count_columns(data: &[u8]) -> ColumnCount
+    ensures { λ r. ⌜ Counted (now («data» .entry)) (r .columns) (r .end) ⌝ }
 {
     let mut count: usize = 0;
     let mut at: usize = 0;
     let mut pending = Pending::Nothing;
     while count <= MAX_COLUMNS {
         let Next::Triplet { kind, end } = triplets::next_triplet(data, at, data.len(), 2) else {
-            return count;
+            return ColumnCount {
+                columns: count,
+                end: at,
+            };
         };
         match kind {
             // SDAs, GDAs and MDDs.
@@ -122,7 +131,10 @@ pub fn count_columns(data: &[u8]) -> usize
             }
         }
     }
-    count
+    ColumnCount {
+        columns: count,
+        end: at,
+    }
 }
 
 // Writes a column with its number into its two words.
@@ -155,7 +167,7 @@ fn write_all(data: &[u8], words: &mut [u64])
     };
     loop {
         match triplets::next_step(data, cursor) {
-            Step::End => {
+            Step::End(_) => {
                 return;
             }
             Step::Skip(next) => {

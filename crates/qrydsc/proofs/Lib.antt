@@ -1,4 +1,6 @@
 pub mod Filling
+pub mod Entries
 pub mod Progress
 pub mod Lists
 pub mod Origins
+pub mod Whole

@@ -1,21 +1,22 @@
 -- What a caller can rely on in the column list of every answer: it has all its places, its count is within them, the columns' numbers are 0, 1, .., and the
 -- places after them are blank. Assumes nothing.
-use mathlib.Core.Path.{_≡_, refl, sym, ap, _∙_}
-use mathlib.Core.Bool.{Bool, true, false, cond}
-use mathlib.Core.List.{List, [], _∷_, _++_}
+use mathlib.Core.Path.{_≡_, refl, ap, _∙_}
+use mathlib.Core.Bool.{Bool, true, false}
+use mathlib.Core.List.{List, [], _∷_}
 use Prim.Native.Nat.{ℕ, zero, suc, _+_, _-_, _≤_, _<_}
 use native.Mathlib.Omega.{arith}
 use native.Mathlib.Nat.{not-suc-le-zero, le-of-suc-le-suc}
 use lib.Dec.{ltb}
-use lib.ListN.{length, getD, replicate, length-append, List·getD-append, List·getD-eq-default, getD-replicate, length-replicate}
+use lib.ListN.{length, getD, replicate, length-append, List·getD-append, length-replicate}
 use lib.Seq.{getD-append-add}
-use borrow.Author.Tests.{ltb-false, leb-true, leb-false}
+use borrow.Author.Tests.{ltb-false}
 use Rattle.types.specs.declared.ColumnDescriptor.{ColumnDescriptor}
 use Rattle.types.specs.declared.Columns.{Columns}
 use Rattle.types.specs.Places.{maxColumns, filled, blankColumn, columnList}
+use Rattle.triplets.specs.Triplets.{breaksOff}
 use Rattle.triplets.specs.Descriptors.{columnsOf}
 use Rattle.qrydsc.specs.Origins.{columnAt}
-use Rattle.qrydsc.specs.Qrydsc.{withIndex, numbered, DescriptionTold, listAnswer, maxQrydsc, description}
+use Rattle.qrydsc.specs.Qrydsc.{numbered, listAnswer, maxQrydsc, description}
 
 pub record Ordered (c : Columns) : Type 0 where
   pub all-places : length (c .columns) ≡ maxColumns
@@ -56,15 +57,15 @@ ordered cs h =
           rw e (getD-append-add (numbered 0 cs) (replicate (maxColumns - length (numbered 0 cs)) blankColumn) j blankColumn ∙ blank-after blankColumn (maxColumns - length (numbered 0 cs)) j);
     }
 
-ordered-none : Ordered (columnList [])
+pub ordered-none : Ordered (columnList [])
 unfolding numbered
 ordered-none = ordered [] (omega arith)
 
-ordered-listed : (cs : List ColumnDescriptor) → Ordered (listAnswer cs .columns)
+ordered-listed : (f : Bool) (cs : List ColumnDescriptor) → Ordered (listAnswer f cs .columns)
 unfolding listAnswer
-ordered-listed cs = go (ltb maxColumns (length cs)) refl
+ordered-listed f cs = go (ltb maxColumns (length cs)) refl
   where
-    go : (b : Bool) → ltb maxColumns (length cs) ≡ b → Ordered (listAnswer cs .columns)
+    go : (b : Bool) → ltb maxColumns (length cs) ≡ b → Ordered (listAnswer f cs .columns)
     go true t = rw t ordered-none
     go false t = rw t (ordered cs (ltb-false maxColumns (length cs) t))
 
@@ -75,4 +76,4 @@ description-ordered s = go (ltb maxQrydsc (length s)) refl
   where
     go : (b : Bool) → ltb maxQrydsc (length s) ≡ b → Ordered (description s .columns)
     go true t = rw t ordered-none
-    go false t = rw t (ordered-listed (columnsOf s))
+    go false t = rw t (ordered-listed (breaksOff s) (columnsOf s))

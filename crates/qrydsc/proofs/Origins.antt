@@ -2,7 +2,7 @@
 use mathlib.Core.Path.{_≡_, refl, sym, ap, _∙_}
 use mathlib.Core.Bool.{Bool, true, false, cond, not, _&&_, _||_}
 use mathlib.Core.List.{List, [], _∷_, _++_}
-use Prim.Native.Nat.{ℕ, zero, suc, _+_, _-_, _≤_, _<_}
+use Prim.Native.Nat.{ℕ, zero, suc, _+_, _-_, _<_}
 use native.Mathlib.Omega.{arith}
 use native.Mathlib.Nat.{not-suc-le-zero, le-of-suc-le-suc}
 use lib.Dec.{ltb, eqb}
@@ -13,7 +13,6 @@ use Rattle.refusal.specs.Refusal.{accepted, toldNumber}
 use Rattle.types.specs.declared.Origin.{Origin}
 use Rattle.types.specs.declared.Origin.the-variants.{Sda, UndeclaredLid, DeclaredLid}
 use Rattle.types.specs.declared.ColumnDescriptor.{ColumnDescriptor}
-use Rattle.types.specs.declared.Columns.{Columns}
 use Rattle.types.specs.Places.{maxColumns, filled, blankColumn, columnList}
 use Rattle.column.specs.declared.EnvEntry.{EnvEntry}
 use Rattle.column.specs.Column.{sdaColumn}
@@ -21,11 +20,11 @@ use Rattle.column.specs.Group.{entryOf, firstEntry, noEntry, undeclaredColumn, 
 use Rattle.column.proofs.Undeclared.{undeclared-is}
 use Rattle.triplets.specs.declared.Pending.{Pending}
 use Rattle.triplets.specs.declared.Pending.the-variants as pending
-use Rattle.triplets.specs.Triplets.{Triplet, readingOf, reading}
+use Rattle.triplets.specs.Triplets.{Triplet, readingOf, reading, breaksOff}
 use Rattle.triplets.specs.Descriptors.{lastOf, pendingAfter, noEntries, declare, environmentAfter, sdaColumns, outerSda, lidColumns, innerColumns, groupColumns, tripletColumns, columnsFrom, columnsOf}
 use Rattle.triplets.proofs.Every.{Every, EachByte, Body, Describes, each-drop, every-read, every-column}
-use Rattle.qrydsc.specs.Qrydsc.{withIndex, numbered, DescriptionTold, refusedDescription, listAnswer, maxQrydsc, description}
-use Rattle.qrydsc.specs.Origins.{columnAt, orderFrom, OrderedByOrigin, behindMdd, isDeclared, lidOrigins, sdaOrigins, innerOrigins, groupOrigins, tripletOrigins, originsFrom, OriginsByTriplets}
+use Rattle.qrydsc.specs.Qrydsc.{numbered, DescriptionTold, refusedDescription, listAnswer, maxQrydsc, description}
+use Rattle.qrydsc.specs.Origins.{columnAt, orderFrom, OrderedByOrigin, behindMdd, isDeclared, lidOrigins, sdaOrigins, innerOrigins, tripletOrigins, originsFrom, OriginsByTriplets}
 use Rattle.qrydsc.proofs.Lists.{length-numbered, blank-after}
 
 abbrev ByOrigin : ColumnDescriptor → Type 0
@@ -58,16 +57,16 @@ listed cs h i l =
     let n = length-numbered 0 cs in
     rw (List·getD-append (numbered 0 cs) (replicate (maxColumns - length (numbered 0 cs)) blankColumn) blankColumn i l) (numbered-at 0 cs h i (omega arith))
 
-none : OrderedByOrigin (columnList [])
+pub none-by-origin : OrderedByOrigin (columnList [])
 unfolding numbered
-none = listed [] tt
+none-by-origin = listed [] tt
 
-answered : (cs : List ColumnDescriptor) → Every ByOrigin cs → OrderedByOrigin (listAnswer cs .columns)
+answered : (f : Bool) (cs : List ColumnDescriptor) → Every ByOrigin cs → OrderedByOrigin (listAnswer f cs .columns)
 unfolding listAnswer
-answered cs h = go (ltb maxColumns (length cs)) refl
+answered f cs h = go (ltb maxColumns (length cs)) refl
   where
-    go : (b : Bool) → ltb maxColumns (length cs) ≡ b → OrderedByOrigin (listAnswer cs .columns)
-    go true t = rw t none
+    go : (b : Bool) → ltb maxColumns (length cs) ≡ b → OrderedByOrigin (listAnswer f cs .columns)
+    go true t = rw t none-by-origin
     go false t = rw t (listed cs h)
 
 -- of every description
@@ -76,8 +75,8 @@ unfolding description
 description-by-origin s = go (ltb maxQrydsc (length s)) refl
   where
     go : (b : Bool) → ltb maxQrydsc (length s) ≡ b → OrderedByOrigin (description s .columns)
-    go true t = rw t none
-    go false t = rw t (answered (columnsOf s) (every-column ByOrigin (λ e. Unit {0}) (λ b. Unit {0}) described s (λ i. tt)))
+    go true t = rw t none-by-origin
+    go false t = rw t (answered (breaksOff s) (columnsOf s) (every-column ByOrigin (λ e. Unit {0}) (λ b. Unit {0}) described s (λ i. tt)))
 
 -- ---- the origins by the triplets alone
 
@@ -243,7 +242,7 @@ unfolding description listAnswer columnList filled
 origins-by-triplets s h a i = go (ltb maxQrydsc (length s)) (ltb maxColumns (length (columnsOf s))) a
   where
     answer : Bool → Bool → DescriptionTold
-    answer x y = cond x (refusedDescription 1 []) (cond y (refusedDescription 2 []) (record { outcome = accepted; columns = columnList (numbered 0 (columnsOf s)) }))
+    answer x y = cond x (refusedDescription 1 []) (cond y (refusedDescription 2 []) (record { outcome = accepted; columns = columnList (numbered 0 (columnsOf s)); «broken_off» = breaksOff s }))
 
     go : (x y : Bool) → answer x y .outcome ≡ accepted → columnAt (answer x y .columns) i .origin ≡ getD (originsFrom [] (reading 2 s .triplets)) i Sda
     go true y e = let z = ap toldNumber e in absurd (omega (arith, z))

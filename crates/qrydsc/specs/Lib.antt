@@ -1,2 +1,4 @@
 pub mod Qrydsc
 pub mod Origins
+pub mod Entries
+pub mod Whole

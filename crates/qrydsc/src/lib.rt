@@ -1,4 +1,5 @@
-// Face. parse_qrydsc: the columns that a host's description (QRYDSC) lists. It reads no rows.
+// Face. The columns that a host's description (QRYDSC) lists. parse_whole_qrydsc is for descriptions that come from a host: it refuses one that breaks off.
+// parse_qrydsc, the ported entry, reads those too, and says so. Neither reads rows.
 use column::EnvEntry;
 use column::LID_COUNT;
 use refusal::Outcome;
@@ -14,17 +15,22 @@ use types::MAX_COLUMNS;
 use types::Origin;
 use types::ReferenceLength;
 ghost use mathlib.Core.Path.{_≡_};
+ghost use lib.ListN.{length};
 ghost use Rattle.refusal.specs.Refusal.{refusalNumber, refusalValues};
 ghost use Rattle.types.specs.Places.{blankColumn};
-ghost use Rattle.qrydsc.specs.Qrydsc.{toldDescription, description, refusedDescription};
+ghost use Rattle.triplets.specs.Steps.{CursorWithin, endFrom, outerAt};
+ghost use Rattle.qrydsc.specs.Qrydsc.{toldDescription, refusedDescription, description, wholeDescription};
+ghost use Rattle.qrydsc.specs.Entries.{entryAnswer, fullAnswer};
 
 // How many bytes a description may have. specs/Qrydsc.antt calls it maxQrydsc.
 pub const MAX_QRYDSC: usize = 65536;
 
-// What parse_qrydsc answers. After a refusal no column is there.
+// What both calls answer. After a refusal no column is there, and broken_off is false.
 pub struct Description {
     pub outcome: Outcome,
     pub columns: Columns,
+    // Bytes are left behind the last whole triplet.
+    pub broken_off: bool,
 }
 
 fn blank_column() -> ColumnDescriptor
@@ -53,12 +59,29 @@ fn refused(r: Refusal) -> Description
     Description {
         outcome: Outcome::Refused(r),
         columns: Columns { columns, count: 0 },
+        broken_off: false,
     }
 }
 
-// The columns that a description describes, in order.
-pub fn parse_qrydsc(data: &[u8]) -> Description
-    ensures { λ r. ⌜ toldDescription r ≡ description (now («data» .entry)) ⌝ }
+// The refusal of more columns than a list holds, with the reading at a cursor. Only a whole description is read to its end for it.
+fn too_many(data: &[u8], cursor: Cursor, whole: bool) -> Refusal
+    requires { ⌜ CursorWithin (now «data») cursor ⌝ }
+    ensures { λ r. ⌜ refusedDescription (refusalNumber r) (refusalValues r) ≡ fullAnswer whole (endFrom (now («data» .entry)) (outerAt cursor)) (length (now («data» .entry))) ⌝ }
+{
+    if !whole {
+        return Refusal::TooManyColumns;
+    }
+    let at = triplets::outer_at(cursor);
+    let end = triplets::outer_end(data, at);
+    if end < data.len() {
+        return Refusal::QrydscBrokenOff;
+    }
+    Refusal::TooManyColumns
+}
+
+// Both calls in one: what they differ in is what they do at the end.
+fn parse(data: &[u8], whole: bool) -> Description
+    ensures { λ r. ⌜ toldDescription r ≡ entryAnswer whole (now («data» .entry)) ⌝ }
 {
     if MAX_QRYDSC < data.len() {
         return refused(Refusal::QrydscTooLong);
@@ -77,10 +100,17 @@ pub fn parse_qrydsc(data: &[u8]) -> Description
     };
     loop {
         match triplets::next_step(data, cursor) {
-            Step::End => {
+            Step::End(end) => {
+                let broken_off = end < data.len();
+                if broken_off {
+                    if whole {
+                        return refused(Refusal::QrydscBrokenOff);
+                    }
+                }
                 return Description {
                     outcome: Outcome::Accepted,
                     columns: Columns { columns, count },
+                    broken_off,
                 };
             }
             Step::Skip(next) => {
@@ -94,7 +124,7 @@ pub fn parse_qrydsc(data: &[u8]) -> Description
             }
             Step::Column { next, source } => {
                 if MAX_COLUMNS <= count {
-                    return refused(Refusal::TooManyColumns);
+                    return refused(too_many(data, next, whole));
                 }
                 let lid = triplets::lid_at(data, source);
                 let place = lid as usize;
@@ -107,4 +137,18 @@ pub fn parse_qrydsc(data: &[u8]) -> Description
             }
         }
     }
+}
+
+// The columns that a description describes, in order: those before its end or, where it breaks off, before that place.
+pub fn parse_qrydsc(data: &[u8]) -> Description
+    ensures { λ r. ⌜ toldDescription r ≡ description (now («data» .entry)) ⌝ }
+{
+    parse(data, false)
+}
+
+// The same, save that a description that breaks off is refused: 15, behind 1 and before 2.
+pub fn parse_whole_qrydsc(data: &[u8]) -> Description
+    ensures { λ r. ⌜ toldDescription r ≡ wholeDescription (now («data» .entry)) ⌝ }
+{
+    parse(data, true)
 }

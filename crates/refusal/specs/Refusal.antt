@@ -3,7 +3,7 @@ use Prim.Native.Nat.{ℕ}
 use mathlib.Core.List.{List, [], _∷_}
 use lib.ListN.{getD}
 use Rattle.refusal.specs.declared.Refusal.{Refusal}
-use Rattle.refusal.specs.declared.Refusal.the-variants.{QrydscTooLong, TooManyColumns, CountTooLarge, InputTooLong, DecFloatColumn, DecimalEmpty, DecimalTooLong, BufferTooShort, TextBufferTooShort}
+use Rattle.refusal.specs.declared.Refusal.the-variants.{QrydscTooLong, TooManyColumns, CountTooLarge, InputTooLong, DecFloatColumn, DecimalEmpty, DecimalTooLong, BufferTooShort, TextBufferTooShort, QrydscBrokenOff}
 use Rattle.refusal.specs.declared.Outcome.{Outcome}
 use Rattle.refusal.specs.declared.Outcome.the-variants.{Accepted, Refused}
 
@@ -18,6 +18,7 @@ refusalNumber DecimalEmpty = 6
 refusalNumber DecimalTooLong = 7
 refusalNumber (BufferTooShort expected actual) = 8
 refusalNumber (TextBufferTooShort needed) = 9
+refusalNumber QrydscBrokenOff = 15
 
 -- the numbers that come with it: `expected` and `actual` with 8, the length needed with 9
 abbrev pub refusalValues : Refusal → List ℕ
@@ -30,6 +31,7 @@ refusalValues InputTooLong = []
 refusalValues DecFloatColumn = []
 refusalValues DecimalEmpty = []
 refusalValues DecimalTooLong = []
+refusalValues QrydscBrokenOff = []
 
 -- what a call says of its input: that it accepted, or a refusal by number and values
 pub data Told : Type 0 where

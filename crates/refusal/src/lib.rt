@@ -26,7 +26,9 @@ pub const BUFFER_TOO_SHORT: u32 = 8;
 
 pub const TEXT_BUFFER_TOO_SHORT: u32 = 9;
 
-// The refusals, in the order in which they are tested.
+pub const QRYDSC_BROKEN_OFF: u32 = 15;
+
+// The refusals, by their numbers: a call tests them in this order, save that 15 comes behind 1.
 pub enum Refusal {
     // 1: a description of more than 65,536 bytes.
     QrydscTooLong,
@@ -46,6 +48,8 @@ pub enum Refusal {
     BufferTooShort { expected: usize, actual: usize },
     // 9: the texts need a longer text buffer, of `needed` bytes.
     TextBufferTooShort { needed: usize },
+    // 15: a description that breaks off, where only a whole one is taken.
+    QrydscBrokenOff,
 }
 
 impl Refusal {
@@ -65,6 +69,7 @@ impl Refusal {
                 actual: _,
             } => BUFFER_TOO_SHORT,
             Refusal::TextBufferTooShort { needed: _ } => TEXT_BUFFER_TOO_SHORT,
+            Refusal::QrydscBrokenOff => QRYDSC_BROKEN_OFF,
         }
     }
 
@@ -84,6 +89,7 @@ impl Refusal {
                 actual: _,
             } => expected,
             Refusal::TextBufferTooShort { needed } => needed,
+            Refusal::QrydscBrokenOff => 0,
         }
     }
 
@@ -103,6 +109,7 @@ impl Refusal {
                 actual,
             } => actual,
             Refusal::TextBufferTooShort { needed: _ } => 0,
+            Refusal::QrydscBrokenOff => 0,
         }
     }
 }

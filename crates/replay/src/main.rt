@@ -2,9 +2,11 @@
 // call and compares. It writes a line for each line that differs or is no request, and at the end how many lines there were and how many were
 // the same. The kinds of line: T decode_character_bytes, G decode_graphic_bytes, L bytes_are_likely_text, P decode_packed_decimal, F fixed_length,
 // Q parse_qrydsc and decode_row with its columns, H decode_row with columns of the line's own. T, G, Q and H also come in lower case, with the host release
-// behind the letter: such a line is whole, and has what the Rust lacks too, the characters replaced and the columns' origins.
+// behind the letter: such a line is full, and has what the Rust lacks too, the characters replaced, the columns' origins, and whether a description breaks
+// off. n is parse_whole_qrydsc, also full, without a release.
 use answers::columns::columns_at;
 use answers::columns::columns_of;
+use answers::columns::ending_at;
 use answers::columns::type_of;
 use answers::lines::answer_start;
 use answers::lines::bytes;
@@ -21,7 +23,9 @@ use answers::place::text_at;
 use answers::rows::is_answer;
 use buffer::TextAnswer;
 use check::same;
+use qrydsc::Description;
 use qrydsc::parse_qrydsc;
+use qrydsc::parse_whole_qrydsc;
 use refusal::TEXT_BUFFER_TOO_SHORT;
 use row::decode_row;
 use types::Columns;
@@ -114,8 +118,8 @@ fn is_filled(text: &[u8]) -> bool {
 }
 
 // Whether the call writes `want` at the beginning of the buffer and no byte after it, and `rest`, what is stored behind the text, is how many characters
-// it replaced, in a whole line, or nothing in another.
-fn writes(call: Call, data: &[u8], want: &[u8], whole: bool, rest: &[u8], text: &mut [u8]) -> bool {
+// it replaced, in a full line, or nothing in another.
+fn writes(call: Call, data: &[u8], want: &[u8], full: bool, rest: &[u8], text: &mut [u8]) -> bool {
     fill(text, FILL);
     let a = make(call, data, text);
     let outcome = a.outcome;
@@ -126,7 +130,7 @@ fn writes(call: Call, data: &[u8], want: &[u8], whole: bool, rest: &[u8], text: 
     if n > text.len() {
         return false;
     }
-    if replaced_at(rest, 0, whole, a.replaced) != rest.len() {
+    if replaced_at(rest, 0, full, a.replaced) != rest.len() {
         return false;
     }
     if !same(&text[0..n], want) {
@@ -160,7 +164,7 @@ fn writes_each(
     call: Call,
     data: &[u8],
     want: &[u8],
-    whole: bool,
+    full: bool,
     rest: &[u8],
     text: &mut [u8],
 ) -> bool {
@@ -168,10 +172,10 @@ fn writes_each(
     if text.len() <= n {
         return false;
     }
-    if !writes(call, data, want, whole, rest, text) {
+    if !writes(call, data, want, full, rest, text) {
         return false;
     }
-    if !writes(call, data, want, whole, rest, &mut text[0..n]) {
+    if !writes(call, data, want, full, rest, &mut text[0..n]) {
         return false;
     }
     if n == 0 {
@@ -193,7 +197,7 @@ fn refusal_of(answer: &[u8]) -> Stored {
     if !same(&answer[0..6], b"REFUSE") {
         return Stored::Other;
     }
-    let r = number(&answer[6..], 9);
+    let r = number(&answer[6..], 99);
     let n = r.value;
     if n == 0 {
         return Stored::Other;
@@ -205,7 +209,7 @@ fn refusal_of(answer: &[u8]) -> Stored {
 fn answers(
     call: Call,
     data: &[u8],
-    whole: bool,
+    full: bool,
     answer: &[u8],
     want: &mut [u8],
     text: &mut [u8],
@@ -214,7 +218,7 @@ fn answers(
     let w = bytes(&answer[0..end], want);
     let n = w.value;
     if w.valid {
-        return writes_each(call, data, &want[0..n], whole, &answer[end..], text);
+        return writes_each(call, data, &want[0..n], full, &answer[end..], text);
     }
     match refusal_of(answer) {
         Stored::Refusal(number) => refuses(call, data, number, 0, text),
@@ -226,7 +230,7 @@ fn answers(
 fn text_line(
     kind: u8,
     request: &[u8],
-    whole: bool,
+    full: bool,
     answer: &[u8],
     data: &mut [u8],
     want: &mut [u8],
@@ -243,7 +247,7 @@ fn text_line(
     if !d.valid {
         return Verdict::NoRequest;
     }
-    judged(answers(call, &data[0..n], whole, answer, want, text))
+    judged(answers(call, &data[0..n], full, answer, want, text))
 }
 
 fn likely_line(request: &[u8], answer: &[u8], data: &mut [u8]) -> Verdict {
@@ -278,7 +282,7 @@ fn length_line(request: &[u8], answer: &[u8]) -> Verdict {
 fn decodes(
     columns: Columns,
     row: &[u8],
-    whole: bool,
+    full: bool,
     answer: &[u8],
     want: &mut [u8],
     text: &mut [u8],
@@ -287,7 +291,7 @@ fn decodes(
     let count = columns.count;
     let a = decode_row(row, columns, text);
     let outcome = a.outcome;
-    if !is_answer(answer, whole, a, count, row, text, want) {
+    if !is_answer(answer, full, a, count, row, text, want) {
         return false;
     }
     if outcome.number() == 0 {
@@ -332,7 +336,7 @@ fn leaves_rest(columns: Columns, row: &[u8], written: usize, text: &mut [u8]) ->
 fn row_answers(
     columns: Columns,
     row: &[u8],
-    whole: bool,
+    full: bool,
     answer: &[u8],
     want: &mut [u8],
     text: &mut [u8],
@@ -342,7 +346,7 @@ fn row_answers(
     if text.len() <= n {
         return false;
     }
-    if !decodes(columns, row, whole, answer, want, &mut text[0..n]) {
+    if !decodes(columns, row, full, answer, want, &mut text[0..n]) {
         return false;
     }
     if !leaves_rest(columns, row, n, text) {
@@ -359,7 +363,7 @@ fn row_line(
     columns: Columns,
     request: &[u8],
     at: usize,
-    whole: bool,
+    full: bool,
     answer: &[u8],
     data: &mut [u8],
     want: &mut [u8],
@@ -373,48 +377,56 @@ fn row_line(
     if !d.valid {
         return Verdict::NoRequest;
     }
-    judged(row_answers(columns, &data[0..n], whole, answer, want, text))
+    judged(row_answers(columns, &data[0..n], full, answer, want, text))
 }
 
-// Whether these columns are told: `C`, their number, and each of them, in a whole line with its origin.
-fn are_told(columns: Columns, whole: bool, told: &[u8]) -> bool {
+// Whether an accepted description is told: `C`, the number of columns, and each of them; in a full line with their origins, and with its ending.
+fn is_told(described: Description, full: bool, told: &[u8]) -> bool {
+    let columns = described.columns;
     let count = text_at(told, 0, b"C ");
-    columns_at(told, count, whole, columns) == told.len()
+    let ending = columns_at(told, count, full, columns);
+    ending_at(told, ending, full, described.broken_off) == told.len()
 }
 
-// Whether a refused description is told so: no columns, and the number.
-fn is_told_refused(refusal: u32, told: &[u8], answer: &[u8]) -> bool {
-    if !same(told, b"C -") {
+// Whether a description is refused with the stored number, has no column, and does not count as broken off.
+fn is_refused(described: Description, answer: &[u8]) -> bool {
+    let outcome = described.outcome;
+    let columns = described.columns;
+    if columns.count != 0 {
+        return false;
+    }
+    if described.broken_off {
         return false;
     }
     match refusal_of(answer) {
-        Stored::Refusal(number) => number == refusal,
+        Stored::Refusal(number) => number == outcome.number(),
         Stored::Other => false,
     }
 }
 
-// The rest of a line of kind Q whose description has these columns.
+// The rest of a line of kind Q whose description is accepted.
 fn described_line(
-    columns: Columns,
+    described: Description,
     request: &[u8],
-    whole: bool,
+    full: bool,
     answer: &[u8],
     data: &mut [u8],
     want: &mut [u8],
     text: &mut [u8],
 ) -> Verdict {
+    let columns = described.columns;
     let told = part_start(request, 4, b' ');
-    if !are_told(columns, whole, &request[told..]) {
+    if !is_told(described, full, &request[told..]) {
         return Verdict::Differs;
     }
     let row = part_start(request, 3, b' ');
-    row_line(columns, request, row, whole, answer, data, want, text)
+    row_line(columns, request, row, full, answer, data, want, text)
 }
 
-// A line of kind Q: `Q <description> R <row> C <columns>`.
+// A line of kind Q: `Q <description> R <row> C <columns>`, or `C -` where the description is refused.
 fn description_line(
     request: &[u8],
-    whole: bool,
+    full: bool,
     answer: &[u8],
     data: &mut [u8],
     want: &mut [u8],
@@ -430,33 +442,56 @@ fn description_line(
     }
     let described = parse_qrydsc(&data[0..n]);
     let outcome = described.outcome;
-    let columns = described.columns;
-    let refusal = outcome.number();
-    if refusal == 0 {
-        return described_line(columns, request, whole, answer, data, want, text);
+    if outcome.number() == 0 {
+        return described_line(described, request, full, answer, data, want, text);
     }
     let told = part_start(request, 4, b' ');
-    judged(is_told_refused(refusal, &request[told..], answer))
+    if !same(&request[told..], b"C -") {
+        return Verdict::Differs;
+    }
+    judged(is_refused(described, answer))
+}
+
+// A line of kind n: `n <description>`.
+fn whole_description_line(request: &[u8], answer: &[u8], data: &mut [u8]) -> Verdict {
+    if field_count(request) != 2 {
+        return Verdict::NoRequest;
+    }
+    let d = bytes_or_repeated(field(request, 1), data);
+    let n = d.value;
+    if !d.valid {
+        return Verdict::NoRequest;
+    }
+    let described = parse_whole_qrydsc(&data[0..n]);
+    let outcome = described.outcome;
+    let columns = described.columns;
+    if outcome.number() != 0 {
+        return judged(is_refused(described, answer));
+    }
+    if described.broken_off {
+        return Verdict::Differs;
+    }
+    judged(columns_at(answer, 0, true, columns) == answer.len())
 }
 
 // A line of kind H: `H <columns> R <row>`.
 fn own_line(
     request: &[u8],
-    whole: bool,
+    full: bool,
     answer: &[u8],
     data: &mut [u8],
     want: &mut [u8],
     text: &mut [u8],
 ) -> Verdict {
     let columns = columns_of(request);
-    let told = columns_at(request, 2, whole, columns);
+    let told = columns_at(request, 2, full, columns);
     let row = text_at(request, told, b" R ");
-    row_line(columns, request, row, whole, answer, data, want, text)
+    row_line(columns, request, row, full, answer, data, want, text)
 }
 
-// A line in lower case, which is whole: the host release, of which there is only 2, and what the same kind in upper case has. Without its letter it has
+// A line in lower case, which is full: the host release, of which there is only 2, and what the same kind in upper case has. Without its letter it has
 // each field where that has it.
-fn whole_line(
+fn full_line(
     kind: u8,
     request: &[u8],
     answer: &[u8],
@@ -495,8 +530,9 @@ fn replay_line(line: &[u8], data: &mut [u8], want: &mut [u8], text: &mut [u8]) -
         b'L' => likely_line(request, answer, data),
         b'H' => own_line(request, false, answer, data, want, text),
         b'Q' => description_line(request, false, answer, data, want, text),
+        b'n' => whole_description_line(request, answer, data),
         b'T' | b'G' | b'P' => text_line(kind[0], request, false, answer, data, want, text),
-        _ => whole_line(kind[0], request, answer, data, want, text),
+        _ => full_line(kind[0], request, answer, data, want, text),
     }
 }
 

@@ -1,6 +1,7 @@
 // Program. Shows what a host's description and row hold: `show_row [-x] DESCRIPTION [ROW]` reads one or two files of raw bytes (with -x, of
 // hexadecimal text; `-` is standard input) and prints a table of the columns, with a row also their values, or the refusal. It decides nothing itself:
-// parse_qrydsc, decode_row and value_bytes do.
+// parse_qrydsc, decode_row and value_bytes do. A description that breaks off is shown too, since whoever looks for the fault wants to see it: with a
+// warning.
 mod columns;
 mod load;
 mod refusals;
@@ -44,8 +45,24 @@ fn show_description(d: Description) {
     }
 }
 
+// Says on standard error, where the description breaks off, after how many of its bytes. What is printed and its last line are the same with it.
+fn warn_broken_off(broken_off: bool, description: &[u8]) {
+    if !broken_off {
+        return;
+    }
+    let end = triplets::outer_end(description, 0);
+    io::write_all(
+        libc::STDERR_FILENO,
+        b"show_row: warning: the description breaks off after ",
+    );
+    io::print_decimal(libc::STDERR_FILENO, end as u64);
+    io::write_all(libc::STDERR_FILENO, b" bytes of ");
+    io::print_decimal(libc::STDERR_FILENO, description.len() as u64);
+    io::write_all(libc::STDERR_FILENO, b": columns may be missing\n");
+}
+
 // Says on standard error how many characters were replaced, if any were. The table and its last line are the same with it.
-fn warn(replaced: usize) {
+fn warn_replaced(replaced: usize) {
     if replaced == 0 {
         return;
     }
@@ -76,7 +93,7 @@ fn show_row<'a>(d: Description, row: &'a [u8], text: &'a mut [u8]) {
     match outcome {
         Outcome::Accepted => {
             values::show_values(columns, answer, row, text);
-            warn(answer.replaced);
+            warn_replaced(answer.replaced);
         }
         Outcome::Refused(_) => refusals::show_refused_row(outcome, row, columns, text),
     }
@@ -91,7 +108,9 @@ fn with_description(first: usize, is_hex: bool, description: &mut [u8]) {
     if description.len() < n {
         return;
     }
-    show_description(qrydsc::parse_qrydsc(&description[0..n]));
+    let d = qrydsc::parse_qrydsc(&description[0..n]);
+    show_description(d);
+    warn_broken_off(d.broken_off, &description[0..n]);
 }
 
 fn with_row(
@@ -116,6 +135,7 @@ fn with_row(
         return;
     }
     show_row(d, &row[0..m], text);
+    warn_broken_off(d.broken_off, &description[0..n]);
 }
 
 fn first_argument(is_hex: bool) -> usize

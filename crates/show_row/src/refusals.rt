@@ -8,6 +8,7 @@ use refusal::DECIMAL_EMPTY;
 use refusal::DECIMAL_TOO_LONG;
 use refusal::INPUT_TOO_LONG;
 use refusal::Outcome;
+use refusal::QRYDSC_BROKEN_OFF;
 use refusal::QRYDSC_TOO_LONG;
 use refusal::TEXT_BUFFER_TOO_SHORT;
 use refusal::TOO_MANY_COLUMNS;
@@ -51,6 +52,7 @@ fn meaning(number: u32) -> Line {
         DECIMAL_TOO_LONG => line.text(b"the packed decimal has more than 128 bytes"),
         BUFFER_TOO_SHORT => line.text(b"the row is too short"),
         TEXT_BUFFER_TOO_SHORT => line.text(b"the text buffer is too short"),
+        QRYDSC_BROKEN_OFF => line.text(b"the description breaks off"),
         _ => line.text(b"unknown"),
     }
 }

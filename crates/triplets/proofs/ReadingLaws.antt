@@ -28,12 +28,12 @@ and-false true = refl
 and-false false = refl
 
 -- what it takes that a triplet begins
-record Begun (least : ℕ) (s : List ℕ) : Type 0 where
-  enough : least ≤ length s
-  two : 2 ≤ getD s 0 0
-  fits : getD s 0 0 ≤ length s
+pub record Begun (least : ℕ) (s : List ℕ) : Type 0 where
+  pub enough : least ≤ length s
+  pub two : 2 ≤ getD s 0 0
+  pub fits : getD s 0 0 ≤ length s
 
-begun : (least : ℕ) (s : List ℕ) → begins least s ≡ true → Begun least s
+pub begun : (least : ℕ) (s : List ℕ) → begins least s ≡ true → Begun least s
 begun least s e =
     let r = and-right (leb least (length s)) (leb 2 (getD s 0 0) && leb (getD s 0 0) (length s)) e in
     record {
@@ -67,7 +67,7 @@ enough-bound least (suc j) (suc k) s p q = go (enough-bound least j k (drop (get
         ap (consTriplet (firstTriplet s)) (same (omega arith) (omega arith))
     go same false e = refl
 
-reading-more : (least : ℕ) (s : List ℕ) → begins least s ≡ true → reading least s ≡ consTriplet (firstTriplet s) (reading least (drop (getD s 0 0) s))
+pub reading-more : (least : ℕ) (s : List ℕ) → begins least s ≡ true → reading least s ≡ consTriplet (firstTriplet s) (reading least (drop (getD s 0 0) s))
 unfolding reading readingOf
 reading-more least [] e = absurd (omega (arith, begun least [] e .two))
 reading-more least (x ∷ s) e =
@@ -75,10 +75,26 @@ reading-more least (x ∷ s) e =
     let d = length-drop x (x ∷ s) in
     rw e (ap (consTriplet (firstTriplet (x ∷ s))) (enough-bound least (length s) (length (drop x (x ∷ s))) (drop x (x ∷ s)) (omega arith) (omega arith)))
 
-reading-none : (least : ℕ) (s : List ℕ) → begins least s ≡ false → reading least s ≡ stopped s
+pub reading-none : (least : ℕ) (s : List ℕ) → begins least s ≡ false → reading least s ≡ stopped s
 unfolding reading readingOf
 reading-none least [] e = refl
 reading-none least (x ∷ s) e = rw e
+
+-- what is left unread is no longer than all
+unread-of : (least n : ℕ) (s : List ℕ) → length (readingOf least n s .unread) ≤ length s
+unfolding readingOf
+unread-of least zero s = omega arith
+unread-of least (suc n) s = go (unread-of least n (drop (getD s 0 0) s)) (begins least s)
+  where
+    go : length (readingOf least n (drop (getD s 0 0) s) .unread) ≤ length (drop (getD s 0 0) s)
+        → (b : Bool)
+        → length (cond b (consTriplet (firstTriplet s) (readingOf least n (drop (getD s 0 0) s))) (stopped s) .unread) ≤ length s
+    go h true = let d = length-drop (getD s 0 0) s in omega arith
+    go h false = omega arith
+
+pub unread-within : (least : ℕ) (s : List ℕ) → length (reading least s .unread) ≤ length s
+unfolding reading
+unread-within least s = unread-of least (length s) s
 
 -- ---- the triplet at the place i of a part of s that ends at e: it has the kind k and ends at m
 pub record Found (least : ℕ) (s : List ℕ) (i e k m : ℕ) : Type 0 where
@@ -86,6 +102,7 @@ pub record Found (least : ℕ) (s : List ℕ) (i e k m : ℕ) : Type 0 where
   pub high : m ≤ e
   pub whole : e ≤ length s
   pub more : reading least (slice i e s) .triplets ≡ triplet k (slice (i + 2) m s) ∷ reading least (slice m e s) .triplets
+  pub rest : reading least (slice i e s) .unread ≡ reading least (slice m e s) .unread
 
 pub ends : {least : ℕ} {s : List ℕ} {i e k m : ℕ} → Found least s i e k m → m ≤ length s
 ends f =
@@ -93,16 +110,16 @@ ends f =
     let w = f .whole in
     omega arith
 
-none : (least : ℕ) (s : List ℕ) (i e : ℕ) → nextOf least (slice i e s) i ≡ next.Nothing → reading least (slice i e s) .triplets ≡ []
+none : (least : ℕ) (s : List ℕ) (i e : ℕ) → nextOf least (slice i e s) i ≡ next.Nothing → reading least (slice i e s) ≡ stopped (slice i e s)
 unfolding nextOf
 none least s i e h = go (begins least (slice i e s)) refl h
   where
     go : (b : Bool)
         → begins least (slice i e s) ≡ b
         → cond b (next.Triplet (getD (slice i e s) 1 0) (i + getD (slice i e s) 0 0)) next.Nothing ≡ next.Nothing
-        → reading least (slice i e s) .triplets ≡ []
+        → reading least (slice i e s) ≡ stopped (slice i e s)
     go true t f = let z : _≡_ {A = ℕ} 0 1 = cc in absurd (omega arith)
-    go false t f = ap (λ (r : Reading). r .triplets) (reading-none least (slice i e s) t)
+    go false t f = reading-none least (slice i e s) t
 
 some : (least : ℕ) (s : List ℕ) (i e k m : ℕ) → i ≤ e → e ≤ length s → nextOf least (slice i e s) i ≡ next.Triplet k m → Found least s i e k m
 unfolding nextOf
@@ -126,13 +143,17 @@ some least s i e k m p q h = go (begins least (slice i e s)) refl h
           whole = q;
           more = ap (λ (r : Reading). r .triplets) (reading-more least (slice i e s) t)
               ∙ rw (size, slice-slice i 2 m e s low high q, drop-drop (getD (slice i e s) 0 0) i (take e s), pm, pk);
+          rest = ap (λ (r : Reading). r .unread) (reading-more least (slice i e s) t) ∙ rw (drop-drop (getD (slice i e s) 0 0) i (take e s), pm);
         }
     go false t f = let z : _≡_ {A = ℕ} 0 1 = cc in absurd (omega arith)
 
 -- the same of an answer n
 module _ {n : Next} (least : ℕ) (s : List ℕ) (i e : ℕ) (asked : n ≡ nextOf least (slice i e s) i) where
   pub next-none : n ≡ next.Nothing → reading least (slice i e s) .triplets ≡ []
-  next-none h = none least s i e (sym asked ∙ h)
+  next-none h = ap (λ (r : Reading). r .triplets) (none least s i e (sym asked ∙ h))
+
+  pub next-unread : n ≡ next.Nothing → reading least (slice i e s) .unread ≡ slice i e s
+  next-unread h = ap (λ (r : Reading). r .unread) (none least s i e (sym asked ∙ h))
 
   pub next-some : (k m : ℕ) → i ≤ e → e ≤ length s → n ≡ next.Triplet k m → Found least s i e k m
   next-some k m p q h = some least s i e k m p q (sym asked ∙ h)

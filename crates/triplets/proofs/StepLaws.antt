@@ -2,14 +2,14 @@
 use mathlib.Core.Path.{_≡_, refl, sym, ap, _∙_}
 use mathlib.Core.Bool.{Bool, true, false, cond, _&&_}
 use mathlib.Core.List.{List, [], _∷_, _++_}
-use Prim.Native.Nat.{ℕ, suc, _+_, _-_, _*_, _≤_, _<_}
+use Prim.Native.Nat.{ℕ, zero, suc, _+_, _-_, _*_, _≤_, _<_}
 use native.Mathlib.Omega.{arith}
 use native.Mathlib.Nat.{add-zero}
 use native.Mathlib.Numerals.{add-one, add-two, add-three}
 use lib.Dec.{eqb, ltb}
 use lib.ListN.{length, getD, take, drop}
 use lib.Seq.{slice, slice-empty, slice-cons, length-slice, drop-drop}
-use borrow.Author.Tests.{eq-eqb, ne-eqb, lt-ltb, le-ltb, ltb-true, ltb-false}
+use borrow.Author.Tests.{ne-eqb, lt-ltb, le-ltb, ltb-true, ltb-false}
 use Rattle.types.specs.declared.ColumnDescriptor.{ColumnDescriptor}
 use Rattle.column.specs.declared.EnvEntry.{EnvEntry}
 use Rattle.column.specs.Column.{sdaColumn}
@@ -18,11 +18,11 @@ use Rattle.triplets.specs.declared.Pending.{Pending}
 use Rattle.triplets.specs.declared.Pending.the-variants as pending
 use Rattle.triplets.specs.declared.Cursor.{Cursor}
 use Rattle.triplets.specs.declared.Cursor.the-variants as cursor
-use Rattle.triplets.specs.Triplets.{Triplet, triplet, reading}
+use Rattle.triplets.specs.Triplets.{Triplet, triplet, reading, breaksOff}
 use Rattle.triplets.specs.Descriptors.{lastOf, pendingAfter, declare, environmentAfter, sdaColumns, outerSda, lidColumns, innerColumns, groupColumns, tripletColumns, columnsFrom}
-use Rattle.triplets.specs.Steps.{groupAt, outerFrom, toCome, CursorWithin, ahead, Goes}
-use Rattle.triplets.proofs.Slices.{getD-slice}
-use Rattle.triplets.proofs.ReadingLaws.{Found}
+use Rattle.triplets.specs.Steps.{groupAt, outerFrom, endFrom, outerAt, toCome, CursorWithin, ahead, Goes}
+use Rattle.triplets.proofs.Slices.{slice-all, getD-slice}
+use Rattle.triplets.proofs.ReadingLaws.{unread-within, Found}
 
 -- ---- parts with data, and without
 module _ (s : List ℕ) (a e : ℕ) (h : e ≤ length s) where
@@ -42,6 +42,29 @@ unfolding lastOf
 last-byte s a e h k =
     let q : a + (e - a - 1) ≡ e - 1 = omega arith in
     rw (some-data s a e k h, length-slice a e s k, getD-slice a e (e - a - 1) s 0 (omega arith), q)
+
+-- ---- where outer triplets end
+pub outer-within : (s : List ℕ) (c : Cursor) → CursorWithin s c → outerAt c ≤ length s
+outer-within s (cursor.Outer p at) h = h
+outer-within s (cursor.Lids at e) h = h .1
+outer-within s (cursor.Inner at e) h = h .1
+
+pub end-here : (s : List ℕ) (i : ℕ) → i ≤ length s → reading 2 (slice i (length s) s) .unread ≡ slice i (length s) s → i ≡ endFrom s i
+unfolding endFrom
+end-here s i h e = let l = length-slice i (length s) s (omega arith) in rw e (omega arith)
+
+pub end-after : {s : List ℕ} {i k m : ℕ} → Found 2 s i (length s) k m → endFrom s m ≡ endFrom s i
+unfolding endFrom
+end-after f = rw (f .rest)
+
+-- bytes are left unread exactly where the end is not the description's
+pub breaks-before : (s : List ℕ) → ltb (endFrom s 0) (length s) ≡ breaksOff s
+unfolding endFrom breaksOff
+breaks-before s = rw (slice-all s) (go (length (reading 2 s .unread)) (unread-within 2 s))
+  where
+    go : (u : ℕ) → u ≤ length s → ltb (length s - u) (length s) ≡ ltb 0 u
+    go zero h = le-ltb (length s - 0) (length s) (omega arith)
+    go (suc u) h = lt-ltb (length s - suc u) (length s) (omega arith) ∙ sym (lt-ltb 0 (suc u) (omega arith))
 
 -- ---- outer triplets
 pub outer-end : (s : List ℕ) (i : ℕ) (p : Pending) → reading 2 (slice i (length s) s) .triplets ≡ [] → (env : List EnvEntry) → toCome s env (cursor.Outer p i) ≡ []
@@ -93,6 +116,14 @@ group-within s a e h k = go (ltb a e) refl (eqb (getD s a 0) 0xD0)
     go true t false = ((h, k), omega arith)
     go false t d = ((h, k), omega arith)
 
+group-ends : (s : List ℕ) (a e : ℕ) → endFrom s (outerAt (groupAt s a e)) ≡ endFrom s e
+unfolding groupAt
+group-ends s a e = go (ltb a e && eqb (getD s a 0) 0xD0)
+  where
+    go : (b : Bool) → endFrom s (outerAt (cond b (cursor.Lids (a + 1) e) (cursor.Inner a e))) ≡ endFrom s e
+    go true = refl
+    go false = refl
+
 module _ (s : List ℕ) (i : ℕ) (p : Pending) (k m : ℕ) (f : Found 2 s i (length s) k m) where
   abbrev body : List ℕ
   body = slice (i + 2) m s
@@ -109,7 +140,7 @@ module _ (s : List ℕ) (i : ℕ) (p : Pending) (k m : ℕ) (f : Found 2 s i (le
   to-outer q rest same =
       let l = f .low in
       let h = f .high in
-      record { within = h; less = omega arith; same = same }
+      record { within = h; less = omega arith; same = same; ends = end-after f }
 
   pub outer-empty : k ≡ 0x70 → i + 2 ≡ m → Goes s (cursor.Outer p i) (cursor.Outer pending.Nothing m) (λ env. toCome s env (cursor.Outer pending.Nothing m))
   unfolding toCome tripletColumns pendingAfter
@@ -140,6 +171,7 @@ module _ (s : List ℕ) (i : ℕ) (p : Pending) (k m : ℕ) (f : Found 2 s i (le
         within = g .0;
         less = omega (arith, g .1);
         same = λ env. outer-more env ∙ rw (e, same-environment p env (triplet 0x76 body) refl) (group-begins s env (i + 2) m l h);
+        ends = group-ends s (i + 2) m ∙ end-after f;
       }
 
 -- an SDA with data: a column where nothing is pending, else an entry
@@ -168,7 +200,7 @@ module _ (s : List ℕ) (i e : ℕ) (p : i ≤ e) (q : e ≤ length s) where
   pub inner-none : reading 3 (slice i e s) .triplets ≡ []
       → Goes s (cursor.Inner i e) (cursor.Outer pending.Nothing e) (λ env. toCome s env (cursor.Outer pending.Nothing e))
   unfolding toCome innerColumns
-  inner-none h = record { within = q; less = omega arith; same = λ env. rw h }
+  inner-none h = record { within = q; less = omega arith; same = λ env. rw h; ends = refl }
 
 module _ (s : List ℕ) (i e k m : ℕ) (f : Found 3 s i e k m) where
   to-inner : (rest : List EnvEntry → List ColumnDescriptor)
@@ -178,7 +210,7 @@ module _ (s : List ℕ) (i e k m : ℕ) (f : Found 3 s i e k m) where
       let l = f .low in
       let h = f .high in
       let w = f .whole in
-      record { within = (h, w); less = omega arith; same = same }
+      record { within = (h, w); less = omega arith; same = same; ends = refl }
 
   pub inner-column : k ≡ 0x70 → i + 2 < m → Goes s (cursor.Inner i e) (cursor.Inner m e) (λ env. sdaColumn (slice (i + 2) m s) ∷ toCome s env (cursor.Inner m e))
   unfolding toCome innerColumns sdaColumns
@@ -216,7 +248,7 @@ module _ (s : List ℕ) (i e : ℕ) (p : i ≤ e) (q : e ≤ length s) where
   lids-end h =
       let l = length-slice i e s q in
       let r : length (slice i e s) < 3 = omega arith in
-      record { within = q; less = omega arith; same = λ env. rw (short-lids env (slice i e s) r) }
+      record { within = q; less = omega arith; same = λ env. rw (short-lids env (slice i e s) r); ends = refl }
 
   pub lids-more : 3 ≤ e - i
       → Goes s (cursor.Lids i e) (cursor.Lids (i + 3) e)
@@ -235,4 +267,5 @@ module _ (s : List ℕ) (i e : ℕ) (p : i ≤ e) (q : e ≤ length s) where
               slice-cons (suc i) e s 0 (omega arith) q,
               slice-cons (suc (suc i)) e s 0 (omega arith) q,
             );
+        ends = refl;
       }

@@ -34,6 +34,16 @@ groupAt s a e = cond (ltb a e && eqb (getD s a 0) 0xD0) (cursor.Lids (a + 1) e) 
 abbrev pub outerFrom : List ℕ → ℕ → List Triplet
 outerFrom s at = reading 2 (slice at (length s) s) .triplets
 
+-- where the outer triplets from a place on end: the first byte that they leave unread, or the end
+unfoldable pub endFrom : List ℕ → ℕ → ℕ
+endFrom s at = length s - length (reading 2 (slice at (length s) s) .unread)
+
+-- the place from which outer triplets are to come
+abbrev pub outerAt : Cursor → ℕ
+outerAt (cursor.Outer p at) = at
+outerAt (cursor.Lids at e) = e
+outerAt (cursor.Inner at e) = e
+
 -- the columns that are still to come
 unfoldable pub toCome : List ℕ → List EnvEntry → Cursor → List ColumnDescriptor
 toCome s env (cursor.Outer p at) = columnsFrom p env (outerFrom s at)
@@ -73,10 +83,11 @@ pub record Goes (s : List ℕ) (c n : Cursor) (rest : List EnvEntry → List Col
   pub within : CursorWithin s n
   pub less : ahead s n < ahead s c
   pub same : (env : List EnvEntry) → toCome s env c ≡ rest env
+  pub ends : endFrom s (outerAt n) ≡ endFrom s (outerAt c)
 
--- what a step says of the columns to come
+-- what a step says of the columns to come, and of the place where the outer triplets end
 abbrev pub Leads : List ℕ → Cursor → Step → Type 0
-Leads s c step.End = (env : List EnvEntry) → toCome s env c ≡ []
+Leads s c (step.End at) = ((env : List EnvEntry) → toCome s env c ≡ []) × (at ≡ endFrom s (outerAt c))
 Leads s c (step.Skip n) = Goes s c n (λ env. toCome s env n)
 Leads s c (step.Declare n e l) = (l < 256) × Goes s c n (λ env. toCome s (declare env l e) n)
 Leads s c (step.Column n f) = SourceWithin s f × Goes s c n (λ env. columnIn s env f ∷ toCome s env n)

@@ -1,8 +1,8 @@
--- Bytes read as triplets: Q1, Q7. Assumes nothing.
+-- Bytes read as triplets: Q1, Q7, N6a. Assumes nothing.
 use Prim.Native.Nat.{ℕ, zero, suc, _-_}
 use mathlib.Core.Bool.{Bool, cond, _&&_}
 use mathlib.Core.List.{List, [], _∷_}
-use lib.Dec.{leb}
+use lib.Dec.{leb, ltb}
 use lib.ListN.{length, getD, take, drop}
 
 -- term: Q1. A triplet by its type byte and its data
@@ -39,3 +39,7 @@ readingOf least (suc n) s = cond (begins least s) (consTriplet (firstTriplet s) 
 -- Q1, Q7: `least` is 2, and 3 of inner triplets. There are never more triplets than bytes
 unfoldable pub reading : ℕ → List ℕ → Reading
 reading least s = readingOf least (length s) s
+
+-- N6a: a description breaks off: its outer triplets leave a byte unread, or more
+unfoldable pub breaksOff : List ℕ → Bool
+breaksOff s = ltb 0 (length (reading 2 s .unread))

@@ -13,7 +13,7 @@ ghost use Rattle.column.specs.Said.{saidColumn};
 ghost use Rattle.triplets.specs.declared.Cursor.{Cursor};
 ghost use Rattle.triplets.specs.declared.Source.{Source};
 ghost use Rattle.triplets.specs.Descriptors.{lastOf};
-ghost use Rattle.triplets.specs.Steps.{nextOf, groupAt, CursorWithin, startIn, SourceWithin, columnAt, Leads};
+ghost use Rattle.triplets.specs.Steps.{nextOf, groupAt, endFrom, outerAt, CursorWithin, startIn, SourceWithin, columnAt, Leads};
 
 const TRIPLET_TYPE_SDA: u8 = 0x70;
 
@@ -42,10 +42,11 @@ pub enum Source {
     Lid { start: usize },
 }
 
-// What stands at a cursor, and the cursor after it. The cursor comes first: so it has the same bytes in each variant, and is not moved through
-// memory.
+// What stands at a cursor, and the cursor after it. The cursor comes first: so it has the same bytes in each variant that has one, and is not moved
+// through memory.
 pub enum Step {
-    End,
+    // No outer triplet begins at this place: what is left from there on, if anything is, is not read.
+    End(usize),
     Skip(Cursor),
     Declare {
         next: Cursor,
@@ -116,7 +117,7 @@ fn outer_step(data: &[u8], at: usize, pending: Pending) -> Step
     ensures { λ r. ⌜ Leads (now («data» .entry)) (Cursor.Outer pending at) r ⌝ }
 {
     let Next::Triplet { kind, end } = next_triplet(data, at, data.len(), 2) else {
-        return Step::End;
+        return Step::End(at);
     };
     let start = at + 2;
     if kind == TRIPLET_TYPE_SDA {
@@ -213,6 +214,31 @@ pub fn next_step(data: &[u8], cursor: Cursor) -> Step
         Cursor::Outer { at, pending } => outer_step(data, at, pending),
         Cursor::Lids { at, end } => lid_step(at, end),
         Cursor::Inner { at, end } => inner_step(data, at, end),
+    }
+}
+
+// Where the outer triplets go on behind what stands at a cursor.
+pub fn outer_at(cursor: Cursor) -> usize
+    ensures { λ r. ⌜ r ≡ outerAt cursor ⌝ }
+{
+    match cursor {
+        Cursor::Outer { at, pending: _ } => at,
+        Cursor::Lids { at: _, end } => end,
+        Cursor::Inner { at: _, end } => end,
+    }
+}
+
+// Where the outer triplets from a place on end: the place of the first byte that they leave unread, or the description's end.
+pub fn outer_end(data: &[u8], start: usize) -> usize
+    requires { ⌜ start ≤ length (now «data») ⌝ }
+    ensures { λ r. ⌜ r ≡ endFrom (now («data» .entry)) start ⌝ }
+{
+    let mut at = start;
+    loop {
+        let Next::Triplet { kind: _, end } = next_triplet(data, at, data.len(), 2) else {
+            return at;
+        };
+        at = end;
     }
 }
 

@@ -2,12 +2,12 @@
 -- their places. Assumes nothing.
 use Prim.Native.Nat.{ℕ, suc, _+_, _-_, _*_, _/_, _≤_, _<_}
 use mathlib.Core.Path.{_≡_, refl, sym, ap, _∙_, subst}
-use mathlib.Core.Bool.{Bool, true, false, cond, false≢true}
+use mathlib.Core.Bool.{Bool, true, false, false≢true}
 use mathlib.Core.List.{List, [], _∷_, _++_}
 use mathlib.Core.Option.{Option, some}
+use mathlib.Core.Logic.{_⊎_, inl, inr}
 use native.Mathlib.Omega.{arith}
-use borrow.Author.Tests.{le-ltb, ltb-false}
-use lib.Dec.{ltb}
+use borrow.Author.Tests.{le-ltb}
 use lib.ListN.{length, take, drop, getD, replicate}
 use lib.Seq.{take-at, length-take-le, getD-take}
 use Rattle.refusal.specs.Refusal.{Told, accepted, refused, toldNumber}
@@ -22,8 +22,10 @@ use Rattle.rules.proofs.Walks.{isDone, piecesOf, walk-step, walk-first}
 use Rattle.rules.proofs.Demand3.{facts}
 use Rattle.rules.proofs.Progress.{values-length}
 use Rattle.rules.proofs.Accepted.{all-places}
+use Rattle.triplets.specs.Triplets.{breaksOff}
 use Rattle.triplets.specs.Descriptors.{columnsOf}
-use Rattle.qrydsc.specs.Qrydsc.{numbered, DescriptionTold, refusedDescription, listAnswer, maxQrydsc, description}
+use Rattle.qrydsc.specs.Qrydsc.{numbered, DescriptionTold, description, wholeDescription}
+use Rattle.qrydsc.specs.Entries.{entryAnswer}
 use Rattle.qrydsc.proofs.Lists.{length-numbered}
 use Rattle.description_words.proofs.Fitting.{description-fits}
 use Rattle.words.specs.Words.{packColumns}
@@ -37,6 +39,7 @@ use Rattle.unicode.specs.Laws.{AreBytes}
 use Rattle.unicode.proofs.Bytes.{bytes-drop}
 use Rattle.row_words.specs.Rows.{valuesAfter}
 use Rattle.vejupa.proofs.RowCall.{covered-list}
+use Rattle.vejupa.proofs.Described.{listing, Refuses, Accepts, sorted}
 use Rattle.rules.specs.Value.{valueBytes, textsTogether}
 use Rattle.rules.proofs.Answers.{filled-together}
 use Rattle.vejupa.specs.Rows.{OnWords, decided, decisionFor, wordsDecision, rowNumbers, wordsLeft, textLeft, wordsBytes}
@@ -200,29 +203,28 @@ module _ (cs : List ColumnDescriptor) (fit : AllFit cs) (few : length cs ≤ max
     unfolding from places
     same-value bytes = ap (λ (w : List ℕ). valueNamed (getD w 0 0) (getD w 1 0) (getD w 2 0)) words-are ∙ reads-value (getD places k blankValue) (in-range bytes)
 
--- ---- from a description to a row: the words that vejupa_raw_parse_qrydsc writes are taken by vejupa_raw_decode_row as the columns that parse_qrydsc hands out, never as none
+-- ---- from a description to a row: the words that a description call writes are taken by vejupa_raw_decode_row as the columns that the call by value hands out, never as none
 
 module _ (s v d : List ℕ) where
   abbrev Taken : DescriptionTold → Type 0
   Taken r = r .outcome ≡ accepted → 3 * r .columns .count ≤ length v → wordsDecision (packColumns (covered (r .columns))) s v d ≡ decided (rowDecision ported (r .columns) s d)
 
-  listed-taken : (q : List ℕ) → AreBytes q → Taken (listAnswer (columnsOf q))
-  unfolding listAnswer columnList
-  listed-taken q h = go (ltb maxColumns (length (columnsOf q))) refl
+  listed-taken : (q : List ℕ) → AreBytes q → length (columnsOf q) ≤ maxColumns → (b : Bool) → Taken (record { outcome = accepted; columns = listing (columnsOf q); «broken_off» = b })
+  unfolding listing columnList
+  listed-taken q h few b a room =
+      let cs = numbered 0 (columnsOf q) in
+      let n = length-numbered 0 (columnsOf q) in
+      rw (covered-list cs) (same-decision cs (description-fits q h (omega arith)) (omega (arith, n, few)) s v d room)
+
+  entry-row : (whole : Bool) (q : List ℕ) → AreBytes q → Taken (entryAnswer whole q)
+  entry-row whole q h = go (sorted q whole)
     where
-      go : (b : Bool) → ltb maxColumns (length (columnsOf q)) ≡ b
-          → Taken (cond b (refusedDescription 2 []) (record { outcome = accepted; columns = columnList (numbered 0 (columnsOf q)) }))
-      go true e a room = absurd (let o : _≡_ {A = ℕ} 0 1 = cc in omega arith)
-      go false e a room =
-          let cs = numbered 0 (columnsOf q) in
-          let few = ltb-false maxColumns (length (columnsOf q)) e in
-          let n = length-numbered 0 (columnsOf q) in
-          rw (covered-list cs) (same-decision cs (description-fits q h (omega arith)) (omega (arith, n, few)) s v d room)
+      go : Refuses (entryAnswer whole q) ⊎ Accepts q (entryAnswer whole q) → Taken (entryAnswer whole q)
+      go (inl r) = λ a room. absurd (let n = ap toldNumber (sym (ap (λ (t : DescriptionTold). t .outcome) (r .said)) ∙ a) in let p = r .some in omega arith)
+      go (inr a) = subst Taken (sym (a .said)) (listed-taken q h (a .few) (breaksOff q))
 
   pub described-row : (q : List ℕ) → AreBytes q → Taken (description q)
-  unfolding description
-  described-row q h = go (ltb maxQrydsc (length q)) (listed-taken q h)
-    where
-      go : (b : Bool) → Taken (listAnswer (columnsOf q)) → Taken (cond b (refusedDescription 1 []) (listAnswer (columnsOf q)))
-      go true t a room = absurd (let o : _≡_ {A = ℕ} 0 1 = cc in omega arith)
-      go false t a room = t a room
+  described-row = entry-row false
+
+  pub described-row-whole : (q : List ℕ) → AreBytes q → Taken (wholeDescription q)
+  described-row-whole = entry-row true

@@ -1,4 +1,4 @@
--- What the functions for C and Rust answer for descriptions and types, by what parse_qrydsc and fixed_length answer. Assumes nothing.
+-- What the functions for C and Rust answer for descriptions and types, by what the two description calls and fixed_length answer. Assumes nothing.
 use Prim.Native.Nat.{ℕ, _*_}
 use mathlib.Core.Bool.{Bool, cond}
 use mathlib.Core.List.{List}
@@ -34,6 +34,10 @@ descriptionNumber d w = numberBy (d .outcome) (tooFew (d .columns) w)
 
 abbrev pub descriptionWords : DescriptionTold → List ℕ → List ℕ
 descriptionWords d w = wordsBy (d .outcome) (tooFew (d .columns) w) (packColumns (covered (d .columns))) w
+
+-- N6d: whether the description breaks off, as 1 and 0: 0 with a refusal, and with 101
+abbrev pub brokenOffNumber : DescriptionTold → List ℕ → ℕ
+brokenOffNumber d w = cond (tooFew (d .columns) w) 0 (cond (d .«broken_off») 1 0)
 
 -- of the type that a word is read as: 102 where it is none; whether its values have a fixed length, as 1 and 0; and the length, or 0
 abbrev pub typeNumber : Option Db2Type → ℕ

@@ -10,6 +10,7 @@ use refusal::DEC_FLOAT_COLUMN;
 use refusal::INPUT_LIMIT;
 use refusal::INPUT_TOO_LONG;
 use refusal::Outcome;
+use refusal::QRYDSC_BROKEN_OFF;
 use refusal::QRYDSC_TOO_LONG;
 use refusal::TEXT_BUFFER_TOO_SHORT;
 use refusal::TOO_MANY_COLUMNS;
@@ -22,17 +23,22 @@ use words::TypeRead;
 use words::value_named;
 ghost use mathlib.Core.Path.{_≡_};
 ghost use mathlib.Core.Bool.{cond};
+ghost use Prim.Native.Nat.{_≤_};
+ghost use lib.ListN.{length};
 ghost use Rattle.refusal.specs.Refusal.{toldNumber};
 ghost use Rattle.buffer.specs.Buffer.{unreplaced, toldText};
 ghost use Rattle.unicode.specs.Likely.{likelyText};
 ghost use Rattle.conversion.specs.Conversion.{characterText, graphicText, fromCharacters, fromGraphics, locatorText, rowIdText};
 ghost use Rattle.text.specs.Text.{conversionAnswer, conversionBuffer};
 ghost use Rattle.decimal.specs.Decimal.{decimalAnswer, decimalBuffer};
-ghost use Rattle.qrydsc.specs.Qrydsc.{description};
+ghost use Rattle.triplets.specs.Steps.{endFrom};
+ghost use Rattle.qrydsc.specs.Qrydsc.{maxQrydsc, description, wholeDescription};
+ghost use Rattle.qrydsc.specs.Entries.{entryAnswer, fullAnswer};
+ghost use Rattle.description_words.specs.Counted.{Counted};
 ghost use Rattle.words.specs.Words.{readType};
 ghost use Rattle.vejupa.specs.Answers.{lengthTold};
 ghost use Rattle.vejupa.specs.Rows.{wordsDecision, rowNumbers, wordsLeft, textLeft, wordsBytes};
-ghost use Rattle.vejupa.specs.Descriptions.{descriptionNumber, descriptionWords, typeNumber, lengthOf, flagOf, bytesOf};
+ghost use Rattle.vejupa.specs.Descriptions.{descriptionNumber, descriptionWords, brokenOffNumber, typeNumber, lengthOf, flagOf, bytesOf};
 
 // What a function answers beside the refusals (D1): the lent words are too few; a word is no type's; words are no column's.
 const TOO_FEW_WORDS: u32 = 101;
@@ -41,13 +47,20 @@ const NO_TYPE_WORD: u32 = 102;
 
 const NO_COLUMN: u32 = 102;
 
-// The version of these calls, 0.4.0 as 10000 * 0 + 100 * 4 + 0. The number stands in the name, which include/vejupa.h and bindings/rust refer to: what was
+// The version of these calls, 0.5.0 as 10000 * 0 + 100 * 5 + 0. The number stands in the name, which include/vejupa.h and bindings/rust refer to: what was
 // compiled for another version does not link.
 #[no_mangle]
-pub extern "C" fn vejupa_version_0_4_0() -> u32
-    ensures { λ r. ⌜ r ≡ 400 ⌝ }
+pub extern "C" fn vejupa_version_0_5_0() -> u32
+    ensures { λ r. ⌜ r ≡ 500 ⌝ }
 {
-    400
+    500
+}
+
+// A Boolean as 1 and 0.
+fn flag(b: bool) -> u32
+    ensures { λ r. ⌜ r ≡ cond b 1 0 ⌝ }
+{
+    if b { 1 } else { 0 }
 }
 
 // Hands out an answer: its number returned, in text_length how long the text is, written or needed.
@@ -166,39 +179,103 @@ pub extern "C" fn vejupa_raw_decode_packed_decimal(
 pub extern "C" fn vejupa_raw_bytes_are_likely_text(bytes: &[u8]) -> u32
     ensures { λ r. ⌜ r ≡ cond (likelyText (now (bytes .entry))) 1 0 ⌝ }
 {
-    if text::bytes_are_likely_text(bytes) {
-        1
-    } else {
-        0
-    }
+    flag(text::bytes_are_likely_text(bytes))
 }
 
-// The columns that a description describes, in order: two words for each, and how many they are. It reads the description twice, to count and
-// to write (once where it has no columns), and makes no column list.
-#[no_mangle]
-pub extern "C" fn vejupa_raw_parse_qrydsc(
+// The number of the refusal of more columns than a list holds, where the triplets before `end` are read. Only a whole description is read on for it.
+fn too_many(data: &[u8], end: usize, whole: bool) -> u32
+    requires { ⌜ end ≤ length (now «data») ⌝ }
+    ensures { λ r. ⌜ r ≡ toldNumber (fullAnswer whole (endFrom (now («data» .entry)) end) (length (now («data» .entry))) .outcome) ⌝ }
+{
+    if !whole {
+        return TOO_MANY_COLUMNS;
+    }
+    if triplets::outer_end(data, end) < data.len() {
+        return QRYDSC_BROKEN_OFF;
+    }
+    TOO_MANY_COLUMNS
+}
+
+// The refusal's number, or 0, of a description within the length limit whose columns are counted.
+fn refusal_of(data: &[u8], columns: usize, end: usize, whole: bool) -> u32
+    requires { ⌜ (length (now «data») ≤ maxQrydsc) × Counted (now «data») columns end ⌝ }
+    ensures { λ r. ⌜ r ≡ toldNumber (entryAnswer whole (now («data» .entry)) .outcome) ⌝ }
+{
+    if MAX_COLUMNS < columns {
+        return too_many(data, end, whole);
+    }
+    if !whole {
+        return 0;
+    }
+    if end < data.len() {
+        return QRYDSC_BROKEN_OFF;
+    }
+    0
+}
+
+// Both description calls in one. It reads the description twice, to count and to write (once where it has no columns), and makes no column list.
+fn parse(
     data: &[u8],
     column_words: &mut [u64],
     count: &mut usize,
+    broken_off: &mut u32,
+    whole: bool,
 ) -> u32
-    ensures number { λ r. ⌜ r ≡ descriptionNumber (description (now («data» .entry))) (now («column_words» .entry)) ⌝ }
-    ensures count { λ _. ⌜ now (count .exit) ≡ description (now («data» .entry)) .columns .count ⌝ }
-    ensures words { λ _. ⌜ now («column_words» .exit) ≡ descriptionWords (description (now («data» .entry))) (now («column_words» .entry)) ⌝ }
+    ensures number { λ r. ⌜ r ≡ descriptionNumber (entryAnswer whole (now («data» .entry))) (now («column_words» .entry)) ⌝ }
+    ensures count { λ _. ⌜ now (count .exit) ≡ entryAnswer whole (now («data» .entry)) .columns .count ⌝ }
+    ensures broken_off { λ _. ⌜ now («broken_off» .exit) ≡ brokenOffNumber (entryAnswer whole (now («data» .entry))) (now («column_words» .entry)) ⌝ }
+    ensures words { λ _. ⌜ now («column_words» .exit) ≡ descriptionWords (entryAnswer whole (now («data» .entry))) (now («column_words» .entry)) ⌝ }
 {
     *count = 0;
+    *broken_off = 0;
     if MAX_QRYDSC < data.len() {
         return QRYDSC_TOO_LONG;
     }
-    let n = description_words::count_columns(data);
-    if MAX_COLUMNS < n {
-        return TOO_MANY_COLUMNS;
+    let counted = description_words::count_columns(data);
+    let n = counted.columns;
+    let end = counted.end;
+    let number = refusal_of(data, n, end, whole);
+    if number != 0 {
+        return number;
     }
     *count = n;
     if column_words.len() < 2 * n {
         return TOO_FEW_WORDS;
     }
+    *broken_off = flag(end < data.len());
     description_words::write_columns(data, n, column_words);
     0
+}
+
+// The columns that a description describes, in order: two words for each, how many they are, and whether the description breaks off.
+#[no_mangle]
+pub extern "C" fn vejupa_raw_parse_qrydsc(
+    data: &[u8],
+    column_words: &mut [u64],
+    count: &mut usize,
+    broken_off: &mut u32,
+) -> u32
+    ensures number { λ r. ⌜ r ≡ descriptionNumber (description (now («data» .entry))) (now («column_words» .entry)) ⌝ }
+    ensures count { λ _. ⌜ now (count .exit) ≡ description (now («data» .entry)) .columns .count ⌝ }
+    ensures broken_off { λ _. ⌜ now («broken_off» .exit) ≡ brokenOffNumber (description (now («data» .entry))) (now («column_words» .entry)) ⌝ }
+    ensures words { λ _. ⌜ now («column_words» .exit) ≡ descriptionWords (description (now («data» .entry))) (now («column_words» .entry)) ⌝ }
+{
+    parse(data, column_words, count, broken_off, false)
+}
+
+// The same, save that a description that breaks off is refused: 15, behind 1 and before 2, and both before 101.
+#[no_mangle]
+pub extern "C" fn vejupa_raw_parse_whole_qrydsc(
+    data: &[u8],
+    column_words: &mut [u64],
+    count: &mut usize,
+) -> u32
+    ensures number { λ r. ⌜ r ≡ descriptionNumber (wholeDescription (now («data» .entry))) (now («column_words» .entry)) ⌝ }
+    ensures count { λ _. ⌜ now (count .exit) ≡ wholeDescription (now («data» .entry)) .columns .count ⌝ }
+    ensures words { λ _. ⌜ now («column_words» .exit) ≡ descriptionWords (wholeDescription (now («data» .entry))) (now («column_words» .entry)) ⌝ }
+{
+    let mut broken_off: u32 = 0;
+    parse(data, column_words, count, &mut broken_off, true)
 }
 
 // The byte count of a type's values, where the type alone tells it: fixed is 1, and 0 where it varies.

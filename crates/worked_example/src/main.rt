@@ -87,7 +87,8 @@ fn print_row(columns: Columns, row: &[u8]) {
 }
 
 fn main() {
-    let description = qrydsc::parse_qrydsc(&DESCRIPTION);
+    // The entry for what comes from a host: a description that was cut short is refused, and does not pass for one of fewer columns.
+    let description = qrydsc::parse_whole_qrydsc(&DESCRIPTION);
     let outcome = description.outcome;
     let columns = description.columns;
     if outcome.number() != 0 {

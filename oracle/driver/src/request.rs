@@ -1,5 +1,5 @@
 //! Requests and answers, line by line. A line is a request, or a request with an answer behind ` A `, which is dropped, and with
-//! it the columns of a `Q` line. A request may write one byte many times, as `00*1048577`, also among other bytes, as `41+00*300+42`. A request in lower
+//! it the columns of a `Q` or `q` line and whether it is whole. A request may write one byte many times, as `00*1048577`, also among other bytes, as `41+00*300+42`. A request in lower
 //! case asks for all that the port answers, also what the Rust lacks, and its columns have their origins; where it writes a byte so, the answer does too. Other
 //! answers never do.
 use crate::leaf::{Answer, Leaf, PRECISION};
@@ -54,6 +54,8 @@ pub enum Request {
         data: Vec<u8>,
         row: Vec<u8>,
     },
+    /// A description that is to be whole. There is no such line in upper case.
+    WholeDescription(Vec<u8>),
     /// A row with a caller's own columns.
     Row {
         columns: Vec<Column>,
@@ -83,6 +85,12 @@ pub fn parse(line: &str) -> Result<(Form, Request), String> {
         ["q", RELEASE, ref rest @ ..] => of_kind("Q", rest),
         ["h", RELEASE, ref rest @ ..] => of_kind("H", rest),
         ["t" | "g" | "q" | "h", ..] => Err(format!("no release that is answered: {}", cut(asked))),
+        // A description has no release.
+        ["n", data] => {
+            let data = bytes_or_repeated(data)?;
+            Ok((Form::Whole, Request::WholeDescription(data)))
+        }
+        ["n", ..] => Err(wrong_fields(asked)),
         _ => Ok((Form::Shared, request(Form::Shared, asked, &fields)?)),
     }
 }
@@ -116,11 +124,13 @@ fn request(form: Form, asked: &str, fields: &[&str]) -> Result<Request, String> 
             })
         }
         ["F", asked] => Ok(Request::FixedLength(type_of(asked)?)),
-        ["T" | "G" | "L" | "P" | "Q" | "H" | "F", ..] => {
-            Err(format!("wrong fields: {}", cut(asked)))
-        }
+        ["T" | "G" | "L" | "P" | "Q" | "H" | "F", ..] => Err(wrong_fields(asked)),
         _ => Err(format!("no kind of request: {}", cut(asked))),
     }
+}
+
+fn wrong_fields(asked: &str) -> String {
+    format!("wrong fields: {}", cut(asked))
 }
 
 /// The part of a line that is the request.
@@ -338,6 +348,7 @@ impl Request {
         form.of(match self {
             Request::Leaf(call) => call.to_string(),
             Request::Description { data, row } => format!("Q {} R {}", Hex(data), Hex(row)),
+            Request::WholeDescription(data) => format!("n {}", Hex(data)),
             Request::Row { columns, data } => {
                 let count = columns.len();
                 format!("H {count}{} R {}", columns_shown(form, columns), Hex(data))
@@ -411,6 +422,8 @@ mod tests {
             "t 2 1208 C141",
             "g 2 13488 -",
             "q 2 0576D00500 R -",
+            "n 0676D00502",
+            "n -",
             "h 2 0 R -",
             "h 2 1 Blob:C8:32768:0:0:0:0:0:L:S R -",
             "h 2 1 Integer:02:4:0:0:0:0:-:B:U R 0000002A",
@@ -441,11 +454,17 @@ mod tests {
         assert_eq!(again("F Time A 8"), "F Time");
         assert_eq!(again("H 0 R 00 A OK 0 - 0"), "H 0 R 00");
         assert_eq!(again("t 2 1208 C1 A EFBFBD 1"), "t 2 1208 C1");
-        assert_eq!(again("q 2 - R 00 C 0 A OK 0 - 0 0"), "q 2 - R 00");
+        assert_eq!(again("q 2 - R 00 C 0 whole A OK 0 - 0 0"), "q 2 - R 00");
+        assert_eq!(again("q 2 00 R 00 C 0 broken A OK 0 - 0 0"), "q 2 00 R 00");
+        assert_eq!(again("n 0676D00502 A REFUSE15"), "n 0676D00502");
+        assert_eq!(
+            again("n 0676D0020004 A 1 Integer:02:4:0:0:0:0:-:B:U"),
+            "n 0676D0020004"
+        );
         let described = "q 2 0676D0020004 R 0000002A";
         assert_eq!(
             again(&format!(
-                "{described} C 1 Integer:02:4:0:0:0:0:-:B:U A OK 4 - 0 0 I:42"
+                "{described} C 1 Integer:02:4:0:0:0:0:-:B:U whole A OK 4 - 0 0 I:42"
             )),
             described
         );
@@ -482,6 +501,7 @@ mod tests {
             ("L 0A*0", "L -"),
             ("P 2 00*1", "P 2 00"),
             ("Q FF*2 R 00*4", "Q FFFF R 00000000"),
+            ("n 0299+00*2 A REFUSE15", "n 02990000"),
             ("H 0 R 1C*2", "H 0 R 1C1C"),
             ("t 2 37 40+C1*3+4042 A 20414141 0", "t 2 37 40C1C1C14042"),
         ] {
@@ -573,6 +593,12 @@ mod tests {
             "g 2 C1",
             "q 2 -",
             "q - R -",
+            "n",
+            "n 2 -",
+            "n 00 R -",
+            "n - C 0",
+            "n 0",
+            "N 00",
             "H 1 Xml:DC:0:0:0:0:0:-:L:S R -",
             "H 1 Xml:DC:0:0:0:0:0:-:L:U R -",
             "h 2 1 Xml:DC:0:0:0:0:0:-:L R -",

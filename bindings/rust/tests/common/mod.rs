@@ -27,6 +27,22 @@ where
     assert_eq!((ends.len(), ends.next(), ends.next_back()), (0, None, None));
 }
 
+/// Numbers that look random and are the same in each run.
+pub struct Random(pub u64);
+
+impl Random {
+    pub fn below(&mut self, end: usize) -> usize {
+        self.0 ^= self.0 << 13;
+        self.0 ^= self.0 >> 7;
+        self.0 ^= self.0 << 17;
+        (self.0 % end as u64) as usize
+    }
+
+    pub fn pick<T: Copy>(&mut self, of: &[T]) -> T {
+        of[self.below(of.len())]
+    }
+}
+
 fn column(db2_type: Db2Type) -> Column {
     Column::new(db2_type)
 }

@@ -3,7 +3,7 @@ use native.Mathlib.Omega.{arith}
 use denote.Ref.{now}
 use Prim.Native.Nat.{_+_, _-_}
 use lib.ListN.{length}
-use Rattle.triplets.proofs.ReadingLaws.{next-none, next-some}
+use Rattle.triplets.proofs.ReadingLaws.{next-none, next-unread, next-some}
 use Rattle.description_words.proofs.Counting.{Counting, counting-start, counting-end, counting-full, counting-silent, counting-more}
 use borrow.Author.Needs.{needs}
 use Rattle.description_words.proofs.count_columns.Statement.{statement}
@@ -31,7 +31,9 @@ returns : tie.Need-returns Inv-loop μ-loop
 returns c =
     let s = now (c .before .before .before .before .before .before .args .«data») in
     let l = c .before .before .before .before .loop in
-    counting-end (l .inv) (next-none 2 s (l .at) (length s) (c .before .before .next-triplet .ensures) (c .enum-told .given .1))
+    let n = c .before .before .next-triplet .ensures in
+    let t = c .enum-told .given .1 in
+    counting-end (l .inv) (next-none 2 s (l .at) (length s) n t) (next-unread 2 s (l .at) (length s) n t)
 
 add-start : tie.Need-add-start Inv-loop μ-loop
 add-start c =

@@ -30,7 +30,7 @@ same-length : tie.Need-same-length Inv-loop μ-loop
 same-length c = as-long (c .before .before .before .loop .inv .writing)
 
 returns : tie.Need-returns Inv-loop μ-loop
-returns c = placing-end (c .before .before .before .loop .inv) (rw (c .enum-told .given .1) at (c .before .before .next-step .ensures))
+returns c = placing-end (c .before .before .before .loop .inv) ((rw (c .enum-told .given .1) at (c .before .before .next-step .ensures)) .0)
 
 enum-known-next : tie.Need-enum-known-next Inv-loop μ-loop
 enum-known-next c = search needs

@@ -1,11 +1,11 @@
 -- `triplets::outer_step` meets its contract: a law for each sort of triplet. Assumes nothing.
 use native.Mathlib.Omega.{arith}
 use Prim.Native.Nat.{_+_}
-use lib.ListN.{length, length-take, length-drop}
+use lib.ListN.{length}
 use denote.Ref.{now}
 use Rattle.triplets.proofs.Slices.{part-slice}
-use Rattle.triplets.proofs.ReadingLaws.{next-none, next-some}
-use Rattle.triplets.proofs.StepLaws.{outer-end, outer-empty, outer-column, outer-declare, outer-group, outer-mdd, outer-other}
+use Rattle.triplets.proofs.ReadingLaws.{next-none, next-unread, next-some}
+use Rattle.triplets.proofs.StepLaws.{end-here, outer-end, outer-empty, outer-column, outer-declare, outer-group, outer-mdd, outer-other}
 use borrow.Author.Needs.{needs}
 use Rattle.triplets.proofs.outer_step.Statement.{statement}
 use Rattle.triplets.proofs.outer_step.Tie as tie
@@ -20,7 +20,14 @@ enum-told : tie.Need-enum-told
 enum-told c = search needs
 
 returns : tie.Need-returns
-returns c = outer-end (now (c .before .before .before .before .args .«data»)) (c .before .before .before .before .args .at) (c .before .before .before .before .args .pending) (next-none 2 (now (c .before .before .before .before .args .«data»)) (c .before .before .before .before .args .at) (length (now (c .before .before .before .before .args .«data»))) (c .before .before .next-triplet .ensures) (c .enum-told .given .1))
+returns c =
+    let a = c .before .before .before .before .args in
+    let s = now (a .«data») in
+    let n = c .before .before .next-triplet .ensures in
+    let t = c .enum-told .given .1 in (
+      outer-end s (a .at) (a .pending) (next-none 2 s (a .at) (length s) n t),
+      end-here s (a .at) (c .before .before .before .before .pre) (next-unread 2 s (a .at) (length s) n t),
+    )
 
 add-start : tie.Need-add-start
 add-start c = search needs

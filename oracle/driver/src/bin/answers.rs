@@ -1,5 +1,5 @@
 //! `answers port|rust < requests`: each line of standard input whole, with the answer behind it.
-use differential::descriptions::Description;
+use differential::descriptions::{Description, Parser};
 use differential::port_side::{Archive, PortSide};
 use differential::request::{self, Call, Form, Request};
 use differential::rows::List;
@@ -39,11 +39,12 @@ fn rust_answer(form: Form, request: &Request) -> String {
             format!("A {}", rust_side::answer(*leaf, data).shown(form))
         }
         Request::Description { data, row } => {
-            let description = descriptions::rust_side::describe(data);
+            let description = descriptions::rust_side::answers(data).ported;
             described(form, &description, |list| {
                 rows::rust_side::answer(list, row).shown(form, row)
             })
         }
+        Request::WholeDescription(data) => descriptions::rust_side::answers(data).whole.listed(),
         Request::Row { columns, data } => {
             let answer = rows::rust_side::answer(&List::of(columns), data);
             format!("A {}", answer.shown(form, data))
@@ -66,10 +67,13 @@ impl Port {
                 format!("A {}", self.texts.answer(*leaf, data).shown(form))
             }
             Request::Description { data, row } => {
-                let description = self.descriptions.describe(data);
+                let description = self.descriptions.describe(Parser::Ported, data);
                 described(form, &description, |list| {
                     self.rows.answer(&list.words, row).shown(form, row)
                 })
+            }
+            Request::WholeDescription(data) => {
+                self.descriptions.describe(Parser::Whole, data).listed()
             }
             Request::Row { columns, data } => {
                 let answer = self.rows.answer(&List::of(columns).words, data);
@@ -84,7 +88,7 @@ impl Port {
 fn described(form: Form, description: &Description, row: impl FnOnce(&List) -> String) -> String {
     let shown = description.shown(form);
     match description {
-        Description::Columns(columns) => format!("{shown} A {}", row(&List::of(columns))),
+        Description::Columns { columns, .. } => format!("{shown} A {}", row(&List::of(columns))),
         _ => shown,
     }
 }

@@ -1,8 +1,10 @@
 //! The differential run: first types and descriptions by rule, then random descriptions, each asked of both sides. It ends at the
 //! first difference, with the smallest description that it finds.
+use super::endings::{self, Ending, Inside, ENDINGS, INSIDES};
 use super::inputs::{self, KINDS};
 use super::port_side::{Library, PortSide};
-use super::{rust_side, Description, FixedLength};
+use super::wholeness::Zeros;
+use super::{by_value, rust_side, Answers, Description, FixedLength, BREAKS_OFF};
 use crate::random::Random;
 use crate::request::{Form, Request};
 use crate::run::{self, Difference, End, Flow, Until};
@@ -17,14 +19,16 @@ pub enum Stage {
     Types,
     Codes,
     Limits,
+    Endings,
     Sequences,
     Any,
 }
 
-const STAGES: [Stage; 5] = [
+const STAGES: [Stage; 6] = [
     Stage::Types,
     Stage::Codes,
     Stage::Limits,
+    Stage::Endings,
     Stage::Sequences,
     Stage::Any,
 ];
@@ -32,13 +36,31 @@ const STAGES: [Stage; 5] = [
 /// The longest sequences of triplets that are all tried.
 const LONGEST: usize = 4;
 
-/// How many cases ran, by the Rust's answer, and how many columns by their type and by their origin.
+/// Of so many descriptions one is asked about with every number of zeros,
+const OF_ZEROS: u64 = 256;
+
+/// of so many long ones by rule,
+const OF_LONG: usize = 7;
+
+/// and of so many one is asked about by value.
+const OF_BY_VALUE: u64 = 8;
+
+/// How many cases ran, by the Rust's answer, how many descriptions end how, and how many columns there were by their type and by their origin.
 #[derive(Default)]
 pub struct Counts {
     pub no_column: u64,
     pub columns: u64,
     pub refused_1: u64,
     pub refused_2: u64,
+    /// By `Parser::Whole`, and where the other refuses by 2.
+    pub refused_15: u64,
+    pub refused_15_for_2: u64,
+    /// Those of at most as many bytes as are accepted, by how they end; and the whole ones by what lets none break off.
+    pub by_ending: [u64; ENDINGS.len()],
+    pub by_inside: [u64; INSIDES.len()],
+    /// Descriptions that the second opinion was asked about with every number of zeros, and those that went to the calls by value.
+    pub every_zeros: u64,
+    pub by_value: u64,
     pub fixed: u64,
     pub varies: u64,
     pub no_type: u64,
@@ -55,18 +77,29 @@ impl Counts {
         self.fixed + self.varies + self.no_type
     }
 
-    fn add_description(&mut self, answer: &Description) {
-        match answer {
-            Description::Columns(columns) if columns.is_empty() => self.no_column += 1,
-            Description::Columns(columns) => {
+    fn add_description(&mut self, data: &[u8], answers: &Answers) {
+        match &answers.ported {
+            Description::Columns { columns, .. } if columns.is_empty() => self.no_column += 1,
+            Description::Columns { columns, .. } => {
                 self.columns += 1;
                 for column in columns {
                     self.by_name[column.db2_type.name as usize] += 1;
                     self.by_origin[column.origin as usize] += 1;
                 }
             }
-            Description::Refusal(1) => self.refused_1 += 1,
+            Description::Refusal(1) => return self.refused_1 += 1,
             _ => self.refused_2 += 1,
+        }
+        if answers.whole == Description::Refusal(BREAKS_OFF) {
+            self.refused_15 += 1;
+            self.refused_15_for_2 += u64::from(answers.ported == Description::Refusal(2));
+        }
+        let ending = Ending::of(data);
+        self.by_ending[ending as usize] += 1;
+        if ending == Ending::Whole {
+            for (count, is_in) in self.by_inside.iter_mut().zip(Inside::all(data)) {
+                *count += u64::from(is_in);
+            }
         }
     }
 
@@ -80,7 +113,7 @@ impl Counts {
 }
 
 /// How many bytes a pass may ask about that makes a description smaller.
-const BUDGET: usize = 4_000_000;
+const BUDGET: usize = 1_000_000;
 
 pub struct Run<L> {
     port: PortSide<L>,
@@ -108,22 +141,43 @@ impl<L: Library> Run<L> {
             Stage::Types => self.types(),
             Stage::Codes => self.codes(),
             Stage::Limits => self.limits(),
+            Stage::Endings => self.endings(),
             Stage::Sequences => self.sequences(),
             Stage::Any => self.any(),
         })
     }
 
-    /// One description: both sides are asked, and the port with every number of words that port_side has.
+    /// One description: both sides are asked, and the port by both calls with every number of words that port_side has.
     fn description(&mut self, data: &[u8]) -> Flow {
+        let every_zeros = self.cases().is_multiple_of(OF_ZEROS);
+        let by_value = self.cases().is_multiple_of(OF_BY_VALUE);
+        self.asked(data, every_zeros, by_value)
+    }
+
+    /// The same, the second opinion with every number of zeros or not, and by value or not.
+    fn asked(&mut self, data: &[u8], every_zeros: bool, by_value: bool) -> Flow {
         if self.until.reached(self.cases(), data.len()) {
             return Break(End::Enough);
         }
-        let rust = rust_side::describe(data);
-        self.counts.add_description(&rust);
-        if rust == self.port.describe(data) {
-            return Continue(());
+        let zeros = match every_zeros {
+            true => Zeros::Every,
+            false => Zeros::IfCut,
+        };
+        let rust = rust_side::answers_by(data, zeros);
+        self.counts.add_description(data, &rust);
+        self.counts.every_zeros += u64::from(every_zeros);
+        if rust != self.port.answers(data) {
+            return Break(End::Different(Box::new(smallest(&mut self.port, data))));
         }
-        Break(End::Different(Box::new(smallest(&mut self.port, data))))
+        if by_value {
+            let place = by_value::place(&rust, self.counts.by_value);
+            self.counts.by_value += 1;
+            if !self.port.is_same_by_value(data, &rust, place) {
+                let found = by_value::smallest(&self.port, data, place);
+                return Break(End::Different(Box::new(found)));
+            }
+        }
+        Continue(())
     }
 
     /// One word as a type word. The Rust has no answer for one that is none.
@@ -192,6 +246,18 @@ impl<L: Library> Run<L> {
         Continue(())
     }
 
+    /// Every way to end. Short ones with every number of zeros, all by value.
+    fn endings(&mut self) -> Flow {
+        for data in endings::short() {
+            self.asked(&data, true, true)?;
+        }
+        let long = [endings::behind_columns(), endings::behind_bytes()].concat();
+        for (place, data) in long.iter().enumerate() {
+            self.asked(data, place.is_multiple_of(OF_LONG), true)?;
+        }
+        Continue(())
+    }
+
     /// All sequences of triplets, the short ones first.
     fn sequences(&mut self) -> Flow {
         let mut data = Vec::new();
@@ -218,9 +284,23 @@ impl<L: Library> Run<L> {
     }
 }
 
-/// The smallest description found that still differs: triplets and parts of them are cut out, then bytes lowered.
+/// The smallest description found that still differs.
 pub fn smallest<L: Library>(port: &mut PortSide<L>, data: &[u8]) -> Difference {
-    let differs = |data: &[u8]| rust_side::describe(data) != port.describe(data);
+    let differs = |data: &[u8]| rust_side::answers(data) != port.answers(data);
+    let smallest = shrunk(data, differs);
+    let rust = rust_side::answers(&smallest);
+    let port = port.answers(&smallest);
+    let lengths = Some((smallest.len(), data.len()));
+    let [rust, port] = lines(smallest, &rust, &port);
+    Difference {
+        rust,
+        port,
+        lengths,
+    }
+}
+
+/// Triplets and parts of them are cut out, then bytes lowered.
+pub fn shrunk(data: &[u8], differs: impl FnMut(&[u8]) -> bool) -> Vec<u8> {
     let mut shrinking = Shrinking::new(data, BUDGET, differs);
     // A byte that was lowered may let others go.
     loop {
@@ -230,24 +310,22 @@ pub fn smallest<L: Library>(port: &mut PortSide<L>, data: &[u8]) -> Difference {
         shrinking.cut();
         shrinking.lower();
         if shrinking.data == before {
-            break;
+            return before;
         }
     }
-    let smallest = shrinking.data;
-    let rust = rust_side::describe(&smallest);
-    let port = port.describe(&smallest);
-    let lengths = Some((smallest.len(), data.len()));
-    let form = Form::telling(rust.shown(Form::Shared) != port.shown(Form::Shared));
-    let request = Request::Description {
-        data: smallest,
-        row: Vec::new(),
-    };
-    let request = request.shown(form);
-    Difference {
-        rust: format!("{request} {}", rust.shown(form)),
-        port: format!("{request} {}", port.shown(form)),
-        lengths,
+}
+
+/// The lines of the call by which two answers differ, of the ported one where they do by both.
+fn lines(data: Vec<u8>, rust: &Answers, port: &Answers) -> [String; 2] {
+    if rust.ported == port.ported {
+        let request = Request::WholeDescription(data).shown(Form::Whole);
+        return [rust, port].map(|answers| format!("{request} {}", answers.whole.listed()));
     }
+    let (rust, port) = (&rust.ported, &port.ported);
+    let form = Form::telling(rust.shown(Form::Shared) != port.shown(Form::Shared));
+    let row = Vec::new();
+    let request = Request::Description { data, row }.shown(form);
+    [rust, port].map(|answer| format!("{request} {}", answer.shown(form)))
 }
 
 /// The largest number that a type of this name can hold.

@@ -79,7 +79,7 @@ const TAILS: [[u8; 5]; 4] = [
 const ATTRIBUTES: [u8; 8] = [0, 1, 2, 5, 31, 0x7F, 0x80, 0xFF];
 
 /// A triplet of a type and data of at most 253 bytes.
-fn triplet(kind: u8, data: &[u8]) -> Vec<u8> {
+pub fn triplet(kind: u8, data: &[u8]) -> Vec<u8> {
     let length = u8::try_from(data.len() + 2).expect("fits a length byte");
     [&[length, kind], data].concat()
 }
@@ -157,15 +157,17 @@ fn declared(code: u8, sda: &[u8], column: &[u8; 3]) -> Vec<u8> {
 /// Descriptions at the two limits, and at both at once.
 pub fn at_limits() -> Vec<Vec<u8>> {
     let mut all = Vec::new();
-    for count in COLUMN_LIMIT - 2..=COLUMN_LIMIT + 3 {
-        for begun in with_columns(count) {
-            for end in [&[][..], &[2, 0x99], &[0], &[0xFF, SDA]] {
-                all.push([&begun[..], end].concat());
-            }
-            for length in DESCRIPTION_LIMIT - 1..=DESCRIPTION_LIMIT + 1 {
-                all.push(padded(&begun, &[2, 0x99], length));
-                all.push(padded(&begun, &[0], length));
-            }
+    let counts = COLUMN_LIMIT - 2..=COLUMN_LIMIT + 3;
+    let begun: Vec<Vec<u8>> = counts.flat_map(with_columns).collect();
+    for begun in &begun {
+        for end in [&[][..], &[2, 0x99], &[0], &[0xFF, SDA]] {
+            all.push([&begun[..], end].concat());
+        }
+    }
+    for begun in &begun {
+        for length in DESCRIPTION_LIMIT - 1..=DESCRIPTION_LIMIT + 1 {
+            all.push(padded(begun, &[2, 0x99], length));
+            all.push(padded(begun, &[0], length));
         }
     }
     for length in DESCRIPTION_LIMIT - 3..=DESCRIPTION_LIMIT + 3 {
@@ -186,7 +188,7 @@ pub fn at_limits() -> Vec<Vec<u8>> {
 }
 
 /// So many columns by SDAs, by groups of several sizes, by inner SDAs, and by one after another of these.
-fn with_columns(count: usize) -> Vec<Vec<u8>> {
+pub fn with_columns(count: usize) -> Vec<Vec<u8>> {
     let single = |count: usize| [5, SDA, 0x02, 0x00, 0x04].repeat(count);
     let inner = |count: usize| triplet(GDA, &[3, SDA, 0x05].repeat(count));
     let compact = |count: usize| {

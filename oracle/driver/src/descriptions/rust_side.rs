@@ -1,21 +1,55 @@
-//! The answers of the published Rust. It has no limits of its own: those of the port are applied here. Nor does it say where a column came from: that is a
-//! second opinion, of `origins`.
-use super::{origins, Description, FixedLength, COLUMN_LIMIT, DESCRIPTION_LIMIT};
+//! The answers of the published Rust. It has no limits of its own: those of the port are applied here. Nor does it say where a column came from, or whether a
+//! description breaks off: those are second opinions, of `origins` and `wholeness`.
+use super::wholeness::{self, Zeros};
+use super::{
+    origins, Answers, Description, FixedLength, BREAKS_OFF, COLUMN_LIMIT, DESCRIPTION_LIMIT,
+};
 use db2_proto::fdoca::{parse_qrydsc, ByteOrder, ColumnDescriptor};
 use db2_proto::types::Db2Type;
 use port::column::{Column, Name, Order, Origin, Type};
 
-pub fn describe(data: &[u8]) -> Description {
+pub fn answers(data: &[u8]) -> Answers {
+    answers_by(data, Zeros::IfCut)
+}
+
+/// `Parser::Ported` refuses by 1, then 2; `Parser::Whole` by 1, 15, 2.
+pub fn answers_by(data: &[u8], zeros: Zeros) -> Answers {
     if data.len() > DESCRIPTION_LIMIT {
-        return Description::Refusal(1);
+        return Answers {
+            ported: Description::Refusal(1),
+            whole: Description::Refusal(1),
+        };
     }
-    let columns = parsed(data);
-    if columns.len() > COLUMN_LIMIT {
-        return Description::Refusal(2);
+    let published = parsed(data);
+    let is_whole = wholeness::is_whole(data, published.len(), zeros);
+    let ported = match with_origins(data, &published) {
+        None => Description::Refusal(2),
+        Some(columns) => Description::Columns {
+            columns,
+            broken_off: !is_whole,
+        },
+    };
+    let whole = match is_whole {
+        false => Description::Refusal(BREAKS_OFF),
+        true => ported.clone(),
+    };
+    Answers { ported, whole }
+}
+
+/// The columns that `Parser::Ported` accepts; None where it refuses.
+pub fn columns(data: &[u8]) -> Option<Vec<Column>> {
+    let fits = data.len() <= DESCRIPTION_LIMIT;
+    fits.then(|| with_origins(data, &parsed(data))).flatten()
+}
+
+/// None where there are too many.
+fn with_origins(data: &[u8], published: &[ColumnDescriptor]) -> Option<Vec<Column>> {
+    if published.len() > COLUMN_LIMIT {
+        return None;
     }
-    let origins = origins::of(data, &columns);
-    let both = columns.iter().zip(origins);
-    Description::Columns(
+    let origins = origins::of(data, published);
+    let both = published.iter().zip(origins);
+    Some(
         both.map(|(published, origin)| column(published, origin))
             .collect(),
     )
@@ -152,35 +186,61 @@ mod tests {
             data.resize(length, 0);
             data
         };
-        assert!(matches!(describe(&columns(128)), Description::Columns(_)));
-        assert_eq!(describe(&columns(129)), Description::Refusal(2));
-        let at = padded(128, DESCRIPTION_LIMIT);
-        assert!(matches!(describe(&at), Description::Columns(_)));
-        let above = padded(129, DESCRIPTION_LIMIT + 1);
-        assert_eq!(describe(&above), Description::Refusal(1));
+        // The numbers, by both; 0 where columns are given.
+        let numbers = |data: &[u8]| {
+            let Answers { ported, whole } = answers(data);
+            [ported, whole].map(|answer| match answer {
+                Description::Refusal(number) => number,
+                _ => 0,
+            })
+        };
+        assert_eq!(numbers(&columns(128)), [0, 0]);
+        assert_eq!(numbers(&columns(129)), [2, 2]);
+        assert_eq!(numbers(&padded(128, 641)), [0, 15]);
+        assert_eq!(numbers(&padded(129, 646)), [2, 15]);
+        assert_eq!(numbers(&padded(128, DESCRIPTION_LIMIT)), [0, 15]);
+        assert_eq!(numbers(&padded(129, DESCRIPTION_LIMIT)), [2, 15]);
+        assert_eq!(numbers(&padded(129, DESCRIPTION_LIMIT + 1)), [1, 1]);
+        assert_eq!(numbers(&[2, 0x99].repeat(DESCRIPTION_LIMIT / 2)), [0, 0]);
+        assert_eq!(
+            numbers(&[2, 0x99].repeat(DESCRIPTION_LIMIT / 2 + 1)),
+            [1, 1]
+        );
     }
 
     /// A few of the published rules' own examples.
     #[test]
     fn known_answers() {
-        let shown = |data: &[u8]| describe(data).shown(Form::Shared);
-        let whole = |data: &[u8]| describe(data).shown(Form::Whole);
+        let shown = |data: &[u8]| answers(data).ported.shown(Form::Shared);
+        let whole = |data: &[u8]| answers(data).ported.shown(Form::Whole);
+        let listed = |data: &[u8]| answers(data).whole.listed();
         let group = [9, 0x76, 0xD0, 5, 0, 2, 0x0F, 5, 2];
         let column = [5, 0x70, 0xC8, 0x80, 0];
-        assert_eq!((shown(&[]), whole(&[])), ("C 0".into(), "C 0".into()));
+        let cut = [6, 0x76, 0xD0, 5, 2];
+        assert_eq!((shown(&[]), whole(&[])), ("C 0".into(), "C 0 whole".into()));
+        assert_eq!(listed(&[]), "A 0");
         assert_eq!(
             shown(&group),
             "C 2 SmallInt:05:2:0:0:1:0:-:B Decimal.5.2:0F:3:5:2:1:0:-:B"
         );
         assert_eq!(
             whole(&group),
-            "C 2 SmallInt:05:2:0:0:1:0:-:B:U Decimal.5.2:0F:3:5:2:1:0:-:B:U"
+            "C 2 SmallInt:05:2:0:0:1:0:-:B:U Decimal.5.2:0F:3:5:2:1:0:-:B:U whole"
         );
-        assert_eq!(shown(&column), "C 1 Blob:C8:32768:0:0:0:0:0:L");
-        assert_eq!(whole(&column), "C 1 Blob:C8:32768:0:0:0:0:0:L:S");
         assert_eq!(
-            whole(&[3, 0x78, 0x30, 3, 0x70, 0x44, 6, 0x76, 0xD0, 0x44, 0, 2]),
-            "C 1 Char.2:30:2:0:0:0:0:-:B:D"
+            listed(&group),
+            "A 2 SmallInt:05:2:0:0:1:0:-:B:U Decimal.5.2:0F:3:5:2:1:0:-:B:U"
+        );
+        assert_eq!(
+            (shown(&cut), whole(&cut)),
+            ("C 0".into(), "C 0 broken".into())
+        );
+        assert_eq!(listed(&cut), "A REFUSE15");
+        assert_eq!(shown(&column), "C 1 Blob:C8:32768:0:0:0:0:0:L");
+        assert_eq!(whole(&column), "C 1 Blob:C8:32768:0:0:0:0:0:L:S whole");
+        assert_eq!(
+            whole(&[3, 0x78, 0x30, 3, 0x70, 0x44, 6, 0x76, 0xD0, 0x44, 0, 2, 0, 0]),
+            "C 1 Char.2:30:2:0:0:0:0:-:B:D broken"
         );
         assert_eq!(fixed_length(Name::Graphic.with(3)), FixedLength::Bytes(6));
         assert_eq!(fixed_length(Name::Xml.plain()), FixedLength::Varies);

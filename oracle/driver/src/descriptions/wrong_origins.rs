@@ -3,6 +3,7 @@
 use super::faults::Fault;
 use super::inputs::{triplets, COMPACT, GDA, MDD, SDA};
 use super::port_side::{Archive, Library, AMPLE};
+use super::Parser;
 use port::column::{Column, Origin};
 use std::ops::Range;
 
@@ -89,7 +90,7 @@ fn in_groups(fault: Fault, data: &[u8], columns: &mut [Column]) {
 /// The origins that the archive gives; none where it refuses.
 fn origins(data: &[u8]) -> Vec<Origin> {
     let mut words = [0; AMPLE];
-    let answer = Archive.parse_qrydsc(data, &mut words);
+    let answer = Archive.parse(Parser::Ported, data, &mut words);
     let used = match answer.number {
         0 => 2 * answer.count,
         _ => 0,
@@ -145,7 +146,7 @@ fn with_columns(data: &[u8]) -> Vec<(Range<usize>, Range<usize>)> {
         let triplet = &data[place.clone()];
         let count = match triplet[1] {
             SDA if pending => 0,
-            SDA | GDA => Archive.parse_qrydsc(triplet, &mut []).count,
+            SDA | GDA => Archive.parse(Parser::Ported, triplet, &mut []).count,
             _ => 0,
         };
         pending = matches!(triplet, [_, MDD, _, ..]);

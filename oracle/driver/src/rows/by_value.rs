@@ -2,8 +2,7 @@
 use super::compare::Run;
 use super::port_side::{Library, PortSide};
 use super::{rust_side, Answer, List, Outcome};
-use crate::descriptions::rust_side::describe;
-use crate::descriptions::Description;
+use crate::descriptions::rust_side as described;
 use crate::request::{Form, Request};
 use crate::run::{Difference, End, Flow};
 use crate::shrink::Shrinking;
@@ -56,8 +55,8 @@ fn smallest<L: Library>(port: &mut PortSide<L>, description: &[u8], data: &[u8])
             break;
         }
     }
-    let columns = describe(&description);
-    let rust = rust_side::answer(&listed(&columns).unwrap_or_default(), &data);
+    let columns = described::answers(&description).ported;
+    let rust = rust_side::answer(&listed(&description).unwrap_or_default(), &data);
     let port = differing(port, &description, &data).unwrap_or_else(|| rust.clone());
     let lengths = Some((data.len(), first));
     let columns = columns.shown(Form::Whole);
@@ -84,11 +83,8 @@ fn shrunk(data: &[u8], differs: impl FnMut(&[u8]) -> bool) -> Vec<u8> {
 }
 
 /// The columns of a description; None where it is refused.
-fn listed(columns: &Description) -> Option<List> {
-    match columns {
-        Description::Columns(columns) => Some(List::of(columns)),
-        _ => None,
-    }
+fn listed(description: &[u8]) -> Option<List> {
+    described::columns(description).map(|columns| List::of(&columns))
 }
 
 /// The answer by value, where it is not the Rust's. Which lengths of buffers are tried goes by turns: it is asked more than once.
@@ -97,7 +93,7 @@ fn differing<L: Library>(
     description: &[u8],
     data: &[u8],
 ) -> Option<Answer> {
-    let list = listed(&describe(description))?;
+    let list = listed(description)?;
     let rust = rust_side::answer(&list, data);
     let mut outcomes = (0..4).map(|_| port.by_value(description, list.count(), data, &rust));
     let outcome = outcomes.find(|outcome| *outcome != rust.outcome)?;

@@ -360,16 +360,16 @@ impl<L: Library> Run<L> {
         }
     }
 
-    /// The columns that the port reads out of a description, which must be those of the Rust; None where it is refused.
+    /// The columns that the port reads out of a description, which must be those of the Rust, by both calls; None where it is refused.
     fn described(&mut self, description: &[u8]) -> ControlFlow<End, Option<List>> {
         self.counts.descriptions += 1;
-        let port = self.descriptions.describe(description);
-        if port != descriptions::rust_side::describe(description) {
+        let port = self.descriptions.answers(description);
+        if port != descriptions::rust_side::answers(description) {
             let found = descriptions::compare::smallest(&mut self.descriptions, description);
             return Break(End::Different(Box::new(found)));
         }
-        Continue(match port {
-            Description::Columns(columns) => Some(List::described(&columns, description)),
+        Continue(match port.ported {
+            Description::Columns { columns, .. } => Some(List::described(&columns, description)),
             _ => None,
         })
     }

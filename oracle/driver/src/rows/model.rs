@@ -4,7 +4,7 @@
 use super::faults::Fault;
 use super::port_side::{plain as refused, Library};
 use super::{List, LARGEST_NUMBER, ROW_LIMIT};
-use crate::descriptions::{rust_side::describe, Description, COLUMN_LIMIT};
+use crate::descriptions::{rust_side, COLUMN_LIMIT};
 use crate::replaced::Reading;
 use db2_proto::fdoca::exposed;
 use db2_proto::types::decode_packed_decimal;
@@ -935,7 +935,7 @@ impl Library for Model {
             Some(Fault::ByValueShortWithCount) => Some(Fault::ShortWithCount),
             _ => None,
         };
-        let Description::Columns(columns) = describe(description) else {
+        let Some(columns) = rust_side::columns(description) else {
             return 0;
         };
         let mut values = vec![0; VALUE_WORDS * columns.len()];

@@ -5,10 +5,10 @@ use Rattle.answers.proofs.columns.columns_at.Statement.{statement}
 use Rattle.answers.proofs.columns.columns_at.Tie as tie
 
 abbrev Inv-loop : tie.InvT-loop
-Inv-loop line at whole columns count p₀ i₀ t9 p i = i ≤ count
+Inv-loop line at full columns count p₀ i₀ t9 p i = i ≤ count
 
 abbrev μ-loop : tie.MeasureT-loop
-μ-loop line at whole columns count p₀ i₀ t9 p i = count - i
+μ-loop line at full columns count p₀ i₀ t9 p i = count - i
 
 decimal-at-requires : tie.Need-decimal-at-requires Inv-loop μ-loop
 decimal-at-requires c κs = search needs

@@ -30,6 +30,9 @@ enum-known-self c = search needs
 enum-known-self-2 : tie.Need-enum-known-self-2
 enum-known-self-2 c = search needs
 
+enum-told-8 : tie.Need-enum-told-8
+enum-told-8 c = search needs
+
 returns : tie.Need-returns
 returns c = rw (c .enum-told .given .1)
 
@@ -57,6 +60,9 @@ returns-8 c = rw (c .before .self .given .1)
 returns-9 : tie.Need-returns-9
 returns-9 c = rw (c .before .self2 .given .1)
 
+returns-10 : tie.Need-returns-10
+returns-10 c = rw (c .enum-told8 .given .1)
+
 pub first-value-spec : {M : Type 1} → statement M
 first-value-spec =
     tie.close
@@ -70,6 +76,7 @@ first-value-spec =
     enum-told-7
     enum-known-self
     enum-known-self-2
+    enum-told-8
     returns
     returns-2
     returns-3
@@ -78,4 +85,5 @@ first-value-spec =
     returns-6
     returns-7
     returns-8
-    returns-9)
+    returns-9
+    returns-10)

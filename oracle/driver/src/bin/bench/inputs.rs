@@ -1,5 +1,6 @@
 //! The lines of the table: which calls, on which inputs.
 use crate::{rows, Call, Line, BATCH};
+use differential::descriptions::Parser;
 use differential::leaf::{Leaf, TEXT_LIMIT};
 use differential::random::Random;
 use differential::samples::{packed, uniform, Maker, CLASSES};
@@ -36,8 +37,8 @@ pub fn lines() -> Vec<Line> {
     lines
 }
 
-/// Descriptions of several lengths, by groups, by SDAs and by references to declared LIDs, and one of triplets that say nothing; through the
-/// boundary and by value.
+/// Descriptions of several lengths, by groups, by SDAs and by references to declared LIDs, and one of triplets that say nothing, all of them whole; through the
+/// boundary and by value, by both calls.
 fn description_lines(random: &mut Random) -> Vec<Line> {
     let forms: [(&str, Maker); 3] = [
         ("in groups", grouped_columns),
@@ -55,8 +56,16 @@ fn description_lines(random: &mut Random) -> Vec<Line> {
     let unknown = vec![[2, 0x99].repeat(1000); BATCH / 2000];
     inputs.push(("1,000 unknown triplets".to_string(), Rc::new(unknown)));
     let calls = [
-        ("parse_qrydsc", Call::Description),
-        ("parse_qrydsc by value", Call::DescriptionByValue),
+        ("parse_qrydsc", Call::Description(Parser::Ported)),
+        (
+            "parse_qrydsc by value",
+            Call::DescriptionByValue(Parser::Ported),
+        ),
+        ("parse_whole_qrydsc", Call::Description(Parser::Whole)),
+        (
+            "parse_whole_qrydsc by value",
+            Call::DescriptionByValue(Parser::Whole),
+        ),
     ];
     let mut lines = Vec::new();
     for (name, call) in calls {

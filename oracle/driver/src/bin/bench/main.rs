@@ -6,7 +6,7 @@ mod rows;
 
 use differential::descriptions;
 use differential::descriptions::port_side::AMPLE;
-use differential::descriptions::COLUMN_LIMIT;
+use differential::descriptions::{Parser, COLUMN_LIMIT};
 use differential::leaf::{Leaf, TEXT_LIMIT};
 use differential::port_side::{ample, Archive, Library};
 use differential::rust_side;
@@ -32,9 +32,9 @@ enum Call {
     /// No call: the text is copied as it is.
     Copy,
     /// Through the boundary: words in a lent buffer.
-    Description,
+    Description(Parser),
     /// By value: a list of 128 places.
-    DescriptionByValue,
+    DescriptionByValue(Parser),
     /// Rows of one column list.
     Row(rows::Form, Rc<rows::Table>),
 }
@@ -155,12 +155,12 @@ fn same<'a>(line: &'a Line, lent: &mut Lent) -> Result<(), &'a [u8]> {
                 outcome.number == 0 && rust.as_bytes() == written
             }
             Call::Copy => true,
-            Call::Description => {
+            Call::Description(_) => {
                 let archive = descriptions::port_side::Archive;
-                let port = descriptions::port_side::PortSide::new(archive).describe(text);
-                descriptions::rust_side::describe(text) == port
+                let port = descriptions::port_side::PortSide::new(archive).answers(text);
+                descriptions::rust_side::answers(text) == port
             }
-            Call::DescriptionByValue => by_value::same(text),
+            Call::DescriptionByValue(parser) => by_value::same(*parser, text),
             Call::Row(form, table) => rows::same(*form, table, text, lent),
         };
         if !agree {
@@ -185,8 +185,8 @@ fn measure(line: &Line, lent: &mut Lent) -> Times {
         }
         &Call::Leaf(leaf) => measure_leaf(leaf, texts, lent),
         Call::Copy => measure_copy(texts, lent),
-        Call::Description => measure_description(texts, lent),
-        Call::DescriptionByValue => measure_by_value(texts, lent),
+        Call::Description(parser) => measure_description(*parser, texts, lent),
+        Call::DescriptionByValue(parser) => measure_by_value(*parser, texts, lent),
         Call::Row(form, table) => rows::measure(*form, table, texts, lent),
     };
     let [rust, ample, exact] = times.map(|time| time / texts.len() as f64);
@@ -233,26 +233,30 @@ fn measure_copy(texts: &[Vec<u8>], lent: &mut Lent) -> [f64; 3] {
 }
 
 /// All descriptions of a line have the same number of columns.
-fn measure_description(texts: &[Vec<u8>], lent: &mut Lent) -> [f64; 3] {
+fn measure_description(parser: Parser, texts: &[Vec<u8>], lent: &mut Lent) -> [f64; 3] {
     let exact = 2 * descriptions::rust_side::parsed(&texts[0]).len();
+    let port = match parser {
+        Parser::Ported => port_descriptions,
+        Parser::Whole => port_whole_descriptions,
+    };
     by_turns(
         lent,
         [
             &|_| rust_descriptions(texts),
-            &|lent| port_descriptions(texts, &mut lent.words),
-            &|lent| port_descriptions(texts, &mut lent.words[..exact]),
+            &|lent| port(texts, &mut lent.words),
+            &|lent| port(texts, &mut lent.words[..exact]),
         ],
     )
 }
 
 /// The same; the place of the last column is asked for.
-fn measure_by_value(texts: &[Vec<u8>], lent: &mut Lent) -> [f64; 3] {
+fn measure_by_value(parser: Parser, texts: &[Vec<u8>], lent: &mut Lent) -> [f64; 3] {
     let columns = descriptions::rust_side::parsed(&texts[0]).len();
     let last = black_box(columns.saturating_sub(1));
     let [rust, port] = by_turns(
         lent,
         [&|_| rust_descriptions(texts), &|_| {
-            batch(texts, |text| by_value::length_at(text, last))
+            batch(texts, |text| by_value::length(parser, text, last))
         }],
     );
     [rust, port, f64::NAN]
@@ -267,10 +271,21 @@ fn rust_descriptions(texts: &[Vec<u8>]) -> u64 {
 
 fn port_descriptions(texts: &[Vec<u8>], words: &mut [u64]) -> u64 {
     batch(texts, |text| {
-        let count = port::parse_qrydsc(text, words).count as usize;
-        let columns = black_box(&words[..2 * count]);
-        columns.last().map_or(0, |last| last & 0xFFFF)
+        let count = port::parse_qrydsc(text, words).count;
+        last_length(&words[..2 * count])
     })
+}
+
+fn port_whole_descriptions(texts: &[Vec<u8>], words: &mut [u64]) -> u64 {
+    batch(texts, |text| {
+        let count = port::parse_whole_qrydsc(text, words).count;
+        last_length(&words[..2 * count])
+    })
+}
+
+fn last_length(words: &[u64]) -> u64 {
+    let words = black_box(words);
+    words.last().map_or(0, |last| last & 0xFFFF)
 }
 
 /// Calls once for each text; the sum is looked at, the texts are not known to the compiler.

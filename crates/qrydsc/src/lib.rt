@@ -63,7 +63,8 @@ fn refused(r: Refusal) -> Description
     }
 }
 
-// The refusal of more columns than a list holds, with the reading at a cursor. Only a whole description is read to its end for it.
+// The refusal of more columns than a list holds, with the reading at a cursor. Where only whole descriptions
+// are taken, outer triplets are read on to their end first.
 fn too_many(data: &[u8], cursor: Cursor, whole: bool) -> Refusal
     requires { ⌜ CursorWithin (now «data») cursor ⌝ }
     ensures { λ r. ⌜ refusedDescription (refusalNumber r) (refusalValues r) ≡ fullAnswer whole (endFrom (now («data» .entry)) (outerAt cursor)) (length (now («data» .entry))) ⌝ }

@@ -182,7 +182,8 @@ pub extern "C" fn vejupa_raw_bytes_are_likely_text(bytes: &[u8]) -> u32
     flag(text::bytes_are_likely_text(bytes))
 }
 
-// The number of the refusal of more columns than a list holds, where the triplets before `end` are read. Only a whole description is read on for it.
+// The number of the refusal of more columns than a list holds, where the triplets before `end` are read. Where only
+// whole descriptions are taken, they are read on to their end first.
 fn too_many(data: &[u8], end: usize, whole: bool) -> u32
     requires { ⌜ end ≤ length (now «data») ⌝ }
     ensures { λ r. ⌜ r ≡ toldNumber (fullAnswer whole (endFrom (now («data» .entry)) end) (length (now («data» .entry))) .outcome) ⌝ }

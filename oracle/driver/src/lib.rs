@@ -9,6 +9,7 @@
 //! - `compare`: the differential run
 //! - `faults`: wrong libraries, to see that the run notices them
 //! - `descriptions`, `rows`: all of this for descriptions and types, and for rows
+//! - `recordings`: result sets that a server sent, beside what its client shows
 //!
 //! And what all three share:
 //!
@@ -31,6 +32,7 @@ pub mod leaf;
 pub mod lent;
 pub mod port_side;
 pub mod random;
+pub mod recordings;
 pub mod replaced;
 pub mod request;
 pub mod rows;

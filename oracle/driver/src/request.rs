@@ -252,7 +252,7 @@ fn part(field: &str) -> Result<Vec<u8>, String> {
 }
 
 /// Upper-case hex, two digits a byte; `-` stands for no bytes.
-fn bytes(field: &str) -> Result<Vec<u8>, String> {
+pub fn bytes(field: &str) -> Result<Vec<u8>, String> {
     if field == "-" {
         return Ok(Vec::new());
     }

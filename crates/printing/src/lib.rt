@@ -1,16 +1,18 @@
-// Inner. How the programs print. Here: lines for people, written to standard output by way of a buffer: decimal and hexadecimal numbers, texts with
-// their control characters escaped, bytes, floats, and columns of a table. A line knows no rows and no types of columns. In `floats`: a float's
-// digits; in `type_names`: the names of the types.
+// Inner. How the programs print. Here: lines for people, written to standard output or standard error by way of a buffer: decimal and hexadecimal
+// numbers, texts with what can't be seen in them escaped, bytes, floats, and columns of a table. A line knows no rows and no types of columns. In
+// `floats`: a float's digits; in `type_names`: the names of the types; in `characters`: which characters of a text are shown as they are.
+mod characters;
 mod floats;
 pub mod type_names;
 mod wide;
 
+use characters::Shown;
+use characters::character_at;
+use characters::shown_as;
 use conversion::hex::hex_digit;
 use floats::Digits;
 use floats::MOST_DIGITS;
 use floats::POINT;
-ghost use Prim.Native.Nat.{_<_};
-ghost use lib.ListN.{length};
 
 // How many bytes are kept before they are written out.
 const ROOM: usize = 512;
@@ -18,107 +20,49 @@ const ROOM: usize = 512;
 // A line that is longer than this has no columns behind it.
 const WIDEST: usize = 200;
 
-// What is kept, and how many bytes of the line stand before the next one.
+// What is kept, how many bytes of the line stand before the next one, and where it is written to.
 pub struct Line {
     bytes: [u8; ROOM],
     len: usize,
     column: usize,
-}
-
-// What is printed for a byte of a text.
-enum Shown {
-    Nothing,
-    Byte(u8),
-    // Behind a backslash.
-    Short(u8),
-    // As \u{..}.
-    Code(u8),
-}
-
-// Whether the byte behind a place is the second of U+0080 to U+009F, if the first stands here.
-fn is_control_next(s: &[u8], i: usize) -> bool
-    requires { ⌜ i < length (now s) ⌝ }
-{
-    let next = i + 1;
-    if s.len() <= next {
-        return false;
-    }
-    is_high_control(s[next])
-}
-
-fn is_high_control(b: u8) -> bool {
-    if b < 0x80 {
-        return false;
-    }
-    b < 0xA0
-}
-
-// Whether the byte before a place is C2, which U+0080 to U+00BF begin with.
-fn is_behind_c2(s: &[u8], i: usize) -> bool
-    requires { ⌜ i < length (now s) ⌝ }
-{
-    if i == 0 {
-        return false;
-    }
-    s[i - 1] == 0xC2
-}
-
-// What is printed for the byte at a place of a UTF-8 text. Control characters are 0 to 1F, 7F and U+0080 to U+009F.
-fn shown_at(s: &[u8], i: usize) -> Shown
-    requires { ⌜ i < length (now s) ⌝ }
-{
-    let b = s[i];
-    if b == 0xC2 {
-        if is_control_next(s, i) {
-            return Shown::Nothing;
-        }
-        return Shown::Byte(b);
-    }
-    if is_high_control(b) {
-        if is_behind_c2(s, i) {
-            return Shown::Code(b);
-        }
-        return Shown::Byte(b);
-    }
-    shown_ascii(b)
-}
-
-fn shown_ascii(b: u8) -> Shown {
-    match b {
-        b'\n' => Shown::Short(b'n'),
-        b'\r' => Shown::Short(b'r'),
-        b'\t' => Shown::Short(b't'),
-        b'"' | b'\\' => Shown::Short(b),
-        0..=0x1F | 0x7F => Shown::Code(b),
-        _ => Shown::Byte(b),
-    }
+    fd: i32,
 }
 
 // Writes out the first n bytes, which are there.
-fn write_first(s: &[u8], n: usize) {
+fn write_first(fd: i32, s: &[u8], n: usize) {
     if n <= s.len() {
-        io::write_all(libc::STDOUT_FILENO, &s[0..n]);
+        io::write_all(fd, &s[0..n]);
     }
 }
 
 impl Line {
-    // An empty line.
+    // An empty line of standard output.
     pub fn new() -> Line {
         Line {
             bytes: [0u8; ROOM],
             len: 0,
             column: 0,
+            fd: libc::STDOUT_FILENO,
         }
+    }
+
+    // One of standard error.
+    pub fn of_error() -> Line {
+        let mut line = Line::new();
+        line.fd = libc::STDERR_FILENO;
+        line
     }
 
     // Writes out what is kept.
     pub fn flush(self) -> Line {
         let bytes = self.bytes;
-        write_first(&bytes, self.len);
+        let fd = self.fd;
+        write_first(fd, &bytes, self.len);
         Line {
             bytes,
             len: 0,
             column: self.column,
+            fd,
         }
     }
 
@@ -142,6 +86,7 @@ impl Line {
                 bytes,
                 len: len + 1,
                 column,
+                fd: self.fd,
             };
         }
         self
@@ -249,22 +194,44 @@ impl Line {
         line
     }
 
-    fn shown(self, what: Shown) -> Line {
+    // A number of bytes.
+    pub fn byte_count(self, n: u64) -> Line {
+        if n == 1 {
+            return self.text(b"1 byte");
+        }
+        self.decimal(n).text(b" bytes")
+    }
+
+    // The number of a character in hexadecimal: two, four or six digits.
+    fn code(self, code: u32) -> Line {
+        let low = (code % 65536) as u16;
+        if code < 256 {
+            return self.hex_byte((code % 256) as u8);
+        }
+        if code < 65536 {
+            return self.hex16(low);
+        }
+        self.hex_byte((code / 65536 % 256) as u8).hex16(low)
+    }
+
+    // A character, whose bytes are at hand.
+    fn character(self, what: Shown, bytes: &[u8]) -> Line {
         match what {
-            Shown::Nothing => self,
-            Shown::Byte(b) => self.byte(b),
+            Shown::Bytes => self.text(bytes),
             Shown::Short(b) => self.byte(b'\\').byte(b),
-            Shown::Code(b) => self.text(b"\\u{").hex_byte(b).byte(b'}'),
+            Shown::Code(n) => self.text(b"\\u{").code(n).byte(b'}'),
         }
     }
 
-    // A UTF-8 text within quotation marks, its control characters, quotation marks and backslashes escaped.
+    // A UTF-8 text within quotation marks: what can't be seen in it, quotation marks and backslashes are escaped.
     pub fn quoted(self, s: &[u8]) -> Line {
         let mut line = self.byte(b'"');
         let mut i: usize = 0;
         while i < s.len() {
-            line = line.shown(shown_at(s, i));
-            i += 1;
+            let c = character_at(s, i);
+            let end = i + c.len;
+            line = line.character(shown_as(c.code), &s[i..end]);
+            i = end;
         }
         line.byte(b'"')
     }

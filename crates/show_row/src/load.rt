@@ -1,7 +1,11 @@
 // Reading a file whole, as it is or as hexadecimal text, into a lent buffer. What does not fit is not read: the buffers are a byte longer than what the
 // library takes, so a longer file is refused by the library itself. What goes wrong is said on standard error.
+use crate::hex;
+use crate::hex::Fault;
+use crate::hex::Reading;
 use check::same;
-ghost use Prim.Native.Nat.{_≤_};
+use printing::Line;
+use tables::warnings::warning;
 
 // How much of a file was read, if it can be read.
 pub enum Loaded {
@@ -9,20 +13,12 @@ pub enum Loaded {
     Failed,
 }
 
-// A digit's value is below 16; white space and all other bytes are told apart by these.
-const WHITE: u8 = 16;
-
-const OTHER: u8 = 17;
-
-// No digit waits for its second one.
-const NONE: u8 = 16;
-
 // Reads the file that an argument names; `-` is standard input.
 pub fn load(argument: usize, is_hex: bool, out: &mut [u8]) -> Loaded {
     let mut path = io::buffer();
     let n = os::arg(argument, &mut path);
     if os::errno() != 0 {
-        os::fail(b"show_row: argument");
+        os::fail(b"show-row: argument");
         return Loaded::Failed;
     }
     if same(&path[..n], b"-") {
@@ -41,12 +37,33 @@ fn load_from(fd: i32, name: &[u8], is_hex: bool, out: &mut [u8]) -> Loaded {
     if is_hex {
         return load_hex(fd, name, out);
     }
-    load_raw(fd, name, out)
+    let loaded = load_raw(fd, name, out);
+    warn_hex(loaded, name, out);
+    loaded
+}
+
+// Warns where raw bytes look like hexadecimal text.
+fn warn_hex(loaded: Loaded, name: &[u8], out: &[u8]) {
+    let Loaded::Bytes(n) = loaded else {
+        return;
+    };
+    // What load_raw promises; asked again here, it needs no proof.
+    if out.len() < n {
+        return;
+    }
+    if !hex::looks_like_hex(&out[0..n]) {
+        return;
+    }
+    warning()
+        .text(name)
+        .text(b" looks like hexadecimal text and is read as raw bytes: -x reads it as hexadecimal")
+        .end()
+        .flush();
 }
 
 // Says why the system could not open or read a file.
 fn say_unreadable(name: &[u8]) {
-    io::write_all(libc::STDERR_FILENO, b"show_row: cannot read ");
+    io::write_all(libc::STDERR_FILENO, b"show-row: cannot read ");
     os::fail(name);
 }
 
@@ -71,106 +88,86 @@ fn load_raw(fd: i32, name: &[u8], out: &mut [u8]) -> Loaded {
     Loaded::Bytes(at)
 }
 
-// How far hexadecimal text is read: the bytes made of it, the digit that waits for its second one, and whether more may come.
+// How far hexadecimal text is read: the bytes made of it, and whether more may come.
 struct Progress {
+    reading: Reading,
     at: usize,
-    high: u8,
     more: bool,
     failed: bool,
 }
 
-fn is_white(b: u8) -> bool {
-    match b {
-        b' ' | b'\t' | b'\n' | b'\r' | 0x0B | 0x0C => true,
-        _ => false,
-    }
-}
-
-fn digit(b: u8) -> u8 {
-    match b {
-        b'0'..=b'9' => b - b'0',
-        b'A'..=b'F' => b - b'A' + 10,
-        b'a'..=b'f' => b - b'a' + 10,
-        _ => {
-            if is_white(b) {
-                return WHITE;
-            }
-            OTHER
-        }
-    }
-}
-
-// What a digit or white space adds: nothing, a digit that waits, or a byte.
-struct Joined {
-    high: u8,
-    byte: u8,
-    count: usize,
-}
-
-fn with_digit(high: u8, d: u8) -> Joined
-    ensures { λ r. ⌜ r .count ≤ 1 ⌝ }
-{
-    if WHITE <= d {
-        return Joined {
-            high,
-            byte: 0,
-            count: 0,
-        };
-    }
-    if NONE <= high {
-        return Joined {
-            high: d,
-            byte: 0,
-            count: 0,
-        };
-    }
-    Joined {
-        high: NONE,
-        byte: high * 16 + d,
-        count: 1,
-    }
-}
-
 fn stopped(at: usize, failed: bool) -> Progress {
     Progress {
+        reading: hex::start(),
         at,
-        high: NONE,
         more: false,
         failed,
     }
 }
 
-fn say_no_digit(name: &[u8], b: u8) {
-    io::write_all(libc::STDERR_FILENO, b"show_row: ");
-    io::write_all(libc::STDERR_FILENO, name);
-    io::write_all(libc::STDERR_FILENO, b": no hexadecimal digit: byte ");
-    io::print_hex(libc::STDERR_FILENO, b as u64, 2);
-    io::write_all(libc::STDERR_FILENO, b"\n");
+fn is_printable(b: u8) -> bool {
+    match b {
+        0x21..=0x7E => true,
+        _ => false,
+    }
+}
+
+fn no_digit(line: Line, b: u8) -> Line {
+    let begun = line.text(b"no hexadecimal digit: ");
+    if is_printable(b) {
+        return begun.byte(b);
+    }
+    begun
+        .text(b"byte ")
+        .hex_byte(b)
+        .text(b" (raw bytes are read without -x)")
+}
+
+fn fault_name(line: Line, fault: Fault, b: u8) -> Line {
+    match fault {
+        Fault::Nothing => line,
+        Fault::NoDigit => no_digit(line, b),
+        Fault::OneDigit => line.text(b"a byte has two hexadecimal digits, the second is missing"),
+        Fault::Offset => line.text(
+            b"this looks like an offset; -x reads bytes alone, as of xxd -p",
+        ),
+    }
+}
+
+// Says where a hexadecimal text has a fault, and which. `b` is the byte there.
+fn say_fault(name: &[u8], r: Reading, b: u8) {
+    let fault = r.fault;
+    let named = Line::of_error().text(b"show-row: ").text(name);
+    let placed = named
+        .text(b": line ")
+        .decimal(r.line)
+        .text(b", column ")
+        .decimal(r.column)
+        .text(b": ");
+    fault_name(placed, fault, b).end().flush();
 }
 
 // Goes on with a chunk of text.
 fn take_hex(chunk: &[u8], name: &[u8], p: Progress, out: &mut [u8]) -> Progress {
     let mut at = p.at;
-    let mut high = p.high;
+    let mut r = p.reading;
     let mut i: usize = 0;
     while i < chunk.len() {
-        let d = digit(chunk[i]);
-        if d == OTHER {
-            say_no_digit(name, chunk[i]);
+        r = hex::step(r, chunk[i]);
+        if !hex::is_good(r) {
+            say_fault(name, r, chunk[i]);
             return stopped(0, true);
         }
         if out.len() <= at {
             return stopped(at, false);
         }
-        let j = with_digit(high, d);
-        out[at] = j.byte;
-        at += j.count;
-        high = j.high;
+        out[at] = r.byte;
+        at += hex::made(r);
         i += 1;
     }
     Progress {
+        reading: r,
         at,
-        high,
         more: true,
         failed: false,
     }
@@ -191,15 +188,11 @@ fn read_hex(fd: i32, name: &[u8], p: Progress, out: &mut [u8]) -> Progress {
     take_hex(&chunk[..n], name, p, out)
 }
 
-// The end of the text: no digit waits.
+// The end of the text.
 fn end_hex(name: &[u8], p: Progress) -> Progress {
-    if p.high < NONE {
-        io::write_all(libc::STDERR_FILENO, b"show_row: ");
-        io::write_all(libc::STDERR_FILENO, name);
-        io::write_all(
-            libc::STDERR_FILENO,
-            b": an odd number of hexadecimal digits\n",
-        );
+    let r = hex::finish(p.reading);
+    if !hex::is_good(r) {
+        say_fault(name, r, 0);
         return stopped(0, true);
     }
     stopped(p.at, false)
@@ -208,8 +201,8 @@ fn end_hex(name: &[u8], p: Progress) -> Progress {
 // Nothing says that a file ends, so the loop counts its turns down, from a number that no run uses up.
 fn load_hex(fd: i32, name: &[u8], out: &mut [u8]) -> Loaded {
     let mut p = Progress {
+        reading: hex::start(),
         at: 0,
-        high: NONE,
         more: true,
         failed: false,
     };

@@ -1,17 +1,23 @@
 // Program. Shows what a host's description and row hold: `show_row [-x] DESCRIPTION [ROW]` reads one or two files of raw bytes (with -x, of
 // hexadecimal text; `-` is standard input) and prints a table of the columns, with a row also their values, or the refusal. It decides nothing itself:
 // parse_qrydsc, decode_row and value_bytes do. A description that breaks off is shown too, since whoever looks for the fault wants to see it: with a
-// warning.
-mod columns;
+// warning. What is printed is in tables; the command at the root, show-row, reads the other options.
+mod hex;
 mod load;
-mod refusals;
-mod values;
 
 use check::same;
 use load::Loaded;
 use load::load;
 use qrydsc::Description;
 use refusal::Outcome;
+use tables::columns::show_columns;
+use tables::description_warnings::warn_of_description;
+use tables::description_warnings::warn_of_rows;
+use tables::refusals::show_refused_description;
+use tables::refusals::show_refused_row;
+use tables::row_warnings::warn_of_beginning;
+use tables::row_warnings::warn_of_values;
+use tables::values::show_values;
 ghost use Prim.Native.Nat.{_≤_};
 
 // A byte more than the library takes: so a longer file is refused by the library.
@@ -32,7 +38,7 @@ fn is_hex() -> bool {
 fn usage() {
     io::write_all(
         libc::STDERR_FILENO,
-        b"usage: show_row [-x] DESCRIPTION [ROW]\n\nShows the columns of a description (QRYDSC) and the values of a row. The files hold raw bytes or, with -x,\nhexadecimal text with any white space; - is standard input.\n",
+        b"show-row: a wrong call; the program's own is show_row [-x] DESCRIPTION [ROW]\n",
     );
 }
 
@@ -40,63 +46,28 @@ fn show_description(d: Description) {
     let outcome = d.outcome;
     let columns = d.columns;
     match outcome {
-        Outcome::Accepted => columns::show_columns(columns),
-        Outcome::Refused(_) => refusals::show_refused_description(outcome),
+        Outcome::Accepted => show_columns(columns),
+        Outcome::Refused(_) => show_refused_description(outcome),
     }
-}
-
-// Says on standard error, where the description breaks off, after how many of its bytes. What is printed and its last line are the same with it.
-fn warn_broken_off(broken_off: bool, description: &[u8]) {
-    if !broken_off {
-        return;
-    }
-    let end = triplets::outer_end(description, 0);
-    io::write_all(
-        libc::STDERR_FILENO,
-        b"show_row: warning: the description breaks off after ",
-    );
-    io::print_decimal(libc::STDERR_FILENO, end as u64);
-    io::write_all(libc::STDERR_FILENO, b" bytes of ");
-    io::print_decimal(libc::STDERR_FILENO, description.len() as u64);
-    io::write_all(libc::STDERR_FILENO, b": columns may be missing\n");
-}
-
-// Says on standard error how many characters were replaced, if any were. The table and its last line are the same with it.
-fn warn_replaced(replaced: usize) {
-    if replaced == 0 {
-        return;
-    }
-    io::write_all(libc::STDERR_FILENO, b"show_row: warning: ");
-    io::print_decimal(libc::STDERR_FILENO, replaced as u64);
-    if replaced == 1 {
-        io::write_all(
-            libc::STDERR_FILENO,
-            b" character of this row's texts was not valid and was replaced by U+FFFD\n",
-        );
-        return;
-    }
-    io::write_all(
-        libc::STDERR_FILENO,
-        b" characters of this row's texts were not valid and were replaced by U+FFFD\n",
-    );
 }
 
 fn show_row<'a>(d: Description, row: &'a [u8], text: &'a mut [u8]) {
-    let described = d.outcome;
     let columns = d.columns;
-    if described.number() != 0 {
-        refusals::show_refused_description(described);
-        return;
-    }
     let answer = row::decode_row(row, columns, text);
     let outcome = answer.outcome;
     match outcome {
-        Outcome::Accepted => {
-            values::show_values(columns, answer, row, text);
-            warn_replaced(answer.replaced);
-        }
-        Outcome::Refused(_) => refusals::show_refused_row(outcome, row, columns, text),
+        Outcome::Accepted => show_values(columns, answer, row, text),
+        Outcome::Refused(_) => show_refused_row(outcome, row, columns),
     }
+    warn_of_beginning(row);
+    warn_of_values(
+        columns,
+        row,
+        outcome.number(),
+        answer.used,
+        answer.replaced,
+        text,
+    );
 }
 
 // Reads and parses the description; nothing where it can't be read.
@@ -110,7 +81,8 @@ fn with_description(first: usize, is_hex: bool, description: &mut [u8]) {
     }
     let d = qrydsc::parse_qrydsc(&description[0..n]);
     show_description(d);
-    warn_broken_off(d.broken_off, &description[0..n]);
+    warn_of_description(d, &description[0..n]);
+    warn_of_rows(d);
 }
 
 fn with_row(
@@ -134,8 +106,13 @@ fn with_row(
     if row.len() < m {
         return;
     }
+    let outcome = d.outcome;
+    if outcome.number() != 0 {
+        show_description(d);
+        return;
+    }
     show_row(d, &row[0..m], text);
-    warn_broken_off(d.broken_off, &description[0..n]);
+    warn_of_description(d, &description[0..n]);
 }
 
 fn first_argument(is_hex: bool) -> usize

@@ -17,14 +17,26 @@ byte-requires c κs = tt
 loop-holds : tie.Need-loop-holds Inv-loop μ-loop
 loop-holds c = omega arith
 
-shown-at-requires : tie.Need-shown-at-requires Inv-loop μ-loop
-shown-at-requires c κs = omega arith
+character-at-requires : tie.Need-character-at-requires Inv-loop μ-loop
+character-at-requires c κs = omega arith
 
-shown-requires : tie.Need-shown-requires Inv-loop μ-loop
-shown-requires c κs = tt
+add-end : tie.Need-add-end Inv-loop μ-loop
+add-end c = omega arith
 
-add-i : tie.Need-add-i Inv-loop μ-loop
-add-i c = omega arith
+shown-as-requires : tie.Need-shown-as-requires Inv-loop μ-loop
+shown-as-requires c κs = tt
+
+sub-character : tie.Need-sub-character Inv-loop μ-loop
+sub-character c = omega arith
+
+part-character-start : tie.Need-part-character-start Inv-loop μ-loop
+part-character-start c = omega arith
+
+part-character-end : tie.Need-part-character-end Inv-loop μ-loop
+part-character-end c = omega arith
+
+character-requires : tie.Need-character-requires Inv-loop μ-loop
+character-requires c κs = tt
 
 loop-less : tie.Need-loop-less Inv-loop μ-loop
 loop-less c = omega arith
@@ -40,4 +52,4 @@ returns c = tt
 
 pub quoted-spec : {M : Type 1} → statement M
 quoted-spec =
-    tie.close (tie.spec Inv-loop μ-loop byte-requires loop-holds shown-at-requires shown-requires add-i loop-less loop-again byte-requires-2 returns)
+    tie.close (tie.spec Inv-loop μ-loop byte-requires loop-holds character-at-requires add-end shown-as-requires sub-character part-character-start part-character-end character-requires loop-less loop-again byte-requires-2 returns)

@@ -11,6 +11,9 @@ Inv-loop fd name out₀ p₀ turns₀ out p turns = length out ≡ length out₀
 abbrev μ-loop : tie.MeasureT-loop
 μ-loop fd name out₀ p₀ turns₀ out p turns = turns
 
+start-requires : tie.Need-start-requires Inv-loop μ-loop
+start-requires c κs = tt
+
 loop-holds : tie.Need-loop-holds Inv-loop μ-loop
 loop-holds c = refl
 
@@ -46,4 +49,4 @@ returns-3 c = tt
 
 pub load-hex-spec : {M : Type 1} → statement M
 load-hex-spec =
-    tie.close (tie.spec Inv-loop μ-loop loop-holds read-hex-requires same-length returns same-length-2 returns-2 sub-turns loop-less loop-again same-length-3 returns-3)
+    tie.close (tie.spec Inv-loop μ-loop start-requires loop-holds read-hex-requires same-length returns same-length-2 returns-2 sub-turns loop-less loop-again same-length-3 returns-3)

@@ -7,25 +7,28 @@ use Rattle.show_row.proofs.load.take_hex.Statement.{statement}
 use Rattle.show_row.proofs.load.take_hex.Tie as tie
 
 abbrev Inv-loop : tie.InvT-loop
-Inv-loop chunk name out₀ at₀ high₀ i₀ out at high i = (i ≤ length chunk) × (length out ≡ length out₀)
+Inv-loop chunk name out₀ at₀ r₀ i₀ out at r i = (i ≤ length chunk) × (length out ≡ length out₀)
 
 abbrev μ-loop : tie.MeasureT-loop
-μ-loop chunk name out₀ at₀ high₀ i₀ out at high i = length chunk - i
+μ-loop chunk name out₀ at₀ r₀ i₀ out at r i = length chunk - i
 
 loop-holds : tie.Need-loop-holds Inv-loop μ-loop
 loop-holds c = (omega arith, refl)
 
-shared-slice-read-digit : tie.Need-shared-slice-read-digit Inv-loop μ-loop
-shared-slice-read-digit c = omega arith
+shared-slice-read-step : tie.Need-shared-slice-read-step Inv-loop μ-loop
+shared-slice-read-step c = omega arith
 
-digit-requires : tie.Need-digit-requires Inv-loop μ-loop
-digit-requires c κs = tt
+step-requires : tie.Need-step-requires Inv-loop μ-loop
+step-requires c κs = tt
 
-shared-slice-read-say-no-digit : tie.Need-shared-slice-read-say-no-digit Inv-loop μ-loop
-shared-slice-read-say-no-digit c = omega arith
+is-good-requires : tie.Need-is-good-requires Inv-loop μ-loop
+is-good-requires c κs = tt
 
-say-no-digit-requires : tie.Need-say-no-digit-requires Inv-loop μ-loop
-say-no-digit-requires c κs = tt
+shared-slice-read-say-fault : tie.Need-shared-slice-read-say-fault Inv-loop μ-loop
+shared-slice-read-say-fault c = omega arith
+
+say-fault-requires : tie.Need-say-fault-requires Inv-loop μ-loop
+say-fault-requires c κs = tt
 
 stopped-requires : tie.Need-stopped-requires Inv-loop μ-loop
 stopped-requires c κs = tt
@@ -45,11 +48,11 @@ same-length-2 c = omega arith
 returns-2 : tie.Need-returns-2 Inv-loop μ-loop
 returns-2 c = tt
 
-with-digit-requires : tie.Need-with-digit-requires Inv-loop μ-loop
-with-digit-requires c κs = tt
-
 slice-write-out : tie.Need-slice-write-out Inv-loop μ-loop
 slice-write-out c = omega arith
+
+made-requires : tie.Need-made-requires Inv-loop μ-loop
+made-requires c κs = tt
 
 add-at : tie.Need-add-at Inv-loop μ-loop
 add-at c = omega arith
@@ -71,4 +74,4 @@ returns-3 c = tt
 
 pub take-hex-spec : {M : Type 1} → statement M
 take-hex-spec =
-    tie.close (tie.spec Inv-loop μ-loop loop-holds shared-slice-read-digit digit-requires shared-slice-read-say-no-digit say-no-digit-requires stopped-requires same-length returns stopped-requires-2 same-length-2 returns-2 with-digit-requires slice-write-out add-at add-i loop-less loop-again same-length-3 returns-3)
+    tie.close (tie.spec Inv-loop μ-loop loop-holds shared-slice-read-step step-requires is-good-requires shared-slice-read-say-fault say-fault-requires stopped-requires same-length returns stopped-requires-2 same-length-2 returns-2 slice-write-out made-requires add-at add-i loop-less loop-again same-length-3 returns-3)

@@ -1,8 +1,8 @@
--- `show_row::show_columns` is safe and ends. Assumes nothing.
+-- `tables::show_columns` is safe and ends. Assumes nothing.
 use Prim.Native.Nat.{_-_, _≤_}
 use native.Mathlib.Omega.{arith}
-use Rattle.show_row.proofs.columns.show_columns.Statement.{statement}
-use Rattle.show_row.proofs.columns.show_columns.Tie as tie
+use Rattle.tables.proofs.columns.show_columns.Statement.{statement}
+use Rattle.tables.proofs.columns.show_columns.Tie as tie
 
 abbrev Inv-loop : tie.InvT-loop
 Inv-loop columns count line₀ i₀ line i = i ≤ count

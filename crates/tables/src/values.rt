@@ -1,5 +1,7 @@
-// A value in the table: where it lies, whether it is external, and the value itself.
+// A value in the table: where the column's bytes lie in the row, whether it is external, and the value itself.
 use crate::columns;
+use piece::piece_need;
+use piece::skip_of;
 use printing::Line;
 use types::Columns;
 use types::Db2Value;
@@ -53,20 +55,11 @@ fn form_of(value: Db2Value) -> Form {
     }
 }
 
-fn range(line: Line, start: u64, len: u64) -> Line {
-    line.decimal(start)
+// The bytes of the row from a place on, as first byte and the byte behind the last one.
+fn range(line: Line, start: usize, len: usize) -> Line {
+    line.decimal(start as u64)
         .text(b"..")
-        .decimal(std::num::wrapping_add_u64(start, len))
-}
-
-// Where a value lies: a part of the text buffer or of the row, as first byte and the byte behind the last one.
-fn place(line: Line, form: Form, start: u64, len: u64) -> Line {
-    match form {
-        Form::Plain => range(line.text(b"text "), start, len),
-        Form::Quoted => range(line.text(b"text "), start, len),
-        Form::Bytes => range(line.text(b"row "), start, len),
-        _ => line.byte(b'-'),
-    }
+        .decimal(std::num::wrapping_add_usize(start, len) as u64)
 }
 
 fn bytes(line: Line, s: &[u8]) -> Line {
@@ -75,9 +68,11 @@ fn bytes(line: Line, s: &[u8]) -> Line {
     }
     line.text(b"X'")
         .hex_bytes(&s[0..SHOWN])
-        .text(b"'.. of ")
+        .text(b"' (the first ")
+        .decimal(SHOWN as u64)
+        .text(b" of ")
         .decimal(s.len() as u64)
-        .text(b" bytes")
+        .text(b" bytes)")
 }
 
 fn truth(line: Line, number: u64) -> Line {
@@ -111,8 +106,7 @@ fn value<'a>(line: Line, v: ValuePlace, row: &'a [u8], text: &'a [u8]) -> Line {
     let held = v.value;
     let form = form_of(held);
     let words = words::value_words(v);
-    let placed = place(line.to_column(columns::NEXT), form, words.number, words.len);
-    let external = columns::yes_or_no(placed.to_column(EXTERNAL), v.external);
+    let external = columns::yes_or_no(line.to_column(EXTERNAL), v.external);
     let s = row::value_bytes(held, row, text);
     shown(external.to_column(VALUE), form, words.number, s).end()
 }
@@ -120,15 +114,28 @@ fn value<'a>(line: Line, v: ValuePlace, row: &'a [u8], text: &'a [u8]) -> Line {
 fn head() -> Line {
     Line::new()
         .text(
-            b" no  type               null  ccsid  order   origin      lies at           external  value",
+            b" no  type               null  ccsid  order   origin      bytes of the row  external  value",
         )
         .end()
 }
 
+// The two bytes before the values that are skipped, in a line of their own.
+fn skipped(line: Line, row: &[u8]) -> Line {
+    let n = skip_of(row);
+    if n == 0 {
+        return line;
+    }
+    if row.len() < n {
+        return line;
+    }
+    let named = line.text(b"  -  skipped").to_column(columns::NEXT);
+    bytes(range(named, 0, n).to_column(VALUE), &row[0..n]).end()
+}
+
 fn last_line(line: Line, used: usize, len: usize) -> Line {
     line.text(b"used ")
-        .decimal(used as u64)
-        .text(b" bytes, left ")
+        .byte_count(used as u64)
+        .text(b", left ")
         .decimal(std::num::wrapping_sub_usize(len, used) as u64)
         .end()
 }
@@ -136,14 +143,22 @@ fn last_line(line: Line, used: usize, len: usize) -> Line {
 // The values of an accepted row, and the bytes used and left.
 pub fn show_values<'a>(columns: Columns, answer: RowAnswer, row: &'a [u8], text: &'a [u8]) {
     let count = columns.count;
-    let mut line = head();
+    let mut line = skipped(head(), row);
+    let mut at = skip_of(row);
     let mut i: usize = 0;
     while i < count {
         if MAX_COLUMNS <= i {
             return;
         }
-        let begun = columns::column(line, columns.columns[i]);
-        line = value(begun, answer.places[i], row, text);
+        // The row is accepted, so that every column has its bytes: asked again here, it needs no proof.
+        if row.len() < at {
+            return;
+        }
+        let column = columns.columns[i];
+        let n = piece_need(&row[at..], column);
+        let begun = columns::column(line, column).to_column(columns::NEXT);
+        line = value(range(begun, at, n), answer.places[i], row, text);
+        at = std::num::wrapping_add_usize(at, n);
         i += 1;
     }
     last_line(line, answer.used, row.len()).flush();

@@ -1,7 +1,6 @@
 // What a row warns of: how it begins, what follows it, and values that may be others than the host's.
 use crate::concerns::Concern;
 use crate::headers::warn_header;
-use crate::status::STATUS;
 use crate::status::is_status;
 use crate::status::with_state;
 use crate::warnings::rest_at;
@@ -52,30 +51,25 @@ fn with_grown(line: Line, before: usize, after: usize, i: usize) -> Line {
 }
 
 // The two bytes skipped are FF 00 before a row of a host that sends them. Else they may be another thing.
-fn warn_skipped(row: &[u8]) {
-    if skip_of(row) != 2 {
-        return;
-    }
-    if row.len() < 2 {
-        return;
-    }
-    if row[1] == 0 {
+fn warn_skipped(second: u8) {
+    if second == 0 {
         return;
     }
     warning()
         .text(b"the row begins FF ")
-        .hex_byte(row[1])
+        .hex_byte(second)
         .text(b" where a host sends FF 00: it may be no row, or one without these two bytes")
         .end()
         .flush();
 }
 
-fn warn_status(row: &[u8]) {
+// Whether there was something to say.
+fn warn_status(row: &[u8]) -> bool {
     if !is_status(row) {
-        return;
+        return false;
     }
     if row.len() < 10 {
-        return;
+        return false;
     }
     with_state(
             warning().text(b"this looks like a status (SQLCA) with SQLSTATE "),
@@ -84,29 +78,21 @@ fn warn_status(row: &[u8]) {
         .text(b", and not like a row")
         .end()
         .flush();
+    true
 }
 
-// Whether what follows a row can be the next one or a status, or the beginning of either: FF and 00 or FF; or 00.
+// Whether what follows a row can be the next one, which begins FF 00, or a status.
 fn can_follow(rest: &[u8]) -> bool {
     if rest.len() == 0 {
         return true;
     }
-    if rest[0] == 0 {
-        if rest.len() < STATUS {
-            return true;
-        }
-        return is_status(rest);
-    }
     if rest[0] != 0xFF {
-        return false;
+        return is_status(rest);
     }
     if rest.len() < 2 {
         return true;
     }
-    match rest[1] {
-        0 | 0xFF => true,
-        _ => false,
-    }
+    rest[1] == 0
 }
 
 // Where a row begins FF 00, so does the next.
@@ -132,26 +118,39 @@ fn warn_rest(row: &[u8], used: usize) {
         .flush();
 }
 
-// One byte alone is not skipped.
-fn warn_lone(row: &[u8]) {
-    if row.len() != 1 {
+// One byte alone is not skipped, and what does not begin FF has no such bytes.
+fn warn_first(row: &[u8]) {
+    if row.len() == 0 {
         return;
     }
     if row[0] != 0xFF {
+        warning()
+            .text(
+                b"the row does not begin FF 00, as a host sends it: it may be no row, or begin elsewhere",
+            )
+            .end()
+            .flush();
         return;
     }
-    warning()
-        .text(b"the row is FF alone: it may be the first byte of FF 00")
-        .end()
-        .flush();
+    if row.len() == 1 {
+        warning()
+            .text(b"the row is FF alone: it may be the first byte of FF 00")
+            .end()
+            .flush();
+        return;
+    }
+    warn_skipped(row[1]);
 }
 
 // What the row's first bytes tell, accepted or not.
 pub fn warn_of_beginning(row: &[u8]) {
-    warn_header(b"the row", row);
-    warn_status(row);
-    warn_skipped(row);
-    warn_lone(row);
+    if warn_header(b"the row", row) {
+        return;
+    }
+    if warn_status(row) {
+        return;
+    }
+    warn_first(row);
 }
 
 // What the values of a row tell, and what is left behind it. Of a row that is refused, only the indicators.

@@ -1,8 +1,8 @@
-// A status (SQLCA), by its look: 00, a code of four bytes, an SQLSTATE of five characters, and eight bytes more.
+// A status (SQLCA), by its look: 00, a code of four bytes, and an SQLSTATE of five characters.
 use printing::Line;
 
-// The bytes of a status up to its extended part.
-pub const STATUS: usize = 18;
+// How many bytes that are.
+const STATUS: usize = 10;
 
 // A digit or a capital of an SQLSTATE in ASCII, which may be sent in EBCDIC; else 0.
 fn state_character(b: u8) -> u8 {

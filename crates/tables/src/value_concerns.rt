@@ -140,7 +140,7 @@ pub fn is_all_at(column: ColumnDescriptor, part: &[u8]) -> bool {
     }
 }
 
-// The most bytes that a varying type says.
+// The most bytes, or characters, that a varying type says.
 fn most_bytes(t: Db2Type) -> usize {
     match t {
         Db2Type::VarChar(n) => n as usize,
@@ -158,10 +158,37 @@ fn is_above(most: usize, count: usize) -> bool {
     most < count
 }
 
+// How many bytes begin a character of UTF-8.
+fn characters(s: &[u8]) -> usize {
+    let mut n: usize = 0;
+    let mut i: usize = 0;
+    while i < s.len() {
+        n = std::num::wrapping_add_usize(n, begins_character(s[i]));
+        i += 1;
+    }
+    n
+}
+
+fn begins_character(b: u8) -> usize {
+    match b {
+        0x80..=0xBF => 0,
+        _ => 1,
+    }
+}
+
+// A host may count the characters of UTF-8, and not its bytes.
+fn count_of(ccsid: u16, s: &[u8]) -> usize {
+    if ccsid == 1208 {
+        return characters(s);
+    }
+    s.len()
+}
+
 pub fn is_longer(column: ColumnDescriptor, part: &[u8]) -> bool {
     let t = column.db2_type;
     let value = value_part(column.nullable, part);
-    is_above(most_bytes(t), from(value, length_bytes(t)).len())
+    let s = from(value, length_bytes(t));
+    is_above(most_bytes(t), count_of(column.ccsid, s))
 }
 
 fn is_sign(nibble: u8) -> bool {

@@ -16,7 +16,7 @@ pub fn warning() -> Line {
 fn name(concern: Concern, line: Line) -> Line {
     match concern {
         Concern::Guessed => line.text(
-            b"no code page is known for the CCSID, so that texts will be guessed at",
+            b"no CCSID is declared, or none that is known, so that texts will be guessed at",
         ),
         Concern::As037 => line.text(
             b"CCSID 500 is read as code page 037, which has other characters at 4A 4F 5A 5F B0 BA BB",
@@ -38,10 +38,10 @@ fn name(concern: Concern, line: Line) -> Line {
         ),
         Concern::DecFloat => line.text(b"rows with a DecFloat column are refused, by 5"),
         Concern::ReadAsAscii => line.text(
-            b"no code page is known for the CCSID, and the text is taken for ASCII",
+            b"no CCSID is declared, or none that is known, and the text is taken for ASCII",
         ),
         Concern::ReadAs037 => line.text(
-            b"no code page is known for the CCSID, and the text is taken for code page 037, since it is no ASCII",
+            b"no CCSID is declared, or none that is known, and the text is taken for code page 037, since it is no ASCII",
         ),
         Concern::AllAt => line.text(b"the text is nothing but @, which is a blank in EBCDIC"),
         Concern::Longer => line.text(b"the value is longer than the description says"),

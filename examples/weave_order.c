@@ -14,7 +14,7 @@ static const uint8_t DESCRIPTION[] = {
     0x1E, 0x76, 0xD0,                               /* GDA: the columns follow, three bytes for each */
     0x02, 0x00, 0x04,                               /* the order's number: an Integer */
     0x40, 0x00, 0x08,                               /* the pattern: what 40 stands for, of 8 bytes */
-    0x0E, 0x07, 0x02,                               /* the length in metres: a Decimal of 7 digits, 2 behind the point */
+    0x0E, 0x05, 0x02,                               /* the pile height in millimetres: a Decimal of 5 digits, 2 behind the point */
     0x05, 0x00, 0x02,                               /* how many colours: a SmallInt that may be null */
     0x0A, 0x00, 0x08,                               /* the warp's tension: a Double */
     0x20, 0x00, 0x0A,                               /* when it is due: a Date */
@@ -28,7 +28,7 @@ static const uint8_t BLOCK[] = {
     0xFF, 0x00,                                           /* a row begins */
     0x00, 0x01, 0x13, 0x0C,                               /* 70412 */
     0x00, 0xD2, 0xC1, 0xE2, 0xC2, 0xC1, 0xC8, 0x60, 0xF4, /* not null, KASBAH-4 */
-    0x00, 0x01, 0x25, 0x0C,                               /* 12.50 */
+    0x01, 0x25, 0x0C,                                     /* 12.50 */
     0x00, 0x00, 0x06,                                     /* not null, 6 */
     0x40, 0x35, 0x80, 0x00, 0x00, 0x00, 0x00, 0x00,       /* 21.5 */
     '2', '0', '2', '6', '-', '0', '3', '-', '0', '2',     /* 2026-03-02 */
@@ -40,7 +40,7 @@ static const uint8_t BLOCK[] = {
     0xFF, 0x00,                                       /* a row begins */
     0x00, 0x01, 0x13, 0x0D,                           /* 70413 */
     0xFF,                                             /* null: no pattern yet */
-    0x00, 0x00, 0x07, 0x5D,                           /* -0.75, a correction */
+    0x00, 0x07, 0x5D,                                 /* -0.75, a correction */
     0xFF,                                             /* null */
     0x7F, 0xF8, 0x00, 0x00, 0x00, 0x00, 0x00, 0x00,   /* no number: the tension was not measured */
     '2', '0', '2', '6', '-', '0', '3', '-', '0', '9', /* 2026-03-09 */
@@ -51,7 +51,7 @@ static const uint8_t BLOCK[] = {
     0xFF, 0x00,                                           /* a row begins */
     0x00, 0x01, 0x13, 0x0E,                               /* 70414 */
     0x00, 0xD2, 0xC1, 0xE2, 0xC2, 0xC1, 0xC8, 0x60, 0xF5, /* not null, KASBAH-5 */
-    0x00, 0x08, 0x00, 0x0C,                               /* 80.00 */
+    0x00, 0x80, 0x0C,                                     /* 8.00 */
     0x00, 0x00, 0x04,                                     /* not null, 4 */
     0x40, 0x34, 0x00, 0x00, 0x00, 0x00, 0x00, 0x00,       /* 20 */
     '2', '0', '2', '6', '-', '0', '3', '-', '1', '6',     /* 2026-03-16 */
@@ -164,6 +164,33 @@ static size_t print_row(const struct vejupa_column *columns, size_t count, const
     return row.used;
 }
 
+#define HEIGHT 2 /* the pile height's column */
+
+/* The pile height of the row just decoded, as the loom takes it: a number, with scale 2 in hundredths of a millimetre. The row call gives its text, and does
+ * not say where its packed bytes begin. Called with the columns before it alone, it says how many bytes these use: there the column begins, with an indicator
+ * where it may be null. (Nor is the place a fixed one: the pattern before it may be null.) */
+static void print_height(const struct vejupa_column *columns, const uint8_t *data, size_t data_len) {
+    const struct vejupa_column *column = &columns[HEIGHT];
+    size_t length = ((size_t)vejupa_decimal_precision(column) + 2) / 2;
+    struct vejupa_row before;
+    int64_t height = 0;
+    uint8_t scale = 0;
+    uint32_t refusal;
+    if (vejupa_value_sort(&values[HEIGHT]) != VEJUPA_SORT_DECIMAL) {
+        return; /* null */
+    }
+    refusal = vejupa_decode_row(columns, HEIGHT, data, data_len, values, VEJUPA_MAX_COLUMNS, text, sizeof text, &before);
+    if (refusal == VEJUPA_ACCEPTED) {
+        const uint8_t *packed = data + before.used + (vejupa_column_nullable(column) ? 1 : 0);
+        refusal = vejupa_decode_packed_whole(packed, length, vejupa_decimal_scale(column), &height, &scale);
+    }
+    if (refusal == VEJUPA_ACCEPTED) {
+        printf("pile height %" PRId64 ", scale %u\n", height, scale);
+    } else { /* no digits, or no sign: nothing for a loom, whatever the text looks like */
+        printf("no pile height: refusal %" PRIu32 ": %s\n", refusal, vejupa_refusal_name(refusal));
+    }
+}
+
 /* The rows of a block. What such a loop must heed:
  * - A row may use no byte (a description without columns, say): stop then, or the loop does not end.
  * - This host sends FF 00 before each row. What begins otherwise is no row: stop before it. With the one SmallInt of 06 76 D0 04 00 02 the 62 bytes of a
@@ -178,6 +205,7 @@ static void print_rows(const struct vejupa_column *columns, size_t count, const 
         if (used == 0) {
             break;
         }
+        print_height(columns, block + at, block_len - at);
         at += used;
     }
     printf("\n%zu bytes are left, from %zu on\n", block_len - at, at);
@@ -199,6 +227,6 @@ int main(void) {
     }
     print_rows(columns, count, BLOCK, sizeof BLOCK);
     printf("\nthe first row, cut off: ");
-    print_row(columns, count, BLOCK, 22);
+    print_row(columns, count, BLOCK, 21);
     return 0;
 }

@@ -43,9 +43,9 @@ extern "C" {
 #endif
 
 /* The version of these calls. CHANGELOG.md says what changed. */
-#define VEJUPA_VERSION "0.5.0"
+#define VEJUPA_VERSION "0.5.1"
 
-/* Answers. 1 to 9 and 15 are the refusals of docs/RULES.md. */
+/* Answers. 1 to 9 and 12 to 15 are the refusals of docs/RULES.md. */
 #define VEJUPA_ACCEPTED 0
 #define VEJUPA_QRYDSC_TOO_LONG 1       /* a description of more than 65,536 bytes */
 #define VEJUPA_TOO_MANY_COLUMNS 2      /* a description of more than 128 columns */
@@ -56,6 +56,9 @@ extern "C" {
 #define VEJUPA_DECIMAL_TOO_LONG 7      /* a packed decimal of more than 128 bytes */
 #define VEJUPA_BUFFER_TOO_SHORT 8      /* the row ends before a value does; with the bytes expected and the bytes there are */
 #define VEJUPA_TEXT_BUFFER_TOO_SHORT 9 /* the texts do not fit into the lent buffer; with the length needed */
+#define VEJUPA_DECIMAL_DIGIT 12        /* a packed decimal with a digit above 9; this and the next two by vejupa_decode_packed_whole alone */
+#define VEJUPA_DECIMAL_SIGN 13         /* a packed decimal with a sign below A */
+#define VEJUPA_DECIMAL_OUT_OF_RANGE 14 /* a packed decimal that no signed number of 64 bits holds */
 #define VEJUPA_QRYDSC_BROKEN_OFF 15    /* a description that breaks off: bytes are left behind its last whole triplet */
 #define VEJUPA_TOO_LITTLE_ROOM 101     /* there is less room than there are columns, or values */
 #define VEJUPA_NO_COLUMN 102           /* what stands for a column, or for a type, is none */
@@ -187,11 +190,12 @@ uint32_t vejupa_raw_format_lob_locator(const uint8_t *bytes, size_t bytes_len, u
 uint32_t vejupa_raw_format_rowid(const uint8_t *bytes, size_t bytes_len, uint8_t *text, size_t text_len, size_t *text_length) VEJUPA_NONNULL;
 uint32_t vejupa_raw_decode_packed_decimal(const uint8_t *data, size_t data_len, uint8_t precision, uint8_t scale, uint8_t *text, size_t text_len,
                                           size_t *text_length) VEJUPA_NONNULL;
+uint32_t vejupa_raw_decode_packed_whole(const uint8_t *data, size_t data_len, uint8_t scale, int64_t *whole, uint8_t *whole_scale) VEJUPA_NONNULL;
 uint32_t vejupa_raw_bytes_are_likely_text(const uint8_t *bytes, size_t bytes_len) VEJUPA_NONNULL;
 
 /* The version as a number: 10000 times the first part, 100 times the second, and the third. Each file that includes this header refers to this symbol: with
  * an archive of another version it does not link. */
-uint32_t vejupa_version_0_5_0(void);
+uint32_t vejupa_version_0_5_1(void);
 #if defined(__GNUC__)
 #if defined(__has_attribute)
 #if __has_attribute(retain)
@@ -200,7 +204,7 @@ __attribute__((retain)) /* also where the linker drops unused sections */
 #endif
 __attribute__((used))
 #endif
-static uint32_t (*const vejupa_version_wanted)(void) = vejupa_version_0_5_0;
+static uint32_t (*const vejupa_version_wanted)(void) = vejupa_version_0_5_1;
 
 /* An address for an array without elements, which may come with NULL; of any other array its own. */
 static inline const void *vejupa_given(const void *p, size_t n) {
@@ -330,6 +334,26 @@ static inline uint32_t vejupa_decode_packed_decimal(const uint8_t *data, size_t 
                                             (uint8_t *)vejupa_lent(text, text_room), text_room, text_length);
 }
 
+/* A packed decimal as a whole number, and its scale beside it: *whole is what the digits and the sign say, *whole_scale the scale that was handed in, which
+ * decides nothing. So 12.50 in millimetres, of scale 2, is 1250 hundredths of a millimetre. After a refusal both are 0.
+ *
+ * The last nibble is the sign, as z/Architecture has it: A, C, E and F are plus, B and D minus. (In the text that vejupa_decode_packed_decimal and the row call
+ * give, D alone is minus: B is plus there, and so is what is no sign.) Every other nibble is a digit. Any number of zeros may lead; minus zero is 0.
+ *
+ * Answers the first of these that applies to the bytes as a whole, or 0:
+ *     6     there are no bytes
+ *     7     there are more than 128
+ *     12    a digit is above 9
+ *     13    the sign is below A
+ *     14    the number is below -2^63 or above 2^63 - 1
+ *
+ * The bytes are a Decimal column's in a row: (precision + 2) / 2 of them, rounded down, behind the indicator where it may be null. The row call gives their
+ * text and does not say where they begin. A row call with the columns before this one alone does: the column begins at its row.used, as
+ * examples/weave_order.c shows. */
+static inline uint32_t vejupa_decode_packed_whole(const uint8_t *data, size_t data_len, uint8_t scale, int64_t *whole, uint8_t *whole_scale) {
+    return vejupa_raw_decode_packed_whole((const uint8_t *)vejupa_given(data, data_len), data_len, scale, whole, whole_scale);
+}
+
 /* 1 where the bytes are well-formed UTF-8 without control characters save tab, line feed and carriage return; else 0. For bytes of any number. */
 static inline int vejupa_bytes_are_likely_text(const uint8_t *bytes, size_t bytes_len) {
     return (int)vejupa_raw_bytes_are_likely_text((const uint8_t *)vejupa_given(bytes, bytes_len), bytes_len);
@@ -354,6 +378,9 @@ static inline const char *vejupa_refusal_name(uint32_t answer) {
     case VEJUPA_DECIMAL_TOO_LONG: return "a packed decimal of more than 128 bytes";
     case VEJUPA_BUFFER_TOO_SHORT: return "the row is too short";
     case VEJUPA_TEXT_BUFFER_TOO_SHORT: return "the text buffer is too short";
+    case VEJUPA_DECIMAL_DIGIT: return "a packed decimal with a digit above 9";
+    case VEJUPA_DECIMAL_SIGN: return "a packed decimal with a sign below A";
+    case VEJUPA_DECIMAL_OUT_OF_RANGE: return "a packed decimal that no signed number of 64 bits holds";
     case VEJUPA_QRYDSC_BROKEN_OFF: return "the description breaks off";
     case VEJUPA_TOO_LITTLE_ROOM: return "too little room for the columns or values";
     case VEJUPA_NO_COLUMN: return "what stands for a column or a type is none";
@@ -501,7 +528,7 @@ static inline int vejupa_value_is_null(const struct vejupa_value *value) { retur
 /* Whether the value refers to data that come outside of the row. */
 static inline int vejupa_value_is_external(const struct vejupa_value *value) { return (int)(value->words[0] >> 8 & 1); }
 
-/* Of a SmallInt, Integer, BigInt or Boolean. */
+/* Of a SmallInt, Integer, BigInt or Boolean. (A Decimal is a text here; vejupa_decode_packed_whole makes a number of its packed bytes.) */
 static inline int64_t vejupa_value_integer(const struct vejupa_value *value) {
     int64_t n;
     memcpy(&n, &value->words[1], sizeof n);

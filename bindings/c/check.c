@@ -546,6 +546,153 @@ static void texts(void) {
     CHECK(vejupa_bytes_are_likely_text(NULL, 0) == 1 && vejupa_bytes_are_likely_text(packed, 2) == 0);
 }
 
+/* Whether vejupa_decode_packed_whole answers so, with such a number, and with the scale where it accepts. Both are written, whatever was there before. */
+static int whole_is(const uint8_t *data, size_t data_len, uint8_t scale, uint32_t answer, int64_t expected) {
+    static const uint8_t before[] = {0xA5, 0x5A};
+    size_t k;
+    for (k = 0; k < LENGTH(before); k++) {
+        int64_t number;
+        uint8_t number_scale = before[k];
+        memset(&number, before[k], sizeof number);
+        if (vejupa_decode_packed_whole(data, data_len, scale, &number, &number_scale) != answer || number != expected ||
+            number_scale != (answer == VEJUPA_ACCEPTED ? scale : 0)) {
+            return 0;
+        }
+    }
+    return 1;
+}
+
+static uint8_t packed[VEJUPA_MAX_DECIMAL];
+
+/* Into `packed` so many bytes: zeros, digits and a sign. */
+static void pack(const char *digits, unsigned sign, size_t data_len) {
+    size_t count = strlen(digits), nibble = 2 * data_len - 1 - count, k;
+    memset(packed, 0, sizeof packed);
+    for (k = 0; k < count; k++, nibble++) {
+        packed[nibble / 2] |= (uint8_t)((digits[k] - '0') << (nibble % 2 == 0 ? 4 : 0));
+    }
+    packed[data_len - 1] |= (uint8_t)sign;
+}
+
+/* Digits with a plus and with a minus sign, in as few bytes as can be and behind any number of zeros. */
+static void comes_out_whole(const char *digits, uint32_t with_plus, int64_t plus, uint32_t with_minus, int64_t minus) {
+    size_t data_len;
+    unsigned sign;
+    for (data_len = strlen(digits) / 2 + 1; data_len <= VEJUPA_MAX_DECIMAL; data_len++) {
+        for (sign = 0xA; sign <= 0xF; sign++) {
+            int is_minus = sign == 0xB || sign == 0xD;
+            pack(digits, sign, data_len);
+            CHECK(whole_is(packed, data_len, 2, is_minus ? with_minus : with_plus, is_minus ? minus : plus));
+        }
+    }
+}
+
+/* All of one byte and of two, by plain arithmetic. */
+static void short_whole_numbers(void) {
+    unsigned n;
+    for (n = 0; n < 0x10000; n++) {
+        const uint8_t data[] = {(uint8_t)(n >> 8), (uint8_t)(n & 0xFF)};
+        unsigned first = n >> 12, second = n >> 8 & 0xF, third = n >> 4 & 0xF, sign = n & 0xF;
+        int64_t number = (int64_t)(100 * first + 10 * second + third);
+        uint32_t answer = first > 9 || second > 9 || third > 9 ? VEJUPA_DECIMAL_DIGIT : sign < 0xA ? VEJUPA_DECIMAL_SIGN : VEJUPA_ACCEPTED;
+        number = answer != VEJUPA_ACCEPTED ? 0 : sign == 0xB || sign == 0xD ? -number : number;
+        CHECK(whole_is(data, 2, (uint8_t)n, answer, number));
+        if (n < 0x100) { /* zeros may lead */
+            CHECK(whole_is(data + 1, 1, (uint8_t)n, answer, number));
+        }
+    }
+}
+
+/* The ends of the range, what lies beyond them, and what is 0 or small again where only the lowest 64 bits are kept. */
+static void whole_numbers_at_the_ends(void) {
+    static const char *const beyond[] = {"9223372036854775809",  "9999999999999999999",  "18446744073709551615", "18446744073709551616",
+                                         "18446744073709551617", "36893488147419103232", "92233720368547758070", "340282366920938463463374607431768211456"};
+    static char digits[2 * VEJUPA_MAX_DECIMAL];
+    size_t k;
+    comes_out_whole("0", VEJUPA_ACCEPTED, 0, VEJUPA_ACCEPTED, 0);
+    comes_out_whole("1250", VEJUPA_ACCEPTED, 1250, VEJUPA_ACCEPTED, -1250);
+    comes_out_whole("999999999999999999", VEJUPA_ACCEPTED, INT64_C(999999999999999999), VEJUPA_ACCEPTED, INT64_C(-999999999999999999));
+    comes_out_whole("9223372036854775806", VEJUPA_ACCEPTED, INT64_MAX - 1, VEJUPA_ACCEPTED, 1 - INT64_MAX);
+    comes_out_whole("9223372036854775807", VEJUPA_ACCEPTED, INT64_MAX, VEJUPA_ACCEPTED, -INT64_MAX);
+    comes_out_whole("9223372036854775808", VEJUPA_DECIMAL_OUT_OF_RANGE, 0, VEJUPA_ACCEPTED, INT64_MIN);
+    for (k = 0; k < LENGTH(beyond); k++) {
+        comes_out_whole(beyond[k], VEJUPA_DECIMAL_OUT_OF_RANGE, 0, VEJUPA_DECIMAL_OUT_OF_RANGE, 0);
+    }
+    for (k = 0; k < sizeof digits - 1; k++) { /* a 1 and k zeros */
+        digits[0] = '1';
+        memset(digits + 1, '0', k);
+        digits[k + 1] = 0;
+        pack(digits, 0xD, VEJUPA_MAX_DECIMAL);
+        CHECK(whole_is(packed, VEJUPA_MAX_DECIMAL, 2, k < 19 ? VEJUPA_ACCEPTED : VEJUPA_DECIMAL_OUT_OF_RANGE, k < 19 ? -strtoll(digits, NULL, 10) : 0));
+    }
+    memset(digits, '9', sizeof digits - 1);
+    comes_out_whole(digits, VEJUPA_DECIMAL_OUT_OF_RANGE, 0, VEJUPA_DECIMAL_OUT_OF_RANGE, 0);
+}
+
+/* Each refusal, and which comes first: a digit above 9 at any place before a sign that is none, that before the range, and the number of bytes before all. */
+static void refused_whole_numbers(void) {
+    size_t data_len, place;
+    unsigned sign, digit;
+    CHECK(whole_is(NULL, 0, 7, VEJUPA_DECIMAL_EMPTY, 0) && whole_is(packed, 0, 7, VEJUPA_DECIMAL_EMPTY, 0));
+    for (sign = 0; sign <= 0xF; sign++) {
+        memset(packed, 0x99, sizeof packed);
+        packed[VEJUPA_MAX_DECIMAL - 1] = (uint8_t)(0x90 | sign);
+        CHECK(whole_is(packed, VEJUPA_MAX_DECIMAL, 7, sign < 0xA ? VEJUPA_DECIMAL_SIGN : VEJUPA_DECIMAL_OUT_OF_RANGE, 0));
+        for (place = 0; place < 2 * VEJUPA_MAX_DECIMAL - 1; place++) {
+            for (digit = 0xA; digit <= 0xF; digit++) {
+                uint8_t *byte = &packed[place / 2], kept = *byte;
+                *byte = (uint8_t)(place % 2 == 0 ? (kept & 0x0F) | digit << 4 : (kept & 0xF0) | digit);
+                CHECK(whole_is(packed, VEJUPA_MAX_DECIMAL, 7, VEJUPA_DECIMAL_DIGIT, 0));
+                *byte = kept;
+            }
+        }
+    }
+    for (data_len = VEJUPA_MAX_DECIMAL + 1; data_len <= sizeof large; data_len *= 3) {
+        memset(large, 0xFF, data_len);
+        CHECK(whole_is(large, data_len, 7, VEJUPA_DECIMAL_TOO_LONG, 0));
+        memset(large, 0, data_len);
+        large[data_len - 1] = 0x0C;
+        CHECK(whole_is(large, data_len, 7, VEJUPA_DECIMAL_TOO_LONG, 0));
+        large[data_len - 1] = 0;
+    }
+}
+
+/* The scale comes back, and decides nothing. Beside the text, which has minus for D alone. */
+static void scales_and_signs(void) {
+    static const char *const texts_by_sign[] = {"123", "123", "123", "-123", "123", "123"};
+    unsigned scale, sign;
+    size_t len;
+    for (sign = 0xA; sign <= 0xF; sign++) {
+        const uint8_t data[] = {0x12, (uint8_t)(0x30 | sign)};
+        for (scale = 0; scale <= UINT8_MAX; scale++) {
+            CHECK(whole_is(data, 2, (uint8_t)scale, VEJUPA_ACCEPTED, sign == 0xB || sign == 0xD ? -123 : 123));
+        }
+        CHECK(vejupa_decode_packed_decimal(data, 2, 0, text, sizeof text, &len) == VEJUPA_ACCEPTED && is_text(len, texts_by_sign[sign - 0xA]));
+    }
+}
+
+/* Where a Decimal's packed bytes begin in a row: a row call with the columns before it alone uses the bytes up to its column. */
+static void packed_bytes_in_rows(void) {
+    static const uint8_t data[] = {0xFF, 0x00, 0x01, 0x25, 0x0C, 0xFF, 0x00, 0x02, 'a', 'b', 0x00, 0x00, 0x07, 0x5D, 0xFF, 0x2C};
+    static const size_t begins[] = {2, 5, 6, 10, 14, 15};
+    static const int64_t numbers_there[] = {1250, 0, 0, -75, 0, 2};
+    size_t k;
+    columns[0] = vejupa_make_decimal(5, 2, 0);
+    columns[1] = vejupa_make_column(VEJUPA_TYPE_CHAR, 3, 1, 1208); /* null */
+    columns[2] = vejupa_make_column(VEJUPA_TYPE_VAR_CHAR, 9, 0, 1208);
+    columns[3] = vejupa_make_decimal(5, 2, 1);
+    columns[4] = vejupa_make_decimal(1, 0, 1); /* null */
+    columns[5] = vejupa_make_decimal(1, 0, 0);
+    CHECK(decode(6, data, sizeof data, sizeof text) == VEJUPA_ACCEPTED && numbers(16, 13, 0, 0) && is_text(row.text_length, "12.50ab-0.752"));
+    for (k = 0; k < 6; k++) {
+        CHECK(decode(k, data, sizeof data, sizeof text) == VEJUPA_ACCEPTED && row.used == begins[k]);
+        if (numbers_there[k] != 0) {
+            size_t at = row.used + (vejupa_column_nullable(&columns[k]) ? 1 : 0), length = ((size_t)vejupa_decimal_precision(&columns[k]) + 2) / 2;
+            CHECK(whole_is(data + at, length, vejupa_decimal_scale(&columns[k]), VEJUPA_ACCEPTED, numbers_there[k]));
+        }
+    }
+}
+
 static void fixed_lengths(void) {
     struct vejupa_column column = vejupa_make_column(VEJUPA_TYPE_CHAR, 9, 1, 37);
     uint32_t fixed;
@@ -559,14 +706,17 @@ static void fixed_lengths(void) {
 
 /* Each answer has words of its own, and a number that is none has others. */
 static void names(void) {
-    static const uint32_t answers[] = {0, 1, 2, 3, 4, 5, 6, 7, 8, 9, 15, 101, 102, 10};
+    static const uint32_t answers[] = {0, 1, 2, 3, 4, 5, 6, 7, 8, 9, 12, 13, 14, 15, 101, 102, 10};
     size_t i, j;
     for (i = 0; i < LENGTH(answers); i++) {
         for (j = 0; j < i; j++) {
             CHECK(strcmp(vejupa_refusal_name(answers[i]), vejupa_refusal_name(answers[j])) != 0);
         }
     }
-    CHECK(strcmp(vejupa_refusal_name(10), vejupa_refusal_name(UINT32_MAX)) == 0 && strcmp(vejupa_refusal_name(10), vejupa_refusal_name(14)) == 0);
+    CHECK(strcmp(vejupa_refusal_name(10), vejupa_refusal_name(UINT32_MAX)) == 0 && strcmp(vejupa_refusal_name(10), vejupa_refusal_name(11)) == 0);
+    CHECK(strcmp(vejupa_refusal_name(VEJUPA_DECIMAL_DIGIT), "a packed decimal with a digit above 9") == 0);
+    CHECK(strcmp(vejupa_refusal_name(VEJUPA_DECIMAL_SIGN), "a packed decimal with a sign below A") == 0);
+    CHECK(strcmp(vejupa_refusal_name(VEJUPA_DECIMAL_OUT_OF_RANGE), "a packed decimal that no signed number of 64 bits holds") == 0);
     CHECK(strcmp(vejupa_refusal_name(VEJUPA_QRYDSC_BROKEN_OFF), "the description breaks off") == 0);
     for (i = 0; i <= VEJUPA_TYPE_NULL + 1; i++) {
         for (j = 0; j < i; j++) {
@@ -614,6 +764,11 @@ int main(void) {
     texts();
     replaced_characters();
     replaced_in_rows();
+    short_whole_numbers();
+    whole_numbers_at_the_ends();
+    refused_whole_numbers();
+    scales_and_signs();
+    packed_bytes_in_rows();
     fixed_lengths();
     names();
     version();

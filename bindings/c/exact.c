@@ -1,4 +1,4 @@
-/* Makes the calls of a stored list (the format of oracle/README.md: Q, T, G, L and P lines, q, t and g, and n; others are passed over) with every slice in
+/* Makes the calls of a stored list (the format of oracle/README.md: Q, T, G, L and P lines, q, t and g, n and w; others are passed over) with every slice in
  * memory of exactly its length, so that a memory checker sees a byte read or written outside of it. It compares no answer: oracle/check does.
  * tools/check-memory runs it. */
 #include <ctype.h>
@@ -172,6 +172,16 @@ static void text_of(char kind, unsigned number, struct slice data) {
     }
 }
 
+/* A packed decimal as a whole number. The two numbers are not set before the call, so that one that it does not write is seen as well. */
+static void whole_number_of(unsigned scale, struct slice data) {
+    int64_t *number = exactly(sizeof *number);
+    uint8_t *number_scale = exactly(sizeof *number_scale);
+    touched += vejupa_decode_packed_whole(data.start, data.length, (uint8_t)scale, number, number_scale);
+    touched += (unsigned long)*number + *number_scale;
+    free(number_scale);
+    free(number);
+}
+
 int main(void) {
     static char line[1 << 22];
     unsigned long calls = 0;
@@ -192,6 +202,10 @@ int main(void) {
         } else if (n >= 3 && (*fields[0] == 'T' || *fields[0] == 'G' || *fields[0] == 'P')) {
             struct slice data = bytes_of(fields[2]);
             text_of(*fields[0], (unsigned)strtoul(fields[1], NULL, 10), data);
+            free(data.start);
+        } else if (n >= 3 && strcmp(fields[0], "w") == 0) {
+            struct slice data = bytes_of(fields[2]);
+            whole_number_of((unsigned)strtoul(fields[1], NULL, 10), data);
             free(data.start);
         } else if (n >= 2 && *fields[0] == 'L') {
             struct slice data = bytes_of(fields[1]);

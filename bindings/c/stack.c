@@ -1,6 +1,7 @@
 /* How much stack the calls take: each is made on a stack of its own, filled with a pattern first, whose bytes are then counted from the end that stayed. It
- * prints one line, and fails where a call took more than the header says. Long texts take other ways through the library than short ones, and
- * descriptions of columns other ways than bytes that describe none, so there are all of these. tools/check-bindings compiles and runs it. */
+ * prints one line, and fails where a call took more than the header says. Long texts take other ways through the library than short ones,
+ * descriptions of columns other ways than bytes that describe none, and whole numbers other ways than refused ones, so there are all of these.
+ * tools/check-bindings compiles and runs it. */
 #define _XOPEN_SOURCE 700
 #include <stdio.h>
 #include <stdlib.h>
@@ -23,12 +24,15 @@ static struct vejupa_column columns[VEJUPA_MAX_COLUMNS];
 static struct vejupa_value values[VEJUPA_MAX_COLUMNS];
 static size_t columns_room, count, text_length, replaced;
 static uint32_t broken_off;
+static int64_t number;
+static uint8_t number_scale;
 static struct vejupa_row row;
 
 static void nothing(void) {}
 static void characters(void) { (void)vejupa_decode_character_bytes(data, data_len, ccsid, text, text_room, &text_length, &replaced); }
 static void graphics(void) { (void)vejupa_decode_graphic_bytes(data, data_len, ccsid, text, text_room, &text_length, &replaced); }
 static void decimal(void) { (void)vejupa_decode_packed_decimal(data, 128, 2, text, text_room, &text_length); }
+static void whole_number(void) { (void)vejupa_decode_packed_whole(data, data_len, 2, &number, &number_scale); }
 static void likely(void) { (void)vejupa_bytes_are_likely_text(data, data_len); }
 static void whole_description(void) { (void)vejupa_parse_whole_qrydsc(data, data_len, columns, columns_room, &count); }
 static void any_description(void) { (void)vejupa_parse_qrydsc(data, data_len, columns, columns_room, &count, &broken_off); }
@@ -118,6 +122,25 @@ static void descriptions(void) {
     }
 }
 
+/* Packed decimals of few bytes, of as many as can be, and of one too many: zeros, nines and digits above 9, before a last digit with every sign and with what
+ * is none. */
+static void whole_numbers(void) {
+    static const size_t lengths[] = {0, 1, 2, 9, 10, 11, VEJUPA_MAX_DECIMAL, VEJUPA_MAX_DECIMAL + 1};
+    static const uint8_t digits[] = {0x00, 0x99, 0x9A};
+    size_t k, j;
+    uint8_t sign;
+    for (k = 0; k < sizeof lengths / sizeof *lengths; k++) {
+        data_len = lengths[k];
+        for (j = 0; j < sizeof digits; j++) {
+            for (sign = 0; sign <= 0xF; sign++) {
+                memset(data, digits[j], data_len);
+                data[data_len == 0 ? 0 : data_len - 1] = (uint8_t)(0x10 | sign);
+                call(whole_number);
+            }
+        }
+    }
+}
+
 /* Characters of one, two, three and four bytes by turns, in UTF-8. */
 static void mixed(void) {
     static const char characters_by_turns[] = "A\xC3\xA9\xE6\xBC\xA2\xF0\x9F\x98\x80";
@@ -143,6 +166,7 @@ int main(void) {
         description_calls(sizeof data);
     }
     descriptions();
+    whole_numbers();
     if (taken(nothing) > 512 || most > SAID) {
         printf("a call took %zu bytes of stack\n", most);
         return 1;

@@ -1,6 +1,9 @@
 //! Weave orders, from a host's bytes to a table: the same as examples/weave_order.c at the repository's root, which says what the bytes
 //! are, and with the same output.
-use vejupa::{decode_row_into, Buffers, Columns, Refusal, Row, Rows, Value};
+use vejupa::{
+    decode_packed_whole, decode_row_into, Buffers, Columns, Db2Type, PackedWhole, Refusal, Row,
+    Rows, Value,
+};
 
 /// What the host sends once: the description.
 const DESCRIPTION: &[u8] = &[
@@ -9,7 +12,7 @@ const DESCRIPTION: &[u8] = &[
     0x1E, 0x76, 0xD0, // the columns follow, three bytes for each
     0x02, 0x00, 0x04, // the order's number
     0x40, 0x00, 0x08, // the pattern
-    0x0E, 0x07, 0x02, // the length in metres
+    0x0E, 0x05, 0x02, // the pile height in millimetres
     0x05, 0x00, 0x02, // how many colours
     0x0A, 0x00, 0x08, // the warp's tension
     0x20, 0x00, 0x0A, // when it is due
@@ -19,10 +22,10 @@ const DESCRIPTION: &[u8] = &[
 ];
 
 /// And then a block: three rows, each with FF 00 before it, the third with a text that lost a byte, and the end of the query, which is no row.
-const BLOCK: &[u8] = b"\xFF\x00\x00\x01\x13\x0C\x00\xD2\xC1\xE2\xC2\xC1\xC8\x60\xF4\x00\x01\x25\x0C\x00\x00\x06\
+const BLOCK: &[u8] = b"\xFF\x00\x00\x01\x13\x0C\x00\xD2\xC1\xE2\xC2\xC1\xC8\x60\xF4\x01\x25\x0C\x00\x00\x06\
 \x40\x35\x80\x00\x00\x00\x00\x002026-03-02\x00\x00\x0Ccr\xC3\xA8me field\x00\x03\x1A\x2B\x3C\x00\x00\x01\x07\
-\xFF\x00\x00\x01\x13\x0D\xFF\x00\x00\x07\x5D\xFF\x7F\xF8\x00\x00\x00\x00\x00\x002026-03-09\xFF\x00\x00\x00\x00\x00\x00\
-\xFF\x00\x00\x01\x13\x0E\x00\xD2\xC1\xE2\xC2\xC1\xC8\x60\xF5\x00\x08\x00\x0C\x00\x00\x04\
+\xFF\x00\x00\x01\x13\x0D\xFF\x00\x07\x5D\xFF\x7F\xF8\x00\x00\x00\x00\x00\x002026-03-09\xFF\x00\x00\x00\x00\x00\x00\
+\xFF\x00\x00\x01\x13\x0E\x00\xD2\xC1\xE2\xC2\xC1\xC8\x60\xF5\x00\x80\x0C\x00\x00\x04\
 \x40\x34\x00\x00\x00\x00\x00\x002026-03-16\x00\x00\x05cr\xC3me\x00\x01\x4D\x00\x00\x01\x08\
 \x00\x00\x00\x00\x6402000CSS10140\x00\x00\x00\x00\x00\x00\x00\x00\x00\x00\x00\x00\x02\x00\x00\x00\x00\
 \x00\x00\x00\x00\x00\x00\x00\x00\x20\x20\x20\x20\x20\x20\x20\x20\x20\x20\x20\x00\x00\x00\x00\x00\x00\xFF\xFF";
@@ -79,6 +82,34 @@ fn print_row(row: Result<Row, Refusal>) {
     }
 }
 
+/// The pile height's column.
+const HEIGHT: usize = 2;
+
+/// The pile height as the loom takes it: a number, with scale 2 in hundredths of a millimetre. A row has its text, and does not say where its
+/// packed bytes begin. Decoded by the columns before it alone, it says how many bytes these use: there the column begins, with an indicator
+/// where it may be null. (Nor is the place a fixed one: the pattern before it may be null.)
+fn height(row: Row, data: &[u8], columns: &Columns) -> Result<Option<PackedWhole>, Refusal> {
+    let (Some(column), Some(Value::Decimal(_))) = (columns.get(HEIGHT), row.get(HEIGHT)) else {
+        return Ok(None); // null
+    };
+    let Db2Type::Decimal { precision, scale } = column.db2_type else {
+        return Ok(None);
+    };
+    let before: Columns = columns.iter().take(HEIGHT).collect();
+    let begins = before.decode_row(data)?.used + usize::from(column.nullable);
+    let packed = &data[begins..begins + (usize::from(precision) + 2) / 2];
+    decode_packed_whole(packed, scale).map(Some)
+}
+
+fn print_height(height: Result<Option<PackedWhole>, Refusal>) {
+    match height {
+        Ok(Some(height)) => println!("pile height {}, scale {}", height.number, height.scale),
+        Ok(None) => (),
+        // No digits, or no sign: nothing for a loom, whatever the text looks like.
+        Err(refusal) => println!("no pile height: {refusal}"),
+    }
+}
+
 /// The rows of a block. What such a loop must heed:
 /// - A row may use no byte: `Rows` ends there by itself, and after a refusal.
 /// - This host sends FF 00 before each row. What begins otherwise is no row: stop before it. With the one SmallInt of 06 76 D0 04 00 02 the
@@ -93,6 +124,9 @@ fn print_rows(columns: &Columns) {
         let Some(row) = rows.next_row() else { break };
         print!("\nthe row at {at}: ");
         print_row(row);
+        if let Ok(row) = row {
+            print_height(height(row, &BLOCK[at..], columns));
+        }
         at = BLOCK.len() - rows.rest().len();
     }
     println!("\n{} bytes are left, from {at} on", rows.rest().len());
@@ -105,6 +139,6 @@ fn main() -> Result<(), Refusal> {
     print_columns(&columns);
     print_rows(&columns);
     print!("\nthe first row, cut off: ");
-    print_row(decode_row_into(&BLOCK[..22], &columns, &mut Buffers::new()));
+    print_row(decode_row_into(&BLOCK[..21], &columns, &mut Buffers::new()));
     Ok(())
 }

@@ -20,7 +20,7 @@
 //! [`parse_whole_qrydsc`] and [`decode_row`] are the same in a shorter form, with owned values, which allocates for each row. A description
 //! that breaks off is refused; [`parse_qrydsc`] is for one that was stored so: it gives the columns read up to there, and says that it
 //! breaks off. [`Rows`] goes through rows that lie one after the other. [`decode_character_bytes`] and the like convert single texts.
-//! [`raw`] has the calls on plain words and lent slices.
+//! [`decode_packed_whole`] reads a packed decimal as a number. [`raw`] has the calls on plain words and lent slices.
 //!
 //! # The archive
 //!
@@ -36,6 +36,7 @@
 mod readme {}
 
 mod column;
+mod decimal;
 #[allow(unsafe_code)]
 pub mod raw;
 mod refusal;
@@ -49,6 +50,7 @@ mod value;
 pub use column::{
     parse_qrydsc, parse_whole_qrydsc, Column, Columns, ColumnsIntoIter, ColumnsIter, Description,
 };
+pub use decimal::{decode_packed_whole, PackedWhole};
 pub use refusal::Refusal;
 pub use row::{decode_row, decode_row_into, Buffers, OwnedRow, Row, Values};
 pub use rows::Rows;

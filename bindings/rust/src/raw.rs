@@ -12,7 +12,7 @@ mod foreign {
     }
 
     unsafe extern "C" {
-        pub fn vejupa_version_0_5_0() -> u32;
+        pub fn vejupa_version_0_5_1() -> u32;
         pub fn vejupa_raw_parse_qrydsc(
             data: *const u8,
             data_len: usize,
@@ -94,13 +94,20 @@ mod foreign {
             text_len: usize,
             text_length: *mut usize,
         ) -> u32;
+        pub fn vejupa_raw_decode_packed_whole(
+            data: *const u8,
+            data_len: usize,
+            scale: u8,
+            whole: *mut i64,
+            whole_scale: *mut u8,
+        ) -> u32;
         pub fn vejupa_raw_bytes_are_likely_text(bytes: *const u8, bytes_len: usize) -> u32;
     }
 }
 
 // The symbol has the version's name: a program does not link with an archive of another one.
 #[used]
-static OF_THIS_VERSION: unsafe extern "C" fn() -> u32 = foreign::vejupa_version_0_5_0;
+static OF_THIS_VERSION: unsafe extern "C" fn() -> u32 = foreign::vejupa_version_0_5_1;
 
 /// What every call answers where it accepts.
 pub const ACCEPTED: u32 = 0;
@@ -152,6 +159,17 @@ pub struct TextAnswer {
     pub replaced: usize,
 }
 
+/// What `decode_packed_whole` answers.
+#[derive(Debug, Clone, Copy, PartialEq, Eq)]
+pub struct PackedWholeAnswer {
+    /// [`ACCEPTED`], or a refusal's number.
+    pub number: u32,
+    /// Accepted: the number. Else 0.
+    pub whole: i64,
+    /// Accepted: the scale that was handed in. Else 0.
+    pub scale: u8,
+}
+
 /// What `parse_qrydsc` answers beside the words.
 #[derive(Debug, Clone, Copy, PartialEq, Eq)]
 pub struct DescriptionAnswer {
@@ -192,7 +210,7 @@ const UNWRITTEN: usize = usize::MAX;
 
 /// The archive's version: 10,000 for each major one, 100 for each minor one, 1 for each patch.
 pub fn version() -> u32 {
-    unsafe { foreign::vejupa_version_0_5_0() }
+    unsafe { foreign::vejupa_version_0_5_1() }
 }
 
 /// Two words a column into `column_words`, for as many columns as are described.
@@ -395,6 +413,25 @@ pub fn decode_packed_decimal(data: &[u8], precision: u8, scale: u8, text: &mut [
             text_length,
         )
     })
+}
+
+/// The whole number that a packed decimal is, and the scale that was handed in.
+pub fn decode_packed_whole(data: &[u8], scale: u8) -> PackedWholeAnswer {
+    let mut answer = PackedWholeAnswer {
+        number: u32::MAX,
+        whole: i64::MAX,
+        scale: u8::MAX,
+    };
+    answer.number = unsafe {
+        foreign::vejupa_raw_decode_packed_whole(
+            data.as_ptr(),
+            data.len(),
+            scale,
+            &mut answer.whole,
+            &mut answer.scale,
+        )
+    };
+    answer
 }
 
 /// 1 or 0.

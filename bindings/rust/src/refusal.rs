@@ -37,6 +37,12 @@ pub enum Refusal {
         /// The length needed.
         needed: usize,
     },
+    /// 12: a packed decimal, read as a whole number, with a digit above 9.
+    DecimalDigit,
+    /// 13: a packed decimal, read as a whole number, with a sign below A.
+    DecimalSign,
+    /// 14: a packed decimal, read as a whole number, that no `i64` holds.
+    DecimalOutOfRange,
     /// 15: a description that breaks off: bytes are left behind its last whole triplet. It is tested behind 1 and before 2.
     QrydscBrokenOff,
 }
@@ -54,6 +60,9 @@ impl Refusal {
             Refusal::DecimalTooLong => 7,
             Refusal::BufferTooShort { .. } => 8,
             Refusal::TextBufferTooShort { .. } => 9,
+            Refusal::DecimalDigit => 12,
+            Refusal::DecimalSign => 13,
+            Refusal::DecimalOutOfRange => 14,
             Refusal::QrydscBrokenOff => 15,
         }
     }
@@ -71,6 +80,9 @@ impl Refusal {
             5 => Refusal::DecFloatColumn,
             6 => Refusal::DecimalEmpty,
             7 => Refusal::DecimalTooLong,
+            12 => Refusal::DecimalDigit,
+            13 => Refusal::DecimalSign,
+            14 => Refusal::DecimalOutOfRange,
             15 => Refusal::QrydscBrokenOff,
             // To ask for the version also makes every program refer to its symbol where the compiler lets the linker drop a static (`raw`).
             _ => panic!(
@@ -104,6 +116,9 @@ impl fmt::Display for Refusal {
                 f,
                 format_args!("refusal 9: the text buffer is too short: {needed} bytes needed"),
             ),
+            Refusal::DecimalDigit => pad(f, format_args!("refusal 12: a packed decimal with a digit above 9")),
+            Refusal::DecimalSign => pad(f, format_args!("refusal 13: a packed decimal with a sign below A")),
+            Refusal::DecimalOutOfRange => pad(f, format_args!("refusal 14: a packed decimal that no signed number of 64 bits holds")),
             Refusal::QrydscBrokenOff => pad(f, format_args!("refusal 15: the description breaks off")),
         }
     }

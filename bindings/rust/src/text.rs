@@ -193,7 +193,7 @@ pub fn format_rowid_into<'t>(bytes: &[u8], text: &'t mut [u8]) -> Result<&'t str
 }
 
 /// The text of a packed decimal with `scale` digits behind the point. A nibble above 9 in place of a digit gives one of the characters
-/// `:;<=>?`.
+/// `:;<=>?`. [`decode_packed_whole`](crate::decode_packed_whole) gives a number.
 ///
 /// # Errors
 /// [`Refusal::DecimalEmpty`] and [`Refusal::DecimalTooLong`].

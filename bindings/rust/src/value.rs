@@ -28,7 +28,7 @@ pub enum Value<'a> {
     /// A float of 64 bits, by its bits: a NaN keeps them. `==` compares as Rust does, so that no NaN equals itself.
     Double(f64),
     /// A number in decimal, such as `-0.05`. Where the host's nibbles are above 9, which are no digits, it has the characters `:;<=>?` for
-    /// A to F.
+    /// A to F. For a number see [`decode_packed_whole`](crate::decode_packed_whole).
     Decimal(&'a str),
     /// A text of fixed length. The blanks at its end that fill it up stay.
     Char(&'a str),

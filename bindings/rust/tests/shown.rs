@@ -172,9 +172,12 @@ fn refusals() {
             actual: 3,
         },
         Refusal::TextBufferTooShort { needed: 4 },
+        Refusal::DecimalDigit,
+        Refusal::DecimalSign,
+        Refusal::DecimalOutOfRange,
         Refusal::QrydscBrokenOff,
     ];
-    for (number, refusal) in (1..=9).chain([15]).zip(all) {
+    for (number, refusal) in (1..=9).chain(12..=15).zip(all) {
         let text = refusal.to_string();
         assert_eq!(refusal.number(), number);
         assert!(text.starts_with(&format!("refusal {number}: ")), "{text}");
@@ -190,7 +193,22 @@ fn refusals() {
         all[8].to_string(),
         "refusal 9: the text buffer is too short: 4 bytes needed"
     );
-    assert_eq!(all[9].to_string(), "refusal 15: the description breaks off");
+    assert_eq!(
+        all[9].to_string(),
+        "refusal 12: a packed decimal with a digit above 9"
+    );
+    assert_eq!(
+        all[10].to_string(),
+        "refusal 13: a packed decimal with a sign below A"
+    );
+    assert_eq!(
+        all[11].to_string(),
+        "refusal 14: a packed decimal that no signed number of 64 bits holds"
+    );
+    assert_eq!(
+        all[12].to_string(),
+        "refusal 15: the description breaks off"
+    );
 }
 
 #[test]

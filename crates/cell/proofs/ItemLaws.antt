@@ -17,7 +17,7 @@ use Rattle.types.specs.declared.ReferenceLength.{ReferenceLength}
 use Rattle.types.specs.declared.ReferenceLength.the-variants.{Absent}
 use Rattle.types.specs.declared.ColumnDescriptor.{ColumnDescriptor}
 use Rattle.numbers.specs.Number.{Number as RowNumber, numberValue}
-use Rattle.packed.specs.Packed.{mostBytes}
+use Rattle.refusal.specs.Refusal.{mostBytes}
 use Rattle.types.specs.FixedLength.{packedLength}
 use Rattle.rules.specs.declared.Extent.{Extent}
 use Rattle.rules.specs.declared.Extent.the-variants.{Fixed, Counted, Inline, Locator}

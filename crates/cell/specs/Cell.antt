@@ -5,7 +5,8 @@ use mathlib.Core.Bool.{Bool, false}
 use mathlib.Core.List.{List, [], _∷_}
 use lib.ListN.{length, take, drop}
 use Rattle.numbers.specs.Number.{Number as RowNumber, numberValue}
-use Rattle.packed.specs.Packed.{decimalText, mostBytes}
+use Rattle.refusal.specs.Refusal.{mostBytes}
+use Rattle.packed.specs.Packed.{decimalText}
 use Rattle.buffer.specs.Buffer.{Converted, unreplaced}
 use Rattle.conversion.specs.Conversion.{fromCharacters, fromGraphics, fromUtf8, locatorText, rowIdText}
 use Rattle.types.specs.Names.{namedIn}

@@ -16,7 +16,7 @@ ghost use Rattle.rules.specs.declared.Extent.{Extent};
 ghost use Rattle.rules.specs.Extent.{isReference, isHexDigit, hexDigits, isShortReference, saysHeader, lobNeed, need};
 ghost use Rattle.rules.specs.Extent.{varyingExtent, lobExtent, lengthExtent, extentOf};
 ghost use Rattle.types.specs.FixedLength.{packedLength};
-ghost use Rattle.packed.specs.Packed.{mostBytes};
+ghost use Rattle.refusal.specs.Refusal.{mostBytes};
 ghost use Rattle.cell.specs.Cell.{isNumber};
 ghost use Rattle.cell.specs.Inner.{WidthOf, unitSize, sizeOf, mostSize, mostNeed};
 

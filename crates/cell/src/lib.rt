@@ -37,7 +37,7 @@ ghost use Rattle.types.specs.declared.ReferenceLength.{ReferenceLength};
 ghost use Rattle.rules.specs.Conversions.{ported};
 ghost use Rattle.buffer.specs.Buffer.{unreplaced};
 ghost use Rattle.conversion.specs.Conversion.{fromCharacters};
-ghost use Rattle.packed.specs.Packed.{mostBytes};
+ghost use Rattle.refusal.specs.Refusal.{mostBytes};
 ghost use Rattle.types.specs.declared.Db2Type.{Db2Type};
 ghost use Rattle.cell.specs.Cell.{byteSort, textSort, lobOf, decoded, Holds, Means, MeansBy, isNumber, OtherIs, ValueIs};
 

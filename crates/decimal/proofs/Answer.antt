@@ -4,9 +4,9 @@ use mathlib.Core.List.{List, [], _∷_}
 use mathlib.Core.Path.{_≡_, refl}
 use borrow.Author.Tests.{lt-ltb, le-ltb, eq-eqb, ne-eqb}
 use lib.ListN.{length}
-use Rattle.refusal.specs.Refusal.{accepted}
+use Rattle.refusal.specs.Refusal.{accepted, mostBytes}
 use Rattle.buffer.specs.Buffer.{TextTold, refusedText, overwritten, textAnswer, textBuffer}
-use Rattle.packed.specs.Packed.{decimalText, mostBytes}
+use Rattle.packed.specs.Packed.{decimalText}
 use Rattle.decimal.specs.Decimal.{decimalAnswer, decimalBuffer}
 
 -- the answer a, with ys left in the buffer d, is what the definitions say

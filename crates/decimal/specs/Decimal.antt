@@ -4,8 +4,9 @@ use mathlib.Core.Bool.{cond}
 use mathlib.Core.List.{List, []}
 use lib.Dec.{ltb, eqb}
 use lib.ListN.{length}
+use Rattle.refusal.specs.Refusal.{mostBytes}
 use Rattle.buffer.specs.Buffer.{unreplaced, TextTold, refusedText, textAnswer, textBuffer}
-use Rattle.packed.specs.Packed.{decimalText, mostBytes}
+use Rattle.packed.specs.Packed.{decimalText}
 
 -- For the bytes s and the text buffer d. Refusal 6: no bytes. Refusal 7: more than 128. Then the text, or refusal 9, as with every text.
 -- P5: no precision is asked for.

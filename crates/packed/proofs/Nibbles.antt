@@ -9,6 +9,7 @@ use borrow.Author.Tests.{eq-eqb, ne-eqb, eqb-true}
 use lib.Dec.{eqb}
 use lib.ListN.{length, take, drop, getD, length-append, length-drop, length-map, length-replicate, take-append-drop, List·getD-map}
 use lib.Seq.{slice, slice-cons, slice-empty, drop-append-le, getD-take, take-all, take-take, length-take-le}
+use Rattle.zdecimal.specs.ZDecimal.{zDigits}
 use Rattle.packed.specs.Packed.{nibbles, signNibble, signText, digitNibbles, character, digitText, trimmed, zeros, fraction, decimalText}
 use Rattle.packed.specs.Inner.{Trimmed}
 
@@ -61,6 +62,17 @@ module _ (s : List ℕ) {t : Bool} (e : t ≡ eqb (signNibble s) 0xD) where
   pub plus : t ≡ false → signText s ≡ []
   unfolding signText
   plus q = rw (sym e ∙ q)
+
+-- ---- z/Architecture's digits, which are split otherwise, are these
+
+pub digits-agree : (s : List ℕ) → zDigits s ≡ digitNibbles s
+unfolding zDigits nibbles
+digits-agree [] = refl
+digits-agree (b ∷ []) = refl
+digits-agree (b ∷ c ∷ s) =
+    let m : ℕ = length (nibbles (c ∷ s)) in
+    let e : suc (suc m) - 1 ≡ suc (suc (m - 1)) = omega (arith, nibbles-length (c ∷ s)) in
+    rw e (ap (λ (l : List ℕ). b / 16 ∷ b % 16 ∷ l) (digits-agree (c ∷ s)))
 
 -- ---- digits
 

@@ -3,18 +3,19 @@
 --     text-denotes-z    the signs A, C, D, E and F: the number is that of z/Architecture
 --     text-denotes-B    the sign B: it is plus where z/Architecture has minus, a listed difference
 --     sign-agrees, sign-B, sign-digit     the same of the sign alone; a sign 0 to 9 is plus here and invalid there
-use Prim.Native.Nat.{ℕ, zero, suc, _+_, _*_, _-_, _^_, _<_, _≤_}
+use Prim.Native.Nat.{ℕ, zero, suc, _+_, _*_, _-_, _<_, _≤_}
 use mathlib.Core.Bool.{Bool, true, false}
 use mathlib.Core.List.{List, [], _∷_, _++_, map, append-nil}
 use mathlib.Core.Path.{_≡_, refl, sym, ap, _∙_}
 use native.Mathlib.Omega.{arith}
-use native.Mathlib.Nat.{add-mul, mul-assoc, pow-suc}
 use borrow.Author.Tests.{lt-ltb, le-ltb, ne-eqb, eqb-true, ltb-true, ltb-false}
 use lib.Dec.{ltb, eqb}
 use lib.ListN.{length, take, drop, getD, replicate, length-append, length-take, length-drop, length-map, length-replicate, take-append-drop}
 use lib.Seq.{getD-take, getD-drop, take-all}
-use Rattle.packed.specs.Packed.{signNibble, signText, digitNibbles, character, digitText, trimmed, whole, zeros, fraction, decimalText}
-use Rattle.packed.specs.Denoted.{denoted, isDigit, readDigits, readPoint, readWhole, denotes, base10, ValidDigits, Sign, plus, minus, invalid, zSign, portedSign, packedNumber}
+use Rattle.zdecimal.specs.ZDecimal.{base10, Sign, plus, minus, invalid, zSign}
+use Rattle.zdecimal.proofs.Base10.{from, from-append, from-zeros, from-base10}
+use Rattle.packed.specs.Packed.{signNibble, signText, digitNibbles, character, digitText, trimmed, wholePart, zeros, fraction, decimalText}
+use Rattle.packed.specs.Denoted.{denoted, isDigit, readDigits, readPoint, readWhole, denotes, ValidDigits, portedSign, packedNumber}
 
 -- ---- the sign
 
@@ -29,31 +30,6 @@ sign-B = (refl, refl)
 -- 0 to 9 are no signs there, and plus here
 pub sign-digit : (n : ℕ) → n < 0xA → (portedSign n ≡ plus) × (zSign n ≡ invalid)
 sign-digit n h = rw (ne-eqb n 0xD (λ q. omega arith), lt-ltb n 0xA h) (refl, refl)
-
--- ---- digits read from left to right
-
--- the number that the digits ds make after v
-from : ℕ → List ℕ → ℕ
-from v [] = v
-from v (d ∷ ds) = from (10 * v + d) ds
-
-from-append : (v : ℕ) (ds es : List ℕ) → from v (ds ++ es) ≡ from (from v ds) es
-unfolding from
-from-append v [] es = refl
-from-append v (d ∷ ds) es = from-append (10 * v + d) ds es
-
-from-zeros : (n : ℕ) → from 0 (replicate n 0) ≡ 0
-unfolding from
-from-zeros zero = refl
-from-zeros (suc n) = from-zeros n
-
-from-base10 : (v : ℕ) (ds : List ℕ) → from v ds ≡ v * 10 ^ length ds + base10 ds
-unfolding from base10
-from-base10 v [] = omega arith
-from-base10 v (d ∷ ds) =
-    let p : ℕ = 10 ^ length ds in
-    from-base10 (10 * v + d) ds
-    ∙ rw (pow-suc 10 (length ds)) (omega (arith, add-mul (10 * v) d p, mul-assoc 10 v p, mul-assoc v p 10))
 
 -- ---- digits 0 to 9, and their characters
 
@@ -194,7 +170,7 @@ module _ (scale : ℕ) (vs : List ℕ) (h : ValidDigits vs) where
 
   -- the text without its sign
   abbrev unsignedText : List ℕ
-  unsignedText = trimmed (whole scale ds) ++ fraction scale ds
+  unsignedText = trimmed (wholePart scale ds) ++ fraction scale ds
 
   read-magnitude : (g : Sign) → readWhole g (readDigits 0 0 unsignedText) ≡ denoted (record { signed = g; magnitude = base10 vs; fractionDigits = scale })
   read-magnitude g =

@@ -1,20 +1,13 @@
 -- Which number a packed decimal is, and which number a text denotes: for the law that ties the text to z/Architecture (proofs/Number.antt). Assumes nothing.
 --
--- z/Architecture Principles of Operation, "Decimal Instructions", from memory: in the packed format each byte holds two decimal digits, save the rightmost,
--- which holds a digit and, right of it, the sign. Digits are 0 to 9. The sign is plus for A, C, E and F, and minus for B and D. Other digits and signs
--- are invalid. The format has no point: the scale, which the column gives, says how many of the digits are fraction digits.
-use Prim.Native.Nat.{ℕ, _+_, _-_, _*_, _^_, _<_}
+-- What digits and signs mean is z/Architecture's (crates/zdecimal). The format has no point: the scale, which the column gives, says how many of the digits are fraction digits.
+use Prim.Native.Nat.{ℕ, _+_, _-_, _*_, _<_}
 use mathlib.Core.Bool.{Bool, true, false, cond}
 use mathlib.Core.List.{List, [], _∷_}
 use lib.Dec.{ltb, eqb}
 use lib.ListN.{length, getD}
-use Rattle.packed.specs.Packed.{signNibble, digitNibbles}
-
--- a sign; `invalid` is what z/Architecture takes for none
-pub data Sign : Type 0 where
-  plus : Sign
-  minus : Sign
-  invalid : Sign
+use Rattle.zdecimal.specs.ZDecimal.{Sign, plus, minus, base10}
+use Rattle.packed.specs.Packed.{digitNibbles}
 
 -- a number in decimal: its sign; the natural number that all its digits make, without the point; and how many of them are fraction digits
 pub record DecimalNumber : Type 0 where
@@ -70,20 +63,11 @@ denotes (c ∷ cs) = cond (eqb c 0x2D) (readWhole minus (readDigits 0 0 cs)) (re
 
 -- ---- the number that nibbles are
 
--- the natural number of digits in base ten, the highest first
-unfoldable pub base10 : List ℕ → ℕ
-base10 [] = 0
-base10 (d ∷ ds) = d * 10 ^ length ds + base10 ds
-
--- the digits vs are all 0 to 9
+-- the digits vs are all 0 to 9: what `areDigits` of zdecimal tests, place by place
 abbrev pub ValidDigits : List ℕ → Type 0
 ValidDigits vs = (k : ℕ) → k < length vs → getD vs k 0 < 10
 
--- what z/Architecture takes a sign nibble for
-abbrev pub zSign : ℕ → Sign
-zSign n = cond (ltb n 0xA) invalid (cond (eqb n 0xB) minus (cond (eqb n 0xD) minus plus))
-
--- what P1 takes it for
+-- what P1 takes a sign nibble for
 abbrev pub portedSign : ℕ → Sign
 portedSign n = cond (eqb n 0xD) minus plus
 

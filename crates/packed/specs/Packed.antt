@@ -35,8 +35,8 @@ trimmed [] = 0x30 ∷ []
 trimmed (d ∷ ds) = cond (eqb d 0x30) (trimmed ds) (d ∷ ds)
 
 -- the whole part of the digits ds: all but the last `scale` of them
-abbrev pub whole : ℕ → List ℕ → List ℕ
-whole scale ds = take (length ds - scale) ds
+abbrev pub wholePart : ℕ → List ℕ → List ℕ
+wholePart scale ds = take (length ds - scale) ds
 
 abbrev pub zeros : ℕ → List ℕ
 zeros n = replicate n 0x30
@@ -47,8 +47,4 @@ fraction scale ds = cond (eqb scale 0) [] (0x2E ∷ (zeros (scale - length ds) +
 
 -- the text of the packed decimal s
 unfoldable pub decimalText : ℕ → List ℕ → List ℕ
-decimalText scale s = signText s ++ (trimmed (whole scale (digitText s)) ++ fraction scale (digitText s))
-
--- the most bytes of a packed decimal called alone: refusal 7 above it. A precision fits 8 bits, so no column has more
-abbrev pub mostBytes : ℕ
-mostBytes = 128
+decimalText scale s = signText s ++ (trimmed (wholePart scale (digitText s)) ++ fraction scale (digitText s))

@@ -1,13 +1,14 @@
 // Inner. The text of a packed decimal: how long it is, and writing it into a lent buffer. It refuses nothing: its callers hand it 1 to 128
-// bytes and room for the text. It checks no digit and no sign (specs/Denoted.antt says which bytes are a number of z/Architecture).
+// bytes and room for the text. It checks no digit and no sign (crates/zdecimal says which bytes are a number of z/Architecture).
 ghost use mathlib.Core.Path.{_≡_};
 ghost use mathlib.Core.List.{List};
 ghost use Prim.Native.Nat.{ℕ, _+_, _-_, _*_, _<_, _≤_};
 ghost use lib.Dec.{eqb};
 ghost use lib.ListN.{length, take, getD};
 ghost use lib.Seq.{slice};
+ghost use Rattle.refusal.specs.Refusal.{mostBytes};
 ghost use Rattle.buffer.specs.Buffer.{overwritten};
-ghost use Rattle.packed.specs.Packed.{nibbles, signNibble, signText, character, digitText, trimmed, zeros, fraction, decimalText, mostBytes};
+ghost use Rattle.packed.specs.Packed.{nibbles, signNibble, signText, character, digitText, trimmed, zeros, fraction, decimalText};
 ghost use Rattle.packed.specs.Inner.{Trimmed};
 
 fn wide(x: u8) -> usize

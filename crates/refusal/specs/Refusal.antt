@@ -3,7 +3,7 @@ use Prim.Native.Nat.{ℕ}
 use mathlib.Core.List.{List, [], _∷_}
 use lib.ListN.{getD}
 use Rattle.refusal.specs.declared.Refusal.{Refusal}
-use Rattle.refusal.specs.declared.Refusal.the-variants.{QrydscTooLong, TooManyColumns, CountTooLarge, InputTooLong, DecFloatColumn, DecimalEmpty, DecimalTooLong, BufferTooShort, TextBufferTooShort, QrydscBrokenOff}
+use Rattle.refusal.specs.declared.Refusal.the-variants.{QrydscTooLong, TooManyColumns, CountTooLarge, InputTooLong, DecFloatColumn, DecimalEmpty, DecimalTooLong, BufferTooShort, TextBufferTooShort, DecimalDigit, DecimalSign, DecimalOutOfRange, QrydscBrokenOff}
 use Rattle.refusal.specs.declared.Outcome.{Outcome}
 use Rattle.refusal.specs.declared.Outcome.the-variants.{Accepted, Refused}
 
@@ -18,6 +18,9 @@ refusalNumber DecimalEmpty = 6
 refusalNumber DecimalTooLong = 7
 refusalNumber (BufferTooShort expected actual) = 8
 refusalNumber (TextBufferTooShort needed) = 9
+refusalNumber DecimalDigit = 12
+refusalNumber DecimalSign = 13
+refusalNumber DecimalOutOfRange = 14
 refusalNumber QrydscBrokenOff = 15
 
 -- the numbers that come with it: `expected` and `actual` with 8, the length needed with 9
@@ -31,6 +34,9 @@ refusalValues InputTooLong = []
 refusalValues DecFloatColumn = []
 refusalValues DecimalEmpty = []
 refusalValues DecimalTooLong = []
+refusalValues DecimalDigit = []
+refusalValues DecimalSign = []
+refusalValues DecimalOutOfRange = []
 refusalValues QrydscBrokenOff = []
 
 -- what a call says of its input: that it accepted, or a refusal by number and values
@@ -55,3 +61,7 @@ toldValue (refused n vs) k = getD vs k 0
 -- the most bytes of a row, and for a text conversion called alone: refusal 4 above it
 abbrev pub inputLimit : ℕ
 inputLimit = 1048576
+
+-- the most bytes of a packed decimal called alone: refusal 7 above it. A precision fits 8 bits, so no column has more
+abbrev pub mostBytes : ℕ
+mostBytes = 128

@@ -26,6 +26,12 @@ pub const BUFFER_TOO_SHORT: u32 = 8;
 
 pub const TEXT_BUFFER_TOO_SHORT: u32 = 9;
 
+pub const DECIMAL_DIGIT: u32 = 12;
+
+pub const DECIMAL_SIGN: u32 = 13;
+
+pub const DECIMAL_OUT_OF_RANGE: u32 = 14;
+
 pub const QRYDSC_BROKEN_OFF: u32 = 15;
 
 // The refusals, by their numbers: a call tests them in this order, save that 15 comes behind 1.
@@ -48,6 +54,12 @@ pub enum Refusal {
     BufferTooShort { expected: usize, actual: usize },
     // 9: the texts need a longer text buffer, of `needed` bytes.
     TextBufferTooShort { needed: usize },
+    // 12: a packed decimal, read as a number, with a digit above 9.
+    DecimalDigit,
+    // 13: the same with a sign below A.
+    DecimalSign,
+    // 14: the same of a number that 64 bits with a sign do not hold.
+    DecimalOutOfRange,
     // 15: a description that breaks off, where only a whole one is taken.
     QrydscBrokenOff,
 }
@@ -69,6 +81,9 @@ impl Refusal {
                 actual: _,
             } => BUFFER_TOO_SHORT,
             Refusal::TextBufferTooShort { needed: _ } => TEXT_BUFFER_TOO_SHORT,
+            Refusal::DecimalDigit => DECIMAL_DIGIT,
+            Refusal::DecimalSign => DECIMAL_SIGN,
+            Refusal::DecimalOutOfRange => DECIMAL_OUT_OF_RANGE,
             Refusal::QrydscBrokenOff => QRYDSC_BROKEN_OFF,
         }
     }
@@ -89,6 +104,9 @@ impl Refusal {
                 actual: _,
             } => expected,
             Refusal::TextBufferTooShort { needed } => needed,
+            Refusal::DecimalDigit => 0,
+            Refusal::DecimalSign => 0,
+            Refusal::DecimalOutOfRange => 0,
             Refusal::QrydscBrokenOff => 0,
         }
     }
@@ -109,6 +127,9 @@ impl Refusal {
                 actual,
             } => actual,
             Refusal::TextBufferTooShort { needed: _ } => 0,
+            Refusal::DecimalDigit => 0,
+            Refusal::DecimalSign => 0,
+            Refusal::DecimalOutOfRange => 0,
             Refusal::QrydscBrokenOff => 0,
         }
     }

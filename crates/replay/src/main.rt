@@ -3,7 +3,7 @@
 // the same. The kinds of line: T decode_character_bytes, G decode_graphic_bytes, L bytes_are_likely_text, P decode_packed_decimal, F fixed_length,
 // Q parse_qrydsc and decode_row with its columns, H decode_row with columns of the line's own. T, G, Q and H also come in lower case, with the host release
 // behind the letter: such a line is full, and has what the Rust lacks too, the characters replaced, the columns' origins, and whether a description breaks
-// off. n is parse_whole_qrydsc, also full, without a release.
+// off. n is parse_whole_qrydsc and w decode_packed_whole, which the Rust lacks, both without a release.
 use answers::columns::columns_at;
 use answers::columns::columns_of;
 use answers::columns::ending_at;
@@ -19,18 +19,25 @@ use answers::lines::number;
 use answers::lines::part_start;
 use answers::place::decimal_at;
 use answers::place::replaced_at;
+use answers::place::signed_at;
 use answers::place::text_at;
 use answers::rows::is_answer;
 use buffer::TextAnswer;
 use check::same;
+use decimal::WholeAnswer;
+use decimal::decode_packed_whole;
 use qrydsc::Description;
 use qrydsc::parse_qrydsc;
 use qrydsc::parse_whole_qrydsc;
+use refusal::Outcome;
 use refusal::TEXT_BUFFER_TOO_SHORT;
 use row::decode_row;
 use types::Columns;
+use types::Db2Value;
 use types::FixedLength;
+use types::ValuePlace;
 use words::TypeRead;
+use words::value_words;
 ghost use Prim.Native.Nat.{_≤_};
 ghost use lib.ListN.{length};
 
@@ -203,6 +210,14 @@ fn refusal_of(answer: &[u8]) -> Stored {
         return Stored::Other;
     }
     Stored::Refusal(n as u32)
+}
+
+// Whether a refusal is the stored one, by its number.
+fn is_stored(outcome: Outcome, answer: &[u8]) -> bool {
+    match refusal_of(answer) {
+        Stored::Refusal(number) => number == outcome.number(),
+        Stored::Other => false,
+    }
 }
 
 // Whether the call answers what is stored: a text, or a refusal without values.
@@ -398,10 +413,7 @@ fn is_refused(described: Description, answer: &[u8]) -> bool {
     if described.broken_off {
         return false;
     }
-    match refusal_of(answer) {
-        Stored::Refusal(number) => number == outcome.number(),
-        Stored::Other => false,
-    }
+    is_stored(outcome, answer)
 }
 
 // The rest of a line of kind Q whose description is accepted.
@@ -474,6 +486,45 @@ fn whole_description_line(request: &[u8], answer: &[u8], data: &mut [u8]) -> Ver
     judged(columns_at(answer, 0, true, columns) == answer.len())
 }
 
+// Whether the number and the scale are stored, or the refusal, which has neither. A number's bits are those that it has as a BigInt.
+fn is_whole_number(a: WholeAnswer, answer: &[u8]) -> bool {
+    let outcome = a.outcome;
+    let w = value_words(ValuePlace {
+        value: Db2Value::BigInt(a.number),
+        external: false,
+    });
+    if outcome.number() == 0 {
+        let space = signed_at(answer, 0, w.number);
+        let scale = text_at(answer, space, b" ");
+        return decimal_at(answer, scale, a.scale as u64) == answer.len();
+    }
+    if w.number != 0 {
+        return false;
+    }
+    if a.scale != 0 {
+        return false;
+    }
+    is_stored(outcome, answer)
+}
+
+// A line of kind w: `w <scale> <bytes>`.
+fn whole_number_line(request: &[u8], answer: &[u8], data: &mut [u8]) -> Verdict {
+    if field_count(request) != 3 {
+        return Verdict::NoRequest;
+    }
+    let s = number(field(request, 1), 255);
+    let scale = s.value;
+    if !s.valid {
+        return Verdict::NoRequest;
+    }
+    let d = bytes_or_repeated(field(request, 2), data);
+    let n = d.value;
+    if !d.valid {
+        return Verdict::NoRequest;
+    }
+    judged(is_whole_number(decode_packed_whole(&data[0..n], scale as u8), answer))
+}
+
 // A line of kind H: `H <columns> R <row>`.
 fn own_line(
     request: &[u8],
@@ -531,6 +582,7 @@ fn replay_line(line: &[u8], data: &mut [u8], want: &mut [u8], text: &mut [u8]) -
         b'H' => own_line(request, false, answer, data, want, text),
         b'Q' => description_line(request, false, answer, data, want, text),
         b'n' => whole_description_line(request, answer, data),
+        b'w' => whole_number_line(request, answer, data),
         b'T' | b'G' | b'P' => text_line(kind[0], request, false, answer, data, want, text),
         _ => full_line(kind[0], request, answer, data, want, text),
     }

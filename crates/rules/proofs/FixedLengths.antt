@@ -10,7 +10,7 @@ use Rattle.types.specs.Names.{namedIn}
 use Rattle.types.specs.declared.Db2Type.{Db2Type}
 use Rattle.types.specs.declared.Db2Type.the-variants as type
 use Rattle.types.specs.declared.ColumnDescriptor.{ColumnDescriptor}
-use Rattle.packed.specs.Packed.{mostBytes}
+use Rattle.refusal.specs.Refusal.{mostBytes}
 use Rattle.rules.specs.declared.Extent.{Extent}
 use Rattle.rules.specs.declared.Extent.the-variants.{Fixed}
 use Rattle.rules.specs.Extent.{typeExtent, extentOf}

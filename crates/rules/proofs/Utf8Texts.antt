@@ -15,7 +15,7 @@ use Rattle.unicode.proofs.Ranges.{both}
 use Rattle.unicode.proofs.Bytes.{bytes-drop, bytes-take}
 use Rattle.unicode.proofs.Laws.{texts}
 use Rattle.conversion.proofs.Utf8Texts.{ascii-well-formed, ascii-append, characters-well-formed, graphics-well-formed, locator-well-formed, row-id-well-formed}
-use Rattle.packed.specs.Packed.{nibbles, signNibble, signText, character, digitText, trimmed, whole, zeros, fraction, decimalText}
+use Rattle.packed.specs.Packed.{nibbles, signNibble, signText, character, digitText, trimmed, wholePart, zeros, fraction, decimalText}
 use Rattle.types.specs.declared.Db2Type.{Db2Type}
 use Rattle.types.specs.declared.ColumnDescriptor.{ColumnDescriptor}
 use Rattle.types.specs.declared.ValuePlace.{ValuePlace}
@@ -100,8 +100,8 @@ decimal-well-formed scale s h =
     let ds = digitText s in
     let e : allAscii ds ≡ true = characters-ascii (length (nibbles s) - 1) (nibbles s) (nibbles-low s h) in
     ascii-well-formed (decimalText scale s)
-    (ascii-append (signText s) (trimmed (whole scale ds) ++ fraction scale ds) (sign-ascii s)
-    (ascii-append (trimmed (whole scale ds)) (fraction scale ds) (trimmed-ascii (whole scale ds) (ascii-take (length ds - scale) ds e)) (fraction-ascii scale ds e)))
+    (ascii-append (signText s) (trimmed (wholePart scale ds) ++ fraction scale ds) (sign-ascii s)
+    (ascii-append (trimmed (wholePart scale ds)) (fraction scale ds) (trimmed-ascii (wholePart scale ds) (ascii-take (length ds - scale) ds e)) (fraction-ascii scale ds e)))
 
 -- ---- the texts of items
 

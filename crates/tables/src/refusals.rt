@@ -7,7 +7,10 @@ use printing::Line;
 use refusal::BUFFER_TOO_SHORT;
 use refusal::COUNT_TOO_LARGE;
 use refusal::DEC_FLOAT_COLUMN;
+use refusal::DECIMAL_DIGIT;
 use refusal::DECIMAL_EMPTY;
+use refusal::DECIMAL_OUT_OF_RANGE;
+use refusal::DECIMAL_SIGN;
 use refusal::DECIMAL_TOO_LONG;
 use refusal::INPUT_TOO_LONG;
 use refusal::Outcome;
@@ -87,6 +90,9 @@ fn meaning(number: u32) -> Line {
         DECIMAL_TOO_LONG => line.text(b"the packed decimal has more than 128 bytes"),
         BUFFER_TOO_SHORT => line.text(b"the row is too short"),
         TEXT_BUFFER_TOO_SHORT => line.text(b"the text buffer is too short"),
+        DECIMAL_DIGIT => line.text(b"the packed decimal has a digit above 9"),
+        DECIMAL_SIGN => line.text(b"the packed decimal has a sign below A"),
+        DECIMAL_OUT_OF_RANGE => line.text(b"the packed decimal is no signed 64-bit number"),
         QRYDSC_BROKEN_OFF => line.text(b"the description breaks off"),
         _ => line.text(b"unknown"),
     }

@@ -205,7 +205,7 @@ fn is_two_digits(b: u8) -> bool {
     b % 16 <= 9
 }
 
-// Whether the bytes are digits and a sign that says plus or minus to the architecture and to the library alike.
+// Whether the bytes are digits and a sign that says plus or minus to the architecture and to the row's text alike.
 fn is_packed(s: &[u8]) -> bool {
     let mut i: usize = 0;
     while i < s.len() {

@@ -31,6 +31,7 @@ ghost use Rattle.unicode.specs.Likely.{likelyText};
 ghost use Rattle.conversion.specs.Conversion.{characterText, graphicText, fromCharacters, fromGraphics, locatorText, rowIdText};
 ghost use Rattle.text.specs.Text.{conversionAnswer, conversionBuffer};
 ghost use Rattle.decimal.specs.Decimal.{decimalAnswer, decimalBuffer};
+ghost use Rattle.decimal.specs.Whole.{wholeAnswer};
 ghost use Rattle.triplets.specs.Steps.{endFrom};
 ghost use Rattle.qrydsc.specs.Qrydsc.{maxQrydsc, description, wholeDescription};
 ghost use Rattle.qrydsc.specs.Entries.{entryAnswer, fullAnswer};
@@ -47,13 +48,13 @@ const NO_TYPE_WORD: u32 = 102;
 
 const NO_COLUMN: u32 = 102;
 
-// The version of these calls, 0.5.0 as 10000 * 0 + 100 * 5 + 0. The number stands in the name, which include/vejupa.h and bindings/rust refer to: what was
+// The version of these calls, 0.5.1 as 10000 * 0 + 100 * 5 + 1. The number stands in the name, which include/vejupa.h and bindings/rust refer to: what was
 // compiled for another version does not link.
 #[no_mangle]
-pub extern "C" fn vejupa_version_0_5_0() -> u32
-    ensures { λ r. ⌜ r ≡ 500 ⌝ }
+pub extern "C" fn vejupa_version_0_5_1() -> u32
+    ensures { λ r. ⌜ r ≡ 501 ⌝ }
 {
-    500
+    501
 }
 
 // A Boolean as 1 and 0.
@@ -172,6 +173,26 @@ pub extern "C" fn vejupa_raw_decode_packed_decimal(
 {
     let a = decimal::decode_packed_decimal(data, precision, scale, text);
     report(a, text_length)
+}
+
+// The packed decimal as a whole number, by z/Architecture, in whole, and in whole_scale the scale that was handed in; 0 in both after a refusal.
+#[no_mangle]
+pub extern "C" fn vejupa_raw_decode_packed_whole(
+    data: &[u8],
+    scale: u8,
+    whole: &mut i64,
+    whole_scale: &mut u8,
+) -> u32
+    ensures number { λ r. ⌜ r ≡ toldNumber (wholeAnswer scale (now («data» .entry)) .outcome) ⌝ }
+    ensures whole { λ _. ⌜ now (whole .exit) ≡ wholeAnswer scale (now («data» .entry)) .number ⌝ }
+    ensures scale { λ _. ⌜ now («whole_scale» .exit) ≡ wholeAnswer scale (now («data» .entry)) .scale ⌝ }
+{
+    let a = decimal::decode_packed_whole(data, scale);
+    let n = a.number;
+    *whole = n;
+    *whole_scale = a.scale;
+    let outcome = a.outcome;
+    outcome.number()
 }
 
 // 1 where bytes are likely text, else 0.

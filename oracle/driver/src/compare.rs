@@ -3,12 +3,14 @@
 use crate::blocks;
 use crate::inputs::{self, Style, EDGE_BYTES, LIMIT_LENGTHS, LONG_LENGTHS, SEQUENCES};
 use crate::leaf::{Leaf, KINDS};
+use crate::packed_whole;
 use crate::port_side::{Library, PortSide};
 use crate::random::Random;
 use crate::request::{Call, Form};
 use crate::run::{self, Difference, End, Flow, Until};
 use crate::rust_side;
 use crate::shrink::Shrinking;
+use std::collections::BTreeMap;
 use std::ops::ControlFlow::{Break, Continue};
 
 /// The parts of a run, the cheap ones first. The last has no end of its own.
@@ -17,6 +19,7 @@ pub enum Stage {
     Short,
     Edges,
     Places,
+    PackedWholes,
     Utf8Blocks,
     Utf16Blocks,
     ByteBlocks,
@@ -24,10 +27,11 @@ pub enum Stage {
     Any,
 }
 
-const STAGES: [Stage; 8] = [
+const STAGES: [Stage; 9] = [
     Stage::Short,
     Stage::Edges,
     Stage::Places,
+    Stage::PackedWholes,
     Stage::Utf8Blocks,
     Stage::Utf16Blocks,
     Stage::ByteBlocks,
@@ -44,6 +48,8 @@ pub struct Run<L> {
     until: Until,
     /// How many cases ran, by kind of call.
     pub counts: [u64; KINDS.len()],
+    /// How many whole numbers got which answer: 0 where there is a number, else the refusal's.
+    pub wholes: BTreeMap<u32, u64>,
 }
 
 impl<L: Library> Run<L> {
@@ -53,6 +59,7 @@ impl<L: Library> Run<L> {
             random: Random::new(seed),
             until,
             counts: [0; KINDS.len()],
+            wholes: BTreeMap::new(),
         }
     }
 
@@ -65,6 +72,9 @@ impl<L: Library> Run<L> {
             Stage::Short => self.short(),
             Stage::Edges => self.edges(),
             Stage::Places => self.places(),
+            Stage::PackedWholes => {
+                packed_whole::inputs::by_rule(&mut |leaf, data| self.case(leaf, data))
+            }
             Stage::Utf8Blocks => blocks::inputs::utf8(&mut |leaf, data| self.case(leaf, data)),
             Stage::Utf16Blocks => blocks::inputs::utf16(&mut |leaf, data| self.case(leaf, data)),
             Stage::ByteBlocks => blocks::inputs::bytes(&mut |leaf, data| self.case(leaf, data)),
@@ -79,7 +89,11 @@ impl<L: Library> Run<L> {
             return Break(End::Enough);
         }
         self.counts[leaf.kind()] += 1;
-        if !self.differs(leaf, data) {
+        let rust = rust_side::answer(leaf, data);
+        if let Leaf::PackedWhole { .. } = leaf {
+            *self.wholes.entry(rust.number()).or_default() += 1;
+        }
+        if rust == self.port.answer(leaf, data) {
             return Continue(());
         }
         Break(End::Different(Box::new(self.smallest(leaf, data))))
@@ -203,11 +217,16 @@ impl<L: Library> Run<L> {
         }
     }
 
-    /// The call with the precision that a line passes, where that differs too.
+    /// The call with the precision that a line passes, where that differs too; that of a whole number with the smallest scale that does.
     fn plain(&mut self, leaf: Leaf, data: &[u8]) -> Leaf {
         match leaf {
             Leaf::Decimal { scale, .. } if self.differs(Leaf::decimal(scale), data) => {
                 Leaf::decimal(scale)
+            }
+            Leaf::PackedWhole { scale } => {
+                let mut smaller = (0..scale).map(|scale| Leaf::PackedWhole { scale });
+                let found = smaller.find(|smaller| self.differs(*smaller, data));
+                found.unwrap_or(leaf)
             }
             _ => leaf,
         }

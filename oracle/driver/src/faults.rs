@@ -3,9 +3,10 @@ use crate::blocks::model::{
     Dropped, Likely, Miscount, Unseen, Utf16, Utf8, DROPPED, MISCOUNTS, UNSEEN,
 };
 use crate::leaf::{Leaf, TEXT_LIMIT};
+use crate::packed_whole::model::{self, Misread, Model};
 use crate::port_side::{ample, Archive, Library};
 use crate::replaced::Reading;
-use port::Outcome;
+use port::{Outcome, PackedWhole};
 
 #[derive(Debug, Clone, Copy, PartialEq, Eq)]
 pub enum Fault {
@@ -75,6 +76,8 @@ pub enum Fault {
     Units(Miscount),
     /// A likely text is tested wrong in blocks.
     Shown(Unseen),
+    /// A packed decimal is misread as a whole number.
+    Misread(Misread),
 }
 
 const FAULTS: [Fault; 30] = [
@@ -111,6 +114,12 @@ const FAULTS: [Fault; 30] = [
 ];
 
 pub fn all() -> Vec<Fault> {
+    let mut all = of_texts();
+    all.extend(model::all().into_iter().map(Fault::Misread));
+    all
+}
+
+fn of_texts() -> Vec<Fault> {
     let mut all = FAULTS.to_vec();
     all.extend(DROPPED.map(Fault::Block));
     all.extend(MISCOUNTS.map(Fault::Units));
@@ -316,6 +325,13 @@ impl Library for Faulty {
             _ => Archive.likely(data),
         }
     }
+
+    fn packed_whole(&self, data: &[u8], scale: u8) -> PackedWhole {
+        match self.0 {
+            Fault::Misread(misread) => Model(Some(misread)).answer(data, scale),
+            _ => Archive.packed_whole(data, scale),
+        }
+    }
 }
 
 #[cfg(test)]
@@ -378,6 +394,7 @@ mod tests {
             Fault::Block(_) => "T 1208 ",
             Fault::Units(_) => "G 1200 0000",
             Fault::Shown(_) => "L ",
+            Fault::Misread(_) => "w ",
         }
     }
 
@@ -458,9 +475,10 @@ mod tests {
         assert!(inputs::utf16(&mut right).is_continue());
     }
 
+    /// Of texts: those of whole numbers have a list of their own.
     #[test]
     fn every_fault_is_noticed_and_its_input_made_small() {
-        for fault in all() {
+        for fault in of_texts() {
             let Difference { port, lengths, .. } = found(fault);
             let shown = &port[..port.len().min(300)];
             assert!(port.starts_with(smallest(fault)), "{fault:?}: {shown}");

@@ -1,6 +1,11 @@
 //! Calls and bytes to ask about.
 use crate::leaf::{Leaf, PRECISION, TEXT_LIMIT};
+use crate::packed_whole::inputs::{digits_of, packed as packed_digits};
 use crate::random::Random;
+use crate::run::Flow;
+
+/// Takes a case: a call and its bytes.
+pub type Case<'a> = &'a mut dyn FnMut(Leaf, &[u8]) -> Flow;
 
 /// A CCSID of each class, and some that have no meaning here.
 pub const CCSIDS: [u16; 10] = [1208, 819, 37, 500, 1200, 13488, 0, 1252, 850, 65535];
@@ -12,6 +17,9 @@ const NEAR_CCSIDS: [u16; 18] = [
 
 /// Scales below, at and above the digits of short decimals, and the largest.
 pub const SCALES: [u8; 10] = [0, 1, 2, 3, 4, 5, 31, 200, 254, 255];
+
+/// Scales of whole numbers: what a refusal gives, what an unwritten one looks like, and one between.
+const WHOLE_SCALES: [u8; 3] = [0, 2, 255];
 
 const PRECISIONS: [u8; 4] = [PRECISION, 0, 1, 255];
 
@@ -100,13 +108,14 @@ pub fn leaves() -> Vec<Leaf> {
     all.extend(CCSIDS.map(|ccsid| Leaf::Character { ccsid }));
     all.extend(CCSIDS.map(|ccsid| Leaf::Graphic { ccsid }));
     all.extend(SCALES.map(Leaf::decimal));
+    all.extend(WHOLE_SCALES.map(|scale| Leaf::PackedWhole { scale }));
     all.extend([Leaf::Likely, Leaf::Locator, Leaf::RowId]);
     all
 }
 
 /// Any call; those whose code has most to decide come most often.
 pub fn random_leaf(random: &mut Random) -> Leaf {
-    match random.below(16) {
+    match random.below(20) {
         0..=4 => Leaf::Character {
             ccsid: random_ccsid(random),
         },
@@ -119,7 +128,10 @@ pub fn random_leaf(random: &mut Random) -> Leaf {
             scale: random_scale(random),
         },
         14 => Leaf::Locator,
-        _ => Leaf::RowId,
+        15 => Leaf::RowId,
+        _ => Leaf::PackedWhole {
+            scale: random_scale(random),
+        },
     }
 }
 
@@ -167,8 +179,11 @@ pub enum Style {
     Utf16,
     DamagedUtf16,
     Packed,
+    PackedWhole,
+    DamagedPackedWhole,
 }
 
+/// Those that every call is asked about.
 pub const STYLES: [Style; 10] = [
     Style::Uniform,
     Style::Edges,
@@ -204,6 +219,12 @@ pub fn random_style(random: &mut Random, leaf: Leaf) -> Style {
             Style::Uniform,
         ]),
         Leaf::Decimal { .. } => Style::Packed,
+        Leaf::PackedWhole { .. } => random.pick(&[
+            Style::PackedWhole,
+            Style::PackedWhole,
+            Style::DamagedPackedWhole,
+            Style::Packed,
+        ]),
         Leaf::Locator | Leaf::RowId => Style::Uniform,
     }
 }
@@ -241,9 +262,12 @@ pub fn fill(random: &mut Random, style: Style, length: usize, data: &mut Vec<u8>
             }
         }
         Style::Packed => packed(random, length, data),
+        Style::PackedWhole | Style::DamagedPackedWhole => packed_whole(random, length, data),
     }
-    if matches!(style, Style::DamagedUtf8 | Style::DamagedUtf16) {
-        damage(random, data);
+    match style {
+        Style::DamagedUtf8 | Style::DamagedUtf16 => damage(random, data),
+        Style::DamagedPackedWhole => damage_nibbles(random, data),
+        _ => {}
     }
     // A cut sequence at the end is one more kind of damage; a text that lost bytes is filled up.
     data.resize(length, 0x20);
@@ -285,6 +309,36 @@ fn packed(random: &mut Random, length: usize, data: &mut Vec<u8>) {
     }
 }
 
+/// A whole number, mostly in the range of 64 bits or next to it, with zeros in front, or cut where it has no room, and mostly a sign behind.
+fn packed_whole(random: &mut Random, length: usize, data: &mut Vec<u8>) {
+    let number = match random.below(4) {
+        0 => (1 << 63) - 50 + random.below(100) as u128,
+        1 => 10_u128.pow(random.below(22) as u32) - 1 + random.below(3) as u128,
+        2 => u128::from(random.number()) % 10_u128.pow(random.below(21) as u32),
+        _ => u128::from(random.number() >> random.below(64)),
+    };
+    let sign = match random.below(8) {
+        0 => random.below(16),
+        _ => 0xA + random.below(6),
+    };
+    data.extend(packed_digits(&digits_of(number), sign as u8, length));
+}
+
+/// Puts another nibble at a few places.
+fn damage_nibbles(random: &mut Random, data: &mut [u8]) {
+    if data.is_empty() {
+        return;
+    }
+    for _ in 0..=random.below(3) {
+        let place = random.below(data.len());
+        let nibble = random.below(16) as u8;
+        data[place] = match random.below(2) {
+            0 => data[place] & 0xF0 | nibble,
+            _ => data[place] & 0x0F | nibble << 4,
+        };
+    }
+}
+
 /// Damages a few places: a byte or a sixteen-bit unit changed, taken out, put in, doubled or exchanged with its neighbour.
 fn damage(random: &mut Random, data: &mut Vec<u8>) {
     for _ in 0..1 + random.below(1 + data.len() / 8) {
@@ -318,7 +372,8 @@ mod tests {
     fn every_style_gives_the_length_that_is_asked_for() {
         let mut random = Random::new(1);
         let mut data = Vec::new();
-        for style in STYLES {
+        let whole = [Style::PackedWhole, Style::DamagedPackedWhole];
+        for style in STYLES.into_iter().chain(whole) {
             for length in (0..70).chain(LONG_LENGTHS) {
                 fill(&mut random, style, length, &mut data);
                 assert_eq!(data.len(), length, "{style:?}");

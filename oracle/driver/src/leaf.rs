@@ -1,4 +1,4 @@
-//! The conversions of single texts, and what they answer.
+//! The conversions of single texts and numbers, and what they answer.
 use std::borrow::Cow;
 
 /// Bytes that a conversion called alone accepts (refusal 4 above it).
@@ -10,23 +10,25 @@ pub const DECIMAL_LIMIT: usize = 128;
 /// The precision that a `P` line passes. It takes no part in the text.
 pub const PRECISION: u8 = 31;
 
-/// A call, without its bytes.
+/// A call, without its bytes. PackedWhole reads a packed decimal as a whole number.
 #[derive(Debug, Clone, Copy, PartialEq, Eq)]
 pub enum Leaf {
     Character { ccsid: u16 },
     Graphic { ccsid: u16 },
     Likely,
     Decimal { precision: u8, scale: u8 },
+    PackedWhole { scale: u8 },
     Locator,
     RowId,
 }
 
 /// The kinds of call, in the order in which counts are printed.
-pub const KINDS: [&str; 6] = [
+pub const KINDS: [&str; 7] = [
     "decode_character_bytes",
     "decode_graphic_bytes",
     "bytes_are_likely_text",
     "decode_packed_decimal",
+    "decode_packed_whole",
     "format_lob_locator",
     "format_rowid",
 ];
@@ -39,8 +41,9 @@ impl Leaf {
             Leaf::Graphic { .. } => 1,
             Leaf::Likely => 2,
             Leaf::Decimal { .. } => 3,
-            Leaf::Locator => 4,
-            Leaf::RowId => 5,
+            Leaf::PackedWhole { .. } => 4,
+            Leaf::Locator => 5,
+            Leaf::RowId => 6,
         }
     }
 
@@ -53,7 +56,7 @@ impl Leaf {
     }
 }
 
-/// What a side answers. The last two only the port's side gives: what a line does not show was not as it must be.
+/// What a side answers. The last three only the port's side gives: what a line does not show was not as it must be.
 #[derive(Debug, Clone, PartialEq, Eq)]
 pub enum Answer<'a> {
     /// A text, by its UTF-8, and how many U+FFFD were put in.
@@ -62,6 +65,11 @@ pub enum Answer<'a> {
         replaced: usize,
     },
     Truth(bool),
+    /// A whole number and the scale beside it.
+    Whole {
+        number: i64,
+        scale: u8,
+    },
     /// A refusal by its number.
     Refusal(u32),
     /// A number is wrong: refusal 9 does not come exactly where the buffer is too short, or with another length, a refusal comes with characters
@@ -69,4 +77,16 @@ pub enum Answer<'a> {
     Bad9,
     /// A byte has changed that must keep what it had, or a larger buffer gets another text.
     BadRest,
+    /// A refusal comes with a whole number or a scale.
+    BadBlank,
+}
+
+impl Answer<'_> {
+    /// The refusal's number, or 0.
+    pub fn number(&self) -> u32 {
+        match self {
+            Answer::Refusal(number) => *number,
+            _ => 0,
+        }
+    }
 }

@@ -6,6 +6,7 @@
 //! - `replaced`: how many characters a conversion replaces, which the Rust does not say
 //! - `random`, `inputs`: bytes to ask about
 //! - `blocks`: the same for texts that go by blocks, and a model of what is tested and counted in these
+//! - `packed_whole`: the same for packed decimals as whole numbers, which the Rust does not read so, and what they must be
 //! - `compare`: the differential run
 //! - `faults`: wrong libraries, to see that the run notices them
 //! - `descriptions`, `rows`: all of this for descriptions and types, and for rows
@@ -30,6 +31,7 @@ pub mod faults;
 pub mod inputs;
 pub mod leaf;
 pub mod lent;
+pub mod packed_whole;
 pub mod port_side;
 pub mod random;
 pub mod recordings;

@@ -2,14 +2,16 @@
 //! every byte that is not the text keeps what it had.
 use crate::leaf::{Answer, Leaf};
 use crate::lent::Lent;
-use port::Outcome;
+use port::{Outcome, PackedWhole};
 
 /// What is asked. The archive is one; `faults` has others, which are wrong.
 pub trait Library {
-    /// A call that writes a text (every leaf but Likely).
+    /// A call that writes a text (every leaf but Likely and PackedWhole).
     fn write(&self, leaf: Leaf, data: &[u8], text: &mut [u8]) -> Outcome;
 
     fn likely(&self, data: &[u8]) -> u32;
+
+    fn packed_whole(&self, data: &[u8], scale: u8) -> PackedWhole;
 }
 
 /// The static library.
@@ -26,11 +28,16 @@ impl Library for Archive {
             Leaf::Locator => port::format_lob_locator(data, text),
             Leaf::RowId => port::format_rowid(data, text),
             Leaf::Likely => panic!("bytes_are_likely_text writes no text"),
+            Leaf::PackedWhole { .. } => panic!("decode_packed_whole writes no text"),
         }
     }
 
     fn likely(&self, data: &[u8]) -> u32 {
         port::bytes_are_likely_text(data)
+    }
+
+    fn packed_whole(&self, data: &[u8], scale: u8) -> PackedWhole {
+        port::decode_packed_whole(data, scale)
     }
 }
 
@@ -59,13 +66,19 @@ impl<L: Library> PortSide<L> {
     }
 
     pub fn answer(&mut self, leaf: Leaf, data: &[u8]) -> Answer<'_> {
-        if leaf == Leaf::Likely {
-            return match self.library.likely(data) {
+        match leaf {
+            Leaf::Likely => match self.library.likely(data) {
                 0 => Answer::Truth(false),
                 1 => Answer::Truth(true),
                 other => Answer::Refusal(other),
-            };
+            },
+            Leaf::PackedWhole { scale } => whole(self.library.packed_whole(data, scale)),
+            _ => self.text(leaf, data),
         }
+    }
+
+    /// The answer of a call that writes a text.
+    fn text(&mut self, leaf: Leaf, data: &[u8]) -> Answer<'_> {
         let first = self.call(leaf, data, 0);
         if !self.buffer.kept(0, 0) {
             return Answer::BadRest;
@@ -136,5 +149,22 @@ impl<L: Library> PortSide<L> {
             return Answer::BadRest;
         }
         Answer::Refusal(first.number)
+    }
+}
+
+/// A whole number as it is answered, and nothing beside a refusal.
+fn whole(answer: PackedWhole) -> Answer<'static> {
+    match answer {
+        PackedWhole {
+            number: 0,
+            whole: number,
+            scale,
+        } => Answer::Whole { number, scale },
+        PackedWhole {
+            number,
+            whole: 0,
+            scale: 0,
+        } => Answer::Refusal(number),
+        _ => Answer::BadBlank,
     }
 }

@@ -64,7 +64,7 @@ pub enum Request {
     FixedLength(Type),
 }
 
-/// The conversion of a single text, with its bytes.
+/// The conversion of a single text or number, with its bytes.
 #[derive(Debug, Clone, PartialEq, Eq)]
 pub struct Call {
     pub leaf: Leaf,
@@ -85,12 +85,16 @@ pub fn parse(line: &str) -> Result<(Form, Request), String> {
         ["q", RELEASE, ref rest @ ..] => of_kind("Q", rest),
         ["h", RELEASE, ref rest @ ..] => of_kind("H", rest),
         ["t" | "g" | "q" | "h", ..] => Err(format!("no release that is answered: {}", cut(asked))),
-        // A description has no release.
+        // A description has no release, and a packed decimal has none.
         ["n", data] => {
             let data = bytes_or_repeated(data)?;
             Ok((Form::Whole, Request::WholeDescription(data)))
         }
-        ["n", ..] => Err(wrong_fields(asked)),
+        ["w", scale, data] => {
+            let scale = number(scale)?;
+            Ok((Form::Whole, call(Leaf::PackedWhole { scale }, data)?))
+        }
+        ["n" | "w", ..] => Err(wrong_fields(asked)),
         _ => Ok((Form::Shared, request(Form::Shared, asked, &fields)?)),
     }
 }
@@ -379,6 +383,7 @@ impl fmt::Display for Call {
             Leaf::Decimal { precision, scale } => {
                 write!(f, "decode_packed_decimal({data}, {precision}, {scale})")
             }
+            Leaf::PackedWhole { scale } => write!(f, "w {scale} {data}"),
             Leaf::Locator => write!(f, "format_lob_locator({data})"),
             Leaf::RowId => write!(f, "format_rowid({data})"),
         }
@@ -390,9 +395,11 @@ impl fmt::Display for Answer<'_> {
         match self {
             Answer::Text { text, .. } => Hex(text).fmt(f),
             Answer::Truth(likely) => write!(f, "{}", u8::from(*likely)),
+            Answer::Whole { number, scale } => write!(f, "{number} {scale}"),
             Answer::Refusal(number) => write!(f, "REFUSE{number}"),
             Answer::Bad9 => f.write_str("BAD9"),
             Answer::BadRest => f.write_str("BADREST"),
+            Answer::BadBlank => f.write_str("BADBLANK"),
         }
     }
 }
@@ -424,6 +431,8 @@ mod tests {
             "q 2 0576D00500 R -",
             "n 0676D00502",
             "n -",
+            "w 2 12345D",
+            "w 255 -",
             "h 2 0 R -",
             "h 2 1 Blob:C8:32768:0:0:0:0:0:L:S R -",
             "h 2 1 Integer:02:4:0:0:0:0:-:B:U R 0000002A",
@@ -457,6 +466,8 @@ mod tests {
         assert_eq!(again("q 2 - R 00 C 0 whole A OK 0 - 0 0"), "q 2 - R 00");
         assert_eq!(again("q 2 00 R 00 C 0 broken A OK 0 - 0 0"), "q 2 00 R 00");
         assert_eq!(again("n 0676D00502 A REFUSE15"), "n 0676D00502");
+        assert_eq!(again("w 2 12345D A -12345 2"), "w 2 12345D");
+        assert_eq!(again("w 0 A0 A REFUSE12"), "w 0 A0");
         assert_eq!(
             again("n 0676D0020004 A 1 Integer:02:4:0:0:0:0:-:B:U"),
             "n 0676D0020004"
@@ -502,6 +513,7 @@ mod tests {
             ("P 2 00*1", "P 2 00"),
             ("Q FF*2 R 00*4", "Q FFFF R 00000000"),
             ("n 0299+00*2 A REFUSE15", "n 02990000"),
+            ("w 2 00*3+1C A 1 2", "w 2 0000001C"),
             ("H 0 R 1C*2", "H 0 R 1C1C"),
             ("t 2 37 40+C1*3+4042 A 20414141 0", "t 2 37 40C1C1C14042"),
         ] {
@@ -599,6 +611,15 @@ mod tests {
             "n - C 0",
             "n 0",
             "N 00",
+            "w",
+            "w 1C",
+            "w 2 2 1C",
+            "w 256 1C",
+            "w -1 1C",
+            "w 02 1C",
+            "w 2 1c",
+            "w 2 1C R -",
+            "W 2 1C",
             "H 1 Xml:DC:0:0:0:0:0:-:L:S R -",
             "H 1 Xml:DC:0:0:0:0:0:-:L:U R -",
             "h 2 1 Xml:DC:0:0:0:0:0:-:L R -",
@@ -637,5 +658,9 @@ mod tests {
         assert_eq!(written(Answer::Refusal(4)), "REFUSE4");
         assert_eq!(written(Answer::Bad9), "BAD9");
         assert_eq!(written(Answer::BadRest), "BADREST");
+        assert_eq!(written(Answer::BadBlank), "BADBLANK");
+        let number = i64::MIN;
+        let minimum = whole(Answer::Whole { number, scale: 2 });
+        assert_eq!(minimum, "-9223372036854775808 2");
     }
 }

@@ -1,6 +1,7 @@
 //! The answers of the published Rust. It has no limits of its own: those of the port are applied here, before it is asked. Nor does it count
-//! characters replaced: `replaced` does.
+//! characters replaced, or read a packed decimal as a number: `replaced` and `packed_whole` do.
 use crate::leaf::{Answer, Leaf, DECIMAL_LIMIT, TEXT_LIMIT};
+use crate::packed_whole;
 use crate::replaced::Reading;
 use db2_proto::fdoca::exposed;
 use db2_proto::types::decode_packed_decimal;
@@ -8,7 +9,7 @@ use db2_proto::types::decode_packed_decimal;
 /// The refusal that the limits give, if any.
 fn refused(leaf: Leaf, data: &[u8]) -> Option<u32> {
     match leaf {
-        Leaf::Likely => None,
+        Leaf::Likely | Leaf::PackedWhole { .. } => None,
         Leaf::Decimal { .. } if data.is_empty() => Some(6),
         Leaf::Decimal { .. } if data.len() > DECIMAL_LIMIT => Some(7),
         Leaf::Decimal { .. } => None,
@@ -17,7 +18,7 @@ fn refused(leaf: Leaf, data: &[u8]) -> Option<u32> {
     }
 }
 
-/// The text that the Rust gives, without limits (every leaf but Likely, and no empty packed decimal).
+/// The text that the Rust gives, without limits (every leaf but Likely and PackedWhole, and no empty packed decimal).
 pub fn text(leaf: Leaf, data: &[u8]) -> String {
     match leaf {
         Leaf::Character { ccsid } => exposed::decode_character_bytes(data, ccsid),
@@ -27,6 +28,7 @@ pub fn text(leaf: Leaf, data: &[u8]) -> String {
         Leaf::Locator => exposed::format_lob_locator(data),
         Leaf::RowId => exposed::format_rowid(data),
         Leaf::Likely => panic!("bytes_are_likely_text gives no text"),
+        Leaf::PackedWhole { .. } => panic!("decode_packed_whole gives no text"),
     }
 }
 
@@ -35,13 +37,28 @@ pub fn likely(data: &[u8]) -> bool {
 }
 
 pub fn answer(leaf: Leaf, data: &[u8]) -> Answer<'static> {
-    match refused(leaf, data) {
-        Some(number) => Answer::Refusal(number),
-        None if leaf == Leaf::Likely => Answer::Truth(likely(data)),
-        None => Answer::Text {
+    if let Some(number) = refused(leaf, data) {
+        return Answer::Refusal(number);
+    }
+    match leaf {
+        Leaf::Likely => Answer::Truth(likely(data)),
+        Leaf::PackedWhole { scale } => whole(data, scale),
+        _ => Answer::Text {
             text: text(leaf, data).into_bytes().into(),
             replaced: Reading::of_leaf(leaf, data).replaced(data),
         },
+    }
+}
+
+/// By the second opinion, which the Rust's text must bear out.
+fn whole(data: &[u8], scale: u8) -> Answer<'static> {
+    match packed_whole::read(data) {
+        Ok(number) => {
+            let told = packed_whole::is_in_the_rusts_text(number, data, scale);
+            assert!(told, "the Rust's text of {data:02X?} is not {number}");
+            Answer::Whole { number, scale }
+        }
+        Err(number) => Answer::Refusal(number),
     }
 }
 

@@ -75,6 +75,22 @@ pub fn packed(random: &mut Random, length: usize) -> Vec<u8> {
     bytes
 }
 
+/// The same with at most 18 digits, so that the number fits 64 bits, and zeros before them.
+pub fn packed_number(random: &mut Random, length: usize) -> Vec<u8> {
+    let mut bytes = packed(random, length);
+    let zeros = length.saturating_sub(10);
+    bytes[..zeros].fill(0);
+    bytes[zeros] &= 0x0F;
+    bytes
+}
+
+/// The same, every other one minus, in no order.
+pub fn signed_number(random: &mut Random, length: usize) -> Vec<u8> {
+    let mut bytes = packed_number(random, length);
+    bytes[length - 1] |= random.below(2) as u8;
+    bytes
+}
+
 /// Whole characters, as many as fit; spaces where the next one no longer does.
 fn filled(
     characters: impl Iterator<Item = char>,

@@ -106,3 +106,25 @@ pub fn cut_line(line: &str) -> String {
         None => line.to_string(),
     }
 }
+
+/// A line, of which the middle is left out where no one could read it.
+#[cfg(test)]
+pub fn middle_left_out(line: &str) -> String {
+    match line.len() {
+        0..=300 => line.to_string(),
+        length => format!("{}..{}", &line[..80], &line[length - 20..]),
+    }
+}
+
+/// Holds the stored list of what each fault is noticed by to what it is now. Where it is out of date the message says where the new one lies.
+#[cfg(test)]
+pub fn held_to(stored: &str, noticed: &str, name: &str) {
+    if noticed != stored {
+        let file = std::env::temp_dir().join(name);
+        std::fs::write(&file, noticed).expect("a file for what was noticed");
+        panic!(
+            "the list of faults is out of date; a new one is {}",
+            file.display()
+        );
+    }
+}

@@ -7,8 +7,9 @@ pub mod value;
 
 pub use vejupa::raw::{
     bytes_are_likely_text, decode_character_bytes, decode_graphic_bytes, decode_packed_decimal,
-    decode_row, fixed_length, format_lob_locator, format_rowid, parse_qrydsc, parse_whole_qrydsc,
-    DescriptionAnswer as Described, LengthAnswer as FixedLength, RowAnswer as Decoded,
-    TextAnswer as Outcome, WholeDescriptionAnswer as WholeDescribed, NO_COLUMN as NO_COLUMN_WORDS,
+    decode_packed_whole, decode_row, fixed_length, format_lob_locator, format_rowid, parse_qrydsc,
+    parse_whole_qrydsc, DescriptionAnswer as Described, LengthAnswer as FixedLength,
+    PackedWholeAnswer as PackedWhole, RowAnswer as Decoded, TextAnswer as Outcome,
+    WholeDescriptionAnswer as WholeDescribed, NO_COLUMN as NO_COLUMN_WORDS,
     NO_COLUMN as NO_TYPE_WORD, TOO_FEW_WORDS,
 };

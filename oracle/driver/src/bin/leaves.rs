@@ -1,4 +1,4 @@
-//! `leaves SECONDS [SEED]` or `leaves --cases N [--seed S]`: the port's conversions of single texts against the Rust's.
+//! `leaves SECONDS [SEED]` or `leaves --cases N [--seed S]`: the port's conversions of single texts and numbers against the Rust's.
 //! With a number of cases a run is the same every time. `--fault NAME` puts a fault into the port's answers.
 use differential::command::{self, grouped, Report};
 use differential::compare::{Run, Stage};
@@ -19,9 +19,16 @@ fn main() -> ExitCode {
 fn run<L: Library>(library: L, until: Until, seed: u64) -> Report {
     let mut run = Run::new(library, seed, until);
     let end = run.from(Stage::Short);
-    let counted = KINDS.iter().map(|kind| kind.to_string());
+    let kinds = KINDS.iter().map(|kind| kind.to_string());
+    let answers = run.wholes.iter().map(|(number, count)| {
+        let answer = match number {
+            0 => "accepted".to_string(),
+            _ => format!("refused by {number}"),
+        };
+        (*count, format!("of decode_packed_whole {answer}"))
+    });
     Report {
-        counts: run.counts.into_iter().zip(counted).collect(),
+        counts: run.counts.into_iter().zip(kinds).chain(answers).collect(),
         cases: format!("{} cases", grouped(run.cases())),
         end,
     }

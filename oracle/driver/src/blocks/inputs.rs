@@ -1,5 +1,6 @@
 //! Texts around the edges of blocks. Where these lie is the port's own matter: blocks have 32 to 1,024 bytes, and may begin with the text, behind its leading
 //! ASCII, or three bytes later. So each thing stands at every place of the first blocks, and around every multiple of 32 in those after them.
+use crate::inputs::Case;
 use crate::leaf::Leaf;
 use crate::run::Flow;
 use std::ops::ControlFlow::Continue;
@@ -166,9 +167,6 @@ const FILLINGS_16: [&[u8]; 6] = [
     b"\xD8\x00",
     b"\xDC\x00",
 ];
-
-/// A case: a call and its bytes.
-type Case<'a> = &'a mut dyn FnMut(Leaf, &[u8]) -> Flow;
 
 /// UTF-8, as text and as likely text.
 pub fn utf8(case: Case) -> Flow {

@@ -299,6 +299,7 @@ mod tests {
     use crate::rows::compare::{Run, Stage};
     use crate::rows::model::Model;
     use crate::run::{End, Until};
+    use crate::shrink::{held_to, middle_left_out};
     use std::thread;
 
     /// The first stage that can notice a fault. Random rows show most of them soonest.
@@ -336,18 +337,10 @@ mod tests {
         let difference = run.from(stage(fault)).difference();
         let difference = difference.unwrap_or_else(|| panic!("{fault:?} was not noticed"));
         let rows = run.counts.rows();
-        format!("{fault:?} {rows} {}", shown(&difference.port))
+        format!("{fault:?} {rows} {}", middle_left_out(&difference.port))
     }
 
-    /// A line, of which the middle is left out where no one could read it.
-    fn shown(line: &str) -> String {
-        match line.len() {
-            0..=300 => line.to_string(),
-            length => format!("{}..{}", &line[..80], &line[length - 20..]),
-        }
-    }
-
-    /// faults.txt has what each fault is noticed by. Where it is out of date the test says where the new one lies.
+    /// faults.txt has what each fault is noticed by.
     #[test]
     fn every_fault_is_noticed_and_its_row_made_small() {
         let (first, second) = FAULTS.split_at(FAULTS.len() / 2);
@@ -357,10 +350,6 @@ mod tests {
             let second: String = all(second);
             first.join().expect("each is noticed") + &second
         });
-        if noticed != include_str!("faults.txt") {
-            let file = std::env::temp_dir().join("faults.txt");
-            std::fs::write(&file, noticed).expect("a file for what was noticed");
-            panic!("faults.txt is out of date; a new one is {}", file.display());
-        }
+        held_to(include_str!("faults.txt"), &noticed, "faults.txt");
     }
 }

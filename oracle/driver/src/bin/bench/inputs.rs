@@ -3,7 +3,7 @@ use crate::{rows, Call, Line, BATCH};
 use differential::descriptions::Parser;
 use differential::leaf::{Leaf, TEXT_LIMIT};
 use differential::random::Random;
-use differential::samples::{packed, uniform, Maker, CLASSES};
+use differential::samples::{packed, packed_number, signed_number, uniform, Maker, CLASSES};
 use std::rc::Rc;
 
 /// The lengths of short texts, and of those in which blocks begin to count.
@@ -34,6 +34,22 @@ pub fn lines() -> Vec<Line> {
     }
     lines.extend(description_lines(&mut random));
     lines.extend(rows::lines(&mut random));
+    // Last, so that the inputs of all others are what they were, and lie where they lay.
+    lines.extend(number_lines(&mut random));
+    lines
+}
+
+/// Packed decimals as whole numbers, all plus, and with either sign.
+fn number_lines(random: &mut Random) -> Vec<Line> {
+    let makers: [(&str, Maker); 2] = [("", packed_number), (", either sign", signed_number)];
+    let mut lines = Vec::new();
+    for (signs, maker) in makers {
+        for length in [3, 8, 10, 16, 128] {
+            let name = format!("Packed decimal as a number{signs}");
+            let call = Call::Leaf(Leaf::PackedWhole { scale: 2 });
+            lines.push(line(random, &name, call, maker, length));
+        }
+    }
     lines
 }
 

@@ -2,6 +2,7 @@
 //! lines that have it in their name.
 mod by_value;
 mod inputs;
+mod packed_whole;
 mod rows;
 
 use differential::descriptions;
@@ -113,7 +114,8 @@ fn heading() -> String {
          texts fit), or is exactly as long as the texts together; the columns are described before. By value a short row is decoded {AGAIN} times \
          over by both, since the port's column list does not outlive a call. The floor of a row is no call: the columns' words and the row are \
          read, and the values' words and the texts, which are ready, are copied; that of a long text is its copy, `memcpy`. The Rust's time \
-         includes the allocation of its text, list or values, and its freeing. Ratio: port / Rust."
+         includes the allocation of its text, list or values, and its freeing. A packed decimal as a number is the Rust's text, whose digits are then \
+         summed up in one pass that leaves out the point. Ratio: port / Rust."
     )
 }
 
@@ -148,6 +150,10 @@ fn same<'a>(line: &'a Line, lent: &mut Lent) -> Result<(), &'a [u8]> {
     for text in line.texts.iter() {
         let agree = match &line.call {
             Call::Leaf(Leaf::Likely) => rust_side::likely(text) == (Archive.likely(text) == 1),
+            &Call::Leaf(Leaf::PackedWhole { scale }) => {
+                let rust = packed_whole::rust(text, scale);
+                rust.is_some() && rust == packed_whole::port(text, scale)
+            }
             &Call::Leaf(leaf) => {
                 let rust = rust_side::text(leaf, text);
                 let outcome = Archive.write(leaf, text, &mut lent.text[..ample(text.len())]);
@@ -183,6 +189,7 @@ fn measure(line: &Line, lent: &mut Lent) -> Times {
             );
             [rust, port, f64::NAN]
         }
+        &Call::Leaf(Leaf::PackedWhole { scale }) => measure_packed_whole(scale, texts, lent),
         &Call::Leaf(leaf) => measure_leaf(leaf, texts, lent),
         Call::Copy => measure_copy(texts, lent),
         Call::Description(parser) => measure_description(*parser, texts, lent),
@@ -196,6 +203,17 @@ fn measure(line: &Line, lent: &mut Lent) -> Times {
         ample,
         exact: measured(exact),
     }
+}
+
+fn measure_packed_whole(scale: u8, texts: &[Vec<u8>], lent: &mut Lent) -> [f64; 3] {
+    use packed_whole::{port, read, rust};
+    let [rust, port] = by_turns(
+        lent,
+        [&|_| batch(texts, |text| read(rust(text, scale))), &|_| {
+            batch(texts, |text| read(port(text, scale)))
+        }],
+    );
+    [rust, port, f64::NAN]
 }
 
 fn measure_leaf(leaf: Leaf, texts: &[Vec<u8>], lent: &mut Lent) -> [f64; 3] {

@@ -1,0 +1,4 @@
+pub mod Base10
+pub mod Digits
+pub mod ByPlace
+pub mod Written

@@ -1,0 +1,4 @@
+pub mod ZDecimal
+pub mod ByPlace
+pub mod Written
+pub mod Inner

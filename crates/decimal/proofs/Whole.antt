@@ -1,7 +1,7 @@
 -- What the reading as a number answers, in each of its cases. Assumes nothing.
-use Prim.Native.Nat.{ℕ, zero, suc, _+_, _-_, _^_, _<_, _≤_}
+use Prim.Native.Nat.{ℕ, zero, suc, _-_, _^_, _<_, _≤_}
 use mathlib.Core.Bool.{Bool, true, false, cond}
-use mathlib.Core.List.{List, []}
+use mathlib.Core.List.{List}
 use mathlib.Core.Path.{_≡_, refl, sym, ap, _∙_, subst}
 use native.Mathlib.Omega.{arith}
 use native.Mathlib.Nat.{zero-add}
@@ -15,7 +15,7 @@ use mir.ValLaws.{toZ-pos, toZ-ofZ}
 use Rattle.refusal.specs.Refusal.{mostBytes}
 use Rattle.zdecimal.specs.ZDecimal.{zDigits, zSignCode, areDigits, Sign, plus, minus, invalid, zSign, base10}
 use Rattle.zdecimal.specs.Inner.{capped}
-use Rattle.decimal.specs.Whole.{WholeTold, refusedWhole, acceptedWhole, rangedAnswer, signedAnswer, wholeAnswer}
+use Rattle.decimal.specs.Whole.{refusedWhole, acceptedWhole, rangedAnswer, signedAnswer, wholeAnswer}
 
 -- ---- the range
 
@@ -58,21 +58,13 @@ module _ (n : ℕ) (z : n ≡ 0 → ⊥) (h : n ≤ 2 ^ 63) where
   pub made-is : toZ w64 (ofZ w64 (negsuc 0 -ℤ toZ w64 (n - 1))) ≡ negℤ (pos n)
   made-is = toZ-ofZ w64 _ made-fits ∙ made ∙ negated n z
 
--- ten to the nineteenth stands for all that is beyond the range
-module _ (scale n : ℕ) where
-  pub capped-positive : rangedAnswer scale (pos (capped n)) ≡ rangedAnswer scale (pos n)
-  capped-positive = go (ltb n (10 ^ 19)) refl
-    where
-      go : (t : Bool) → ltb n (10 ^ 19) ≡ t → rangedAnswer scale (pos (cond t n (10 ^ 19))) ≡ rangedAnswer scale (pos n)
-      go true p = refl
-      go false p = above scale (10 ^ 19) (omega arith) ∙ sym (above scale n (omega (arith, ltb-false n (10 ^ 19) p)))
-
-  pub capped-negative : rangedAnswer scale (negℤ (pos (capped n))) ≡ rangedAnswer scale (negℤ (pos n))
-  capped-negative = go (ltb n (10 ^ 19)) refl
-    where
-      go : (t : Bool) → ltb n (10 ^ 19) ≡ t → rangedAnswer scale (negℤ (pos (cond t n (10 ^ 19)))) ≡ rangedAnswer scale (negℤ (pos n))
-      go true p = refl
-      go false p = below scale (10 ^ 19) (omega arith) ∙ sym (below scale n (omega (arith, ltb-false n (10 ^ 19) p)))
+-- ten to the nineteenth stands for all that is beyond the range, on either side of it
+capped-alike : (scale : ℕ) (f : ℕ → ℤ) → ((n : ℕ) → 2 ^ 63 < n → rangedAnswer scale (f n) ≡ refusedWhole 14) → (n : ℕ) → rangedAnswer scale (f (capped n)) ≡ rangedAnswer scale (f n)
+capped-alike scale f out n = go (ltb n (10 ^ 19)) refl
+  where
+    go : (t : Bool) → ltb n (10 ^ 19) ≡ t → rangedAnswer scale (f (cond t n (10 ^ 19))) ≡ rangedAnswer scale (f n)
+    go true p = refl
+    go false p = out (10 ^ 19) (omega arith) ∙ sym (out n (omega (arith, ltb-false n (10 ^ 19) p)))
 
 -- ---- the call
 
@@ -109,8 +101,8 @@ module _ (scale : ℕ) (s : List ℕ) where
 
           module _ (a : 0xA ≤ g) (m : ℕ) (k : m ≡ capped (base10 (zDigits s))) where
             pub minus-sign : zSign g ≡ minus → rangedAnswer scale (negℤ (pos m)) ≡ wholeAnswer scale s
-            minus-sign b = ap (λ (n : ℕ). rangedAnswer scale (negℤ (pos n))) k ∙ capped-negative scale (base10 (zDigits s)) ∙ signed minus b
+            minus-sign b = ap (λ (n : ℕ). rangedAnswer scale (negℤ (pos n))) k ∙ capped-alike scale (λ (n : ℕ). negℤ (pos n)) (below scale) (base10 (zDigits s)) ∙ signed minus b
 
             pub other-sign : (g ≡ 0xB → ⊥) → (g ≡ 0xD → ⊥) → rangedAnswer scale (pos m) ≡ wholeAnswer scale s
             other-sign b c =
-                ap (λ (n : ℕ). rangedAnswer scale (pos n)) k ∙ capped-positive scale (base10 (zDigits s)) ∙ signed plus (rw (le-ltb g 0xA a, ne-eqb g 0xB b, ne-eqb g 0xD c))
+                ap (λ (n : ℕ). rangedAnswer scale (pos n)) k ∙ capped-alike scale pos (λ n q. above scale n (omega arith)) (base10 (zDigits s)) ∙ signed plus (rw (le-ltb g 0xA a, ne-eqb g 0xB b, ne-eqb g 0xD c))

@@ -2,7 +2,7 @@
 use Prim.Native.Nat.{ℕ, _-_, _^_}
 use mathlib.Core.List.{List, [], _∷_, _++_}
 use mathlib.Core.Path.{_≡_, refl}
-use lib.IntN.{pos, negsuc, negℤ}
+use lib.IntN.{pos, negℤ}
 use lib.ListN.{replicate}
 use Rattle.zdecimal.specs.ZDecimal.{zDigits, areDigits, base10}
 use Rattle.decimal.specs.Whole.{refusedWhole, acceptedWhole, rangedAnswer, wholeAnswer}

@@ -2,8 +2,8 @@
 --     whole-by-rule     an answer is the call's exactly where its rule holds
 --     zeros-lead        zeros in front change nothing
 --     written-read      a number that is written is read
-use Prim.Native.Nat.{ℕ, zero, suc, _+_, _-_, _*_, _^_, _<_, _≤_, _%_}
-use mathlib.Core.Bool.{Bool, true, false, cond, _&&_}
+use Prim.Native.Nat.{ℕ, zero, suc, _+_, _-_, _*_, _^_, _<_, _≤_}
+use mathlib.Core.Bool.{Bool, true, false, cond}
 use mathlib.Core.List.{List, [], _∷_, _++_}
 use mathlib.Core.Logic.{inl, inr, ⊎-elim}
 use mathlib.Core.Path.{_≡_, refl, sym, ap, _∙_, subst}
@@ -11,11 +11,11 @@ use native.Mathlib.Omega.{arith}
 use borrow.Author.Tests.{eq-eqb, ne-eqb, lt-ltb, le-ltb, eqb-true, eqb-false, ltb-true, ltb-false}
 use lib.Dec.{T, ltb, eqb}
 use lib.IntN.{ℤ, pos, negℤ}
-use lib.ListN.{length, getD, replicate, length-append, length-replicate}
+use lib.ListN.{length, replicate, length-append, length-replicate}
 use lib.Signed.{leZ, ltZ}
 use Rattle.refusal.specs.Refusal.{mostBytes}
 use Rattle.zdecimal.specs.ZDecimal.{zDigits, zSignCode, areDigits, Sign, plus, minus, invalid, zSign, base10}
-use Rattle.zdecimal.specs.ByPlace.{digitAt, placeSum}
+use Rattle.zdecimal.specs.ByPlace.{placeSum}
 use Rattle.zdecimal.specs.Written.{packedBytes}
 use Rattle.zdecimal.proofs.ByPlace.{by-place, digits-hold, digits-fail, hold, fail}
 use Rattle.zdecimal.proofs.Written.{ReadBack, read-back}
@@ -60,6 +60,13 @@ plus-sign n = ⊎-elim (λ e. ap zSign e) (⊎-elim (λ e. ap zSign e) (⊎-elim
 
 pub minus-sign : (n : ℕ) → IsMinus n → zSign n ≡ minus
 minus-sign n = ⊎-elim (λ e. ap zSign e) (λ e. ap zSign e)
+
+-- a nibble from A on; a plus is no B
+pub plus-codes : (n : ℕ) → IsPlus n → (0xA ≤ n) × ((n < 16) × (n ≡ 0xB → ⊥))
+plus-codes n = ⊎-elim (λ e. (omega arith, (omega arith, λ b. omega arith))) (⊎-elim (λ e. (omega arith, (omega arith, λ b. omega arith))) (⊎-elim (λ e. (omega arith, (omega arith, λ b. omega arith))) (λ e. (omega arith, (omega arith, λ b. omega arith)))))
+
+pub minus-codes : (n : ℕ) → IsMinus n → (0xA ≤ n) × (n < 16)
+minus-codes n = ⊎-elim (λ e. (omega arith, omega arith)) (λ e. (omega arith, omega arith))
 
 no-sign : (n : ℕ) → n < 0xA → zSign n ≡ invalid
 no-sign n h = rw (lt-ltb n 0xA h)
@@ -187,12 +194,6 @@ zeros-lead scale s (suc j) h k =
 
 -- ---- what is written
 
-plus-code : (g : ℕ) → IsPlus g → g < 16
-plus-code g = ⊎-elim (λ e. omega arith) (⊎-elim (λ e. omega arith) (⊎-elim (λ e. omega arith) (λ e. omega arith)))
-
-minus-code : (g : ℕ) → IsMinus g → g < 16
-minus-code g = ⊎-elim (λ e. omega arith) (λ e. omega arith)
-
 module _ (scale n m g : ℕ) (a : n < 128) (w : ReadBack n m g) where
   written-answer : (q : Sign) → zSign g ≡ q → wholeAnswer scale (packedBytes n m g) ≡ signedAnswer scale m q
   unfolding wholeAnswer
@@ -203,6 +204,6 @@ module _ (scale n m g : ℕ) (a : n < 128) (w : ReadBack n m g) where
 
 pub written-read : WrittenRead
 written-read scale n m g a h = (
-  λ p. written-answer scale n m g a (read-back n m g h (plus-code g p)) plus (plus-sign g p),
-  λ p. written-answer scale n m g a (read-back n m g h (minus-code g p)) minus (minus-sign g p),
+  λ p. written-answer scale n m g a (read-back n m g h (plus-codes g p .1 .0)) plus (plus-sign g p),
+  λ p. written-answer scale n m g a (read-back n m g h (minus-codes g p .1)) minus (minus-sign g p),
 )

@@ -1,24 +1,23 @@
 -- The ported text and the number (statement: specs/WholeRules.antt). Assumes nothing.
 --     text-denotes-whole     where a number is read, the text denotes it; with the sign B without its minus
-use Prim.Native.Nat.{ℕ, zero, suc, _+_, _-_, _*_, _<_, _≤_}
+use Prim.Native.Nat.{ℕ, zero, suc, _-_, _*_, _<_, _≤_}
 use mathlib.Core.List.{List, []}
-use mathlib.Core.Logic.{_⊎_, ⊎-elim}
 use mathlib.Core.Path.{_≡_, refl, sym, ap, _∙_, subst}
 use native.Mathlib.Omega.{arith}
 use lib.IntN.{ℤ, pos, negℤ, natAbs}
-use lib.ListN.{length, getD}
+use lib.ListN.{length}
 use lib.Signed.{_≤ℤ_}
 use Rattle.refusal.specs.Refusal.{accepted, refused}
 use Rattle.zdecimal.specs.ZDecimal.{zDigits, zSignCode, Sign, plus, minus, zSign, base10}
-use Rattle.zdecimal.specs.ByPlace.{digitAt, placeSum}
+use Rattle.zdecimal.specs.ByPlace.{placeSum}
 use Rattle.zdecimal.proofs.ByPlace.{by-place}
 use Rattle.packed.specs.Packed.{signNibble, digitNibbles, decimalText}
 use Rattle.packed.specs.Denoted.{denoted, denotes, ValidDigits, packedNumber}
 use Rattle.packed.proofs.Nibbles.{sign-nibble, digits-agree}
 use Rattle.packed.proofs.Number.{text-denotes-z, text-denotes-B}
-use Rattle.decimal.specs.Whole.{WholeTold, refusedWhole, acceptedWhole, wholeAnswer}
-use Rattle.decimal.specs.WholeRules.{OfLength, OfDigits, IsPlus, IsMinus, PackedIs, positive, negative, WholeRule, rule-6, rule-7, rule-12, rule-13, rule-14, rule-accepted, IsAt, at-plus, at-minus, TextIs, TextDenotes}
-use Rattle.decimal.proofs.WholeRules.{whole-by-rule, plus-sign, minus-sign}
+use Rattle.decimal.specs.Whole.{WholeTold, refusedWhole, acceptedWhole}
+use Rattle.decimal.specs.WholeRules.{OfLength, OfDigits, PackedIs, positive, negative, WholeRule, rule-6, rule-7, rule-12, rule-13, rule-14, rule-accepted, IsAt, at-plus, at-minus, TextIs, TextDenotes}
+use Rattle.decimal.proofs.WholeRules.{whole-by-rule, plus-sign, minus-sign, plus-codes, minus-codes}
 
 -- what is known where a number is read
 record Read (s : List ℕ) (z : ℤ) : Type 0 where
@@ -70,23 +69,14 @@ module _ (scale : ℕ) (s : List ℕ) (l : 0 < length s) (d : OfDigits s) where
   at-negative : IsAt (packedNumber minus scale s) (negℤ (pos (placeSum s))) scale
   at-negative = subst (λ (m : ℕ). IsAt (packedNumber minus scale s) (negℤ (pos m)) scale) magnitude at-minus
 
-  plus-above : (n : ℕ) → IsPlus n → 0xA ≤ n
-  plus-above n = ⊎-elim (λ e. omega arith) (⊎-elim (λ e. omega arith) (⊎-elim (λ e. omega arith) (λ e. omega arith)))
-
-  minus-above : (n : ℕ) → IsMinus n → 0xA ≤ n
-  minus-above n = ⊎-elim (λ e. omega arith) (λ e. omega arith)
-
   text-whole : {z : ℤ} → PackedIs s z → (zSignCode s ≡ 0xB → ⊥) → TextIs scale s z
-  text-whole (positive p) b = (packedNumber plus scale s, (text-is plus (plus-sign (zSignCode s) p) (plus-above (zSignCode s) p) b, at-positive))
-  text-whole (negative p) b = (packedNumber minus scale s, (text-is minus (minus-sign (zSignCode s) p) (minus-above (zSignCode s) p) b, at-negative))
+  text-whole (positive p) b = (packedNumber plus scale s, (text-is plus (plus-sign (zSignCode s) p) (plus-codes (zSignCode s) p .0) b, at-positive))
+  text-whole (negative p) b = (packedNumber minus scale s, (text-is minus (minus-sign (zSignCode s) p) (minus-codes (zSignCode s) p .0) b, at-negative))
 
   -- the sign B is a minus, and the text has none
-  not-plus : IsPlus (zSignCode s) → zSignCode s ≡ 0xB → ⊥
-  not-plus p b = ⊎-elim (λ e. omega arith) (⊎-elim (λ e. omega arith) (⊎-elim (λ e. omega arith) (λ e. omega arith))) p
-
   text-whole-B : {z : ℤ} → PackedIs s z → zSignCode s ≡ 0xB
       → (z ≤ℤ pos 0) × (denotes (decimalText scale s) ≡ denoted (record { signed = plus; magnitude = natAbs z; fractionDigits = scale }))
-  text-whole-B (positive p) b = absurd (not-plus p b)
+  text-whole-B (positive p) b = absurd (plus-codes (zSignCode s) p .1 .1 b)
   text-whole-B (negative p) b =
       let e : base10 (digitNibbles s) ≡ natAbs (negℤ (pos (placeSum s))) = magnitude ∙ sym (negated-abs (placeSum s)) in (
         negated-le (placeSum s),

@@ -2,7 +2,7 @@
 --
 -- What digits and signs mean is z/Architecture's (crates/zdecimal). The format has no point: the scale, which the column gives, says how many of the digits are fraction digits.
 use Prim.Native.Nat.{ℕ, _+_, _-_, _*_, _<_}
-use mathlib.Core.Bool.{Bool, true, false, cond}
+use mathlib.Core.Bool.{Bool, false, cond}
 use mathlib.Core.List.{List, [], _∷_}
 use lib.Dec.{ltb, eqb}
 use lib.ListN.{length, getD}

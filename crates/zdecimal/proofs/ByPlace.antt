@@ -2,15 +2,15 @@
 --     by-place      the statement, for any bytes
 --     digits-hold, hold, digits-fail, fail      all are digits exactly where each is, and not exactly where one is none
 use Prim.Native.Nat.{ℕ, zero, suc, _+_, _-_, _*_, _/_, _%_, _^_, _<_, _≤_}
-use mathlib.Core.Bool.{Bool, true, false, _&&_}
+use mathlib.Core.Bool.{Bool, true, false}
 use mathlib.Core.List.{List, [], _∷_}
 use mathlib.Core.Path.{_≡_, refl, sym, ap, _∙_, subst}
 use native.Mathlib.Omega.{arith}
-use borrow.Author.Tests.{eq-eqb, ne-eqb, lt-ltb, le-ltb, ltb-true, ltb-false}
-use lib.Dec.{T, ltb, eqb}
+use borrow.Author.Tests.{eq-eqb, ltb-true, ltb-false}
+use lib.Dec.{T, ltb}
 use lib.ListN.{length, getD}
 use Rattle.zdecimal.specs.ZDecimal.{zDigits, areDigits, base10}
-use Rattle.zdecimal.specs.ByPlace.{digitAt, sumOf, placeSum, ByPlace}
+use Rattle.zdecimal.specs.ByPlace.{digitAt, sumOf, ByPlace}
 
 -- ---- places
 

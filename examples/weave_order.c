@@ -7,6 +7,10 @@
 
 #include "vejupa.h"
 
+/* The release of the host, 2 or 3, which each call that converts texts by CCSID is told. It belongs to the host and not to the program: a controller reads it
+ * from where it keeps the host's address. */
+static const uint32_t RELEASE = 2;
+
 /* What the host sends once: the description. Each line is one triplet: its length, its type, its data. */
 static const uint8_t DESCRIPTION[] = {
     0x03, 0x78, 0x31,                               /* MDD: the next SDA stands for type 31, a Char that may be null, */
@@ -143,7 +147,7 @@ static uint8_t text[256]; /* where more is needed, refusal 9 says how much */
 /* Decodes the row that `data` begins with, prints it, and says how many bytes it took: 0 where it is refused. */
 static size_t print_row(const struct vejupa_column *columns, size_t count, const uint8_t *data, size_t data_len) {
     struct vejupa_row row;
-    uint32_t refusal = vejupa_decode_row(columns, count, data, data_len, values, VEJUPA_MAX_COLUMNS, text, sizeof text, &row);
+    uint32_t refusal = vejupa_decode_row(columns, count, data, data_len, RELEASE, values, VEJUPA_MAX_COLUMNS, text, sizeof text, &row);
     if (refusal == VEJUPA_BUFFER_TOO_SHORT) {
         size_t column = vejupa_short_column(columns, count, data, data_len, values, VEJUPA_MAX_COLUMNS);
         printf("refusal 8 at column %zu: %zu bytes expected, %zu there\n", column, row.expected, row.actual);
@@ -179,7 +183,7 @@ static void print_height(const struct vejupa_column *columns, const uint8_t *dat
     if (vejupa_value_sort(&values[HEIGHT]) != VEJUPA_SORT_DECIMAL) {
         return; /* null */
     }
-    refusal = vejupa_decode_row(columns, HEIGHT, data, data_len, values, VEJUPA_MAX_COLUMNS, text, sizeof text, &before);
+    refusal = vejupa_decode_row(columns, HEIGHT, data, data_len, RELEASE, values, VEJUPA_MAX_COLUMNS, text, sizeof text, &before);
     if (refusal == VEJUPA_ACCEPTED) {
         const uint8_t *packed = data + before.used + (vejupa_column_nullable(column) ? 1 : 0);
         refusal = vejupa_decode_packed_whole(packed, length, vejupa_decimal_scale(column), &height, &scale);
@@ -211,6 +215,20 @@ static void print_rows(const struct vejupa_column *columns, size_t count, const 
     printf("\n%zu bytes are left, from %zu on\n", block_len - at, at);
 }
 
+/* What the release decides: a text whose CCSID the library does not know, as 1047, is guessed at release 2, and is code page 037 at release 3. A blank
+ * field shows it. */
+static void print_blank_field(uint32_t release) {
+    static const uint8_t blanks[] = {0x40, 0x40, 0x40, 0x40};
+    size_t length, replaced;
+    uint32_t refusal = vejupa_decode_character_bytes(blanks, sizeof blanks, 1047, release, text, sizeof text, &length, &replaced);
+    printf("a blank field of CCSID 1047 at release %" PRIu32 ": ", release);
+    if (refusal == VEJUPA_ACCEPTED) {
+        printf("\"%.*s\"\n", (int)length, (const char *)text);
+    } else {
+        printf("refusal %" PRIu32 ": %s\n", refusal, vejupa_refusal_name(refusal));
+    }
+}
+
 int main(void) {
     struct vejupa_column columns[VEJUPA_MAX_COLUMNS];
     size_t count;
@@ -228,5 +246,8 @@ int main(void) {
     print_rows(columns, count, BLOCK, sizeof BLOCK);
     printf("\nthe first row, cut off: ");
     print_row(columns, count, BLOCK, 21);
+    printf("\n");
+    print_blank_field(2);
+    print_blank_field(3);
     return 0;
 }

@@ -17,6 +17,22 @@
  * - The library keeps nothing from call to call and allocates nothing: calls that write to different memory may run at the same time. A call takes less than
  *   2,500 bytes of stack of its own; where the dynamic linker looks up memset at the first one, that took some 3,500 more.
  *
+ * The host's release, 2 or 3, decides how a text is read whose CCSID is none of 1208, 819, 37 and 500, save a graphic text that is UTF-16 (CCSID 1200 or
+ * 13488, an even number of bytes):
+ *
+ * - 2: by a guess, as the published Rust does and as these calls did before 0.6.0: ASCII where all bytes are below 80 in hexadecimal, else code page 037. So a
+ *   blank field, which is bytes 40, comes out as `@`s.
+ * - 3: code page 037, whatever the bytes are.
+ *
+ * In a row this goes for Char, VarChar, LongVarChar, Graphic, VarGraphic, Date, Time, Timestamp and LobChar, and for a LobBytes whose bytes are likely text
+ * (vejupa_bytes_are_likely_text). The text of a Clob, DbClob or Xml within the row is UTF-8 at either release; locators, row ids, decimals and numbers have no
+ * part in it. What a value takes of the row, and so `used`, does not depend on the release.
+ *
+ * State 2 to keep what earlier versions gave, and 3 once the host has changed over. Hosts change over one at a time: keep the number beside the host's
+ * address, not in the program. Any other number is refused by 22, before anything else is looked at. It has 32 bits, so that 258 is refused and not cut to 2.
+ * That 2 is stated for a host of release 3, or 3 for one of release 2, no call notices. What shows it are blank fields that come out as `@`s, or texts that
+ * come out as accented letters: compare with what the host's own client shows.
+ *
  * Rows that lie one after the other, where a host sends FF 00 before each, as the one does whose bytes were recorded (Apache Derby's server): decode a row
  * while the rest begins FF 00, and go on by `used`. Heed:
  *
@@ -43,9 +59,9 @@ extern "C" {
 #endif
 
 /* The version of these calls. CHANGELOG.md says what changed. */
-#define VEJUPA_VERSION "0.5.1"
+#define VEJUPA_VERSION "0.6.0"
 
-/* Answers. 1 to 9 and 12 to 15 are the refusals of docs/RULES.md. */
+/* Answers. 1 to 9, 12 to 15 and 22 are the refusals of docs/RULES.md. */
 #define VEJUPA_ACCEPTED 0
 #define VEJUPA_QRYDSC_TOO_LONG 1       /* a description of more than 65,536 bytes */
 #define VEJUPA_TOO_MANY_COLUMNS 2      /* a description of more than 128 columns */
@@ -60,6 +76,7 @@ extern "C" {
 #define VEJUPA_DECIMAL_SIGN 13         /* a packed decimal with a sign below A */
 #define VEJUPA_DECIMAL_OUT_OF_RANGE 14 /* a packed decimal that no signed number of 64 bits holds */
 #define VEJUPA_QRYDSC_BROKEN_OFF 15    /* a description that breaks off: bytes are left behind its last whole triplet */
+#define VEJUPA_UNKNOWN_RELEASE 22      /* a host's release that is neither 2 nor 3; the first that is tested, of every call that states one */
 #define VEJUPA_TOO_LITTLE_ROOM 101     /* there is less room than there are columns, or values */
 #define VEJUPA_NO_COLUMN 102           /* what stands for a column, or for a type, is none */
 
@@ -162,7 +179,7 @@ enum vejupa_sort {
 };
 
 /* The library's own symbols, for other languages that can call C; a C program calls what follows them. Columns and values are counted in words here: a name
- * that ends in _words_len says how many words there are, two a column, three a value. An odd number of column words is 102, where neither 3 nor 101
+ * that ends in _words_len says how many words there are, two a column, three a value. An odd number of column words is 102, where none of 22, 3 and 101
  * applies. No pointer is null, also where there are no elements: any address will do that is aligned for the type. What each promises stands beside it in
  * crates/vejupa/src/lib.rt. */
 #if defined(__GNUC__)
@@ -174,18 +191,18 @@ enum vejupa_sort {
 uint32_t vejupa_raw_parse_whole_qrydsc(const uint8_t *data, size_t data_len, uint64_t *column_words, size_t column_words_len, size_t *count) VEJUPA_NONNULL;
 uint32_t vejupa_raw_parse_qrydsc(const uint8_t *data, size_t data_len, uint64_t *column_words, size_t column_words_len, size_t *count,
                                  uint32_t *broken_off) VEJUPA_NONNULL;
-uint32_t vejupa_raw_decode_row(const uint64_t *column_words, size_t column_words_len, const uint8_t *data, size_t data_len, uint64_t *value_words,
-                               size_t value_words_len, uint8_t *text, size_t text_len, size_t *used, size_t *text_length, size_t *replaced,
-                               size_t *expected, size_t *actual) VEJUPA_NONNULL;
+uint32_t vejupa_raw_decode_row(const uint64_t *column_words, size_t column_words_len, const uint8_t *data, size_t data_len, uint32_t release,
+                               uint64_t *value_words, size_t value_words_len, uint8_t *text, size_t text_len, size_t *used, size_t *text_length,
+                               size_t *replaced, size_t *expected, size_t *actual) VEJUPA_NONNULL;
 /* *bytes is {data, 0}, or any slice, before the call too. */
 void vejupa_raw_value_bytes(const uint64_t *value_words, size_t value_words_len, const uint8_t *data, size_t data_len, const uint8_t *text,
                             size_t text_len, struct vejupa_bytes *bytes) VEJUPA_NONNULL;
 /* `type_word` is the low 24 bits of a column's first word. */
 uint32_t vejupa_raw_fixed_length(uint64_t type_word, uint32_t *fixed, size_t *length) VEJUPA_NONNULL;
-uint32_t vejupa_raw_decode_character_bytes(const uint8_t *data, size_t data_len, uint16_t ccsid, uint8_t *text, size_t text_len, size_t *text_length,
-                                           size_t *replaced) VEJUPA_NONNULL;
-uint32_t vejupa_raw_decode_graphic_bytes(const uint8_t *data, size_t data_len, uint16_t ccsid, uint8_t *text, size_t text_len, size_t *text_length,
-                                         size_t *replaced) VEJUPA_NONNULL;
+uint32_t vejupa_raw_decode_character_bytes(const uint8_t *data, size_t data_len, uint16_t ccsid, uint32_t release, uint8_t *text, size_t text_len,
+                                           size_t *text_length, size_t *replaced) VEJUPA_NONNULL;
+uint32_t vejupa_raw_decode_graphic_bytes(const uint8_t *data, size_t data_len, uint16_t ccsid, uint32_t release, uint8_t *text, size_t text_len,
+                                         size_t *text_length, size_t *replaced) VEJUPA_NONNULL;
 uint32_t vejupa_raw_format_lob_locator(const uint8_t *bytes, size_t bytes_len, uint8_t *text, size_t text_len, size_t *text_length) VEJUPA_NONNULL;
 uint32_t vejupa_raw_format_rowid(const uint8_t *bytes, size_t bytes_len, uint8_t *text, size_t text_len, size_t *text_length) VEJUPA_NONNULL;
 uint32_t vejupa_raw_decode_packed_decimal(const uint8_t *data, size_t data_len, uint8_t precision, uint8_t scale, uint8_t *text, size_t text_len,
@@ -195,7 +212,7 @@ uint32_t vejupa_raw_bytes_are_likely_text(const uint8_t *bytes, size_t bytes_len
 
 /* The version as a number: 10000 times the first part, 100 times the second, and the third. Each file that includes this header refers to this symbol: with
  * an archive of another version it does not link. */
-uint32_t vejupa_version_0_5_1(void);
+uint32_t vejupa_version_0_6_0(void);
 #if defined(__GNUC__)
 #if defined(__has_attribute)
 #if __has_attribute(retain)
@@ -204,7 +221,7 @@ __attribute__((retain)) /* also where the linker drops unused sections */
 #endif
 __attribute__((used))
 #endif
-static uint32_t (*const vejupa_version_wanted)(void) = vejupa_version_0_5_1;
+static uint32_t (*const vejupa_version_wanted)(void) = vejupa_version_0_6_0;
 
 /* An address for an array without elements, which may come with NULL; of any other array its own. */
 static inline const void *vejupa_given(const void *p, size_t n) {
@@ -264,9 +281,10 @@ struct vejupa_row {
 /* The values of one row, one for each column: values[k] is of columns[k]. `columns` are as the two calls above write them or a caller's own
  * (vejupa_make_column). The values' texts go into `text`, one after the other from its first byte; vejupa_value_bytes shows a value's bytes. `data` may go on
  * after the row. Of a column the call goes by the type with its own numbers, nullable, the CCSID, the byte order and the reference length, and by the length of
- * Timestamp, Boolean, Blob, Clob and DbClob alone.
+ * Timestamp, Boolean, Blob, Clob and DbClob alone. `release` is the host's, 2 or 3 (see the beginning of this file).
  *
  * Answers the first of these that applies, or 0:
+ *     22    `release` is neither 2 nor 3, also where no column is a text
  *     3     there are more than 128 columns
  *     101   there is room for fewer values than there are columns
  *     102   a column is none (vejupa_is_column tells which)
@@ -276,10 +294,11 @@ struct vejupa_row {
  *     9     `text` is too short: row->text_length is the length needed, and a second call with such a buffer is accepted
  * It is fastest where text_room is at least 3 for each byte of the row and 258 for each column, so that any texts fit. */
 static inline uint32_t vejupa_decode_row(const struct vejupa_column *columns, size_t column_count, const uint8_t *data, size_t data_len,
-                                         struct vejupa_value *values, size_t values_room, uint8_t *text, size_t text_room, struct vejupa_row *row) {
+                                         uint32_t release, struct vejupa_value *values, size_t values_room, uint8_t *text, size_t text_room,
+                                         struct vejupa_row *row) {
     return vejupa_raw_decode_row((const uint64_t *)vejupa_given(columns, column_count),
                                  VEJUPA_COLUMN_WORDS * vejupa_at_most(column_count, VEJUPA_MAX_COLUMNS + 1),
-                                 (const uint8_t *)vejupa_given(data, data_len), data_len, (uint64_t *)vejupa_lent(values, values_room),
+                                 (const uint8_t *)vejupa_given(data, data_len), data_len, release, (uint64_t *)vejupa_lent(values, values_room),
                                  VEJUPA_VALUE_WORDS * vejupa_at_most(values_room, VEJUPA_MAX_COLUMNS), (uint8_t *)vejupa_lent(text, text_room),
                                  text_room, &row->used, &row->text_length, &row->replaced, &row->expected, &row->actual);
 }
@@ -296,25 +315,26 @@ static inline struct vejupa_bytes vejupa_value_bytes(const struct vejupa_value *
     return bytes;
 }
 
-/* The text of a character value, by its CCSID: 1208 is UTF-8, 819 ISO 8859-1, 37 and 500 code page 037; any other is ASCII where all bytes are below 80 in
- * hexadecimal, else code page 037. What is malformed becomes U+FFFD: *replaced says how many were put in so, one for each malformed part that is as long as can
- * be; a U+FFFD that the host itself sent is not counted. *text_length is the length of the text, written or with 9 needed, so that a call without a buffer
- * measures; 3 data_len + 14 bytes are always enough, here and in the next three. Answers 0, 4 or 9. */
-static inline uint32_t vejupa_decode_character_bytes(const uint8_t *data, size_t data_len, uint16_t ccsid, uint8_t *text, size_t text_room,
-                                                     size_t *text_length, size_t *replaced) {
-    return vejupa_raw_decode_character_bytes((const uint8_t *)vejupa_given(data, data_len), data_len, ccsid, (uint8_t *)vejupa_lent(text, text_room),
-                                             text_room, text_length, replaced);
+/* The text of a character value, by its CCSID: 1208 is UTF-8, 819 ISO 8859-1, 37 and 500 code page 037. Any other goes by the host's release: at 2 it is ASCII
+ * where all bytes are below 80 in hexadecimal, else code page 037; at 3 it is code page 037. What is malformed becomes U+FFFD: *replaced says how many were put
+ * in so, one for each malformed part that is as long as can be; a U+FFFD that the host itself sent is not counted. *text_length is the length of the text,
+ * written or with 9 needed, so that a call without a buffer measures; 3 data_len + 14 bytes are always enough, here and in the next three. Answers the first of
+ * 22, 4 and 9 that applies, or 0. */
+static inline uint32_t vejupa_decode_character_bytes(const uint8_t *data, size_t data_len, uint16_t ccsid, uint32_t release, uint8_t *text,
+                                                     size_t text_room, size_t *text_length, size_t *replaced) {
+    return vejupa_raw_decode_character_bytes((const uint8_t *)vejupa_given(data, data_len), data_len, ccsid, release,
+                                             (uint8_t *)vejupa_lent(text, text_room), text_room, text_length, replaced);
 }
 
-/* The text of a graphic value, by its CCSID: 1200 and 13488 are big-endian UTF-16 where the number of bytes is even; any other goes as characters. An
- * unpaired surrogate becomes U+FFFD, and counts. The numbers and answers as above. */
-static inline uint32_t vejupa_decode_graphic_bytes(const uint8_t *data, size_t data_len, uint16_t ccsid, uint8_t *text, size_t text_room,
-                                                   size_t *text_length, size_t *replaced) {
-    return vejupa_raw_decode_graphic_bytes((const uint8_t *)vejupa_given(data, data_len), data_len, ccsid, (uint8_t *)vejupa_lent(text, text_room),
-                                           text_room, text_length, replaced);
+/* The text of a graphic value, by its CCSID: 1200 and 13488 are big-endian UTF-16 where the number of bytes is even, at either release; any other, and an odd
+ * number of bytes, goes as characters. An unpaired surrogate becomes U+FFFD, and counts. The numbers and answers as above. */
+static inline uint32_t vejupa_decode_graphic_bytes(const uint8_t *data, size_t data_len, uint16_t ccsid, uint32_t release, uint8_t *text,
+                                                   size_t text_room, size_t *text_length, size_t *replaced) {
+    return vejupa_raw_decode_graphic_bytes((const uint8_t *)vejupa_given(data, data_len), data_len, ccsid, release,
+                                           (uint8_t *)vejupa_lent(text, text_room), text_room, text_length, replaced);
 }
 
-/* The text "LOB locator 0x" and the bytes in upper-case hexadecimal. The length and answers as above. */
+/* The text "LOB locator 0x" and the bytes in upper-case hexadecimal. The length as above. Answers 0, 4 or 9. */
 static inline uint32_t vejupa_format_lob_locator(const uint8_t *bytes, size_t bytes_len, uint8_t *text, size_t text_room, size_t *text_length) {
     return vejupa_raw_format_lob_locator((const uint8_t *)vejupa_given(bytes, bytes_len), bytes_len, (uint8_t *)vejupa_lent(text, text_room),
                                          text_room, text_length);
@@ -382,6 +402,7 @@ static inline const char *vejupa_refusal_name(uint32_t answer) {
     case VEJUPA_DECIMAL_SIGN: return "a packed decimal with a sign below A";
     case VEJUPA_DECIMAL_OUT_OF_RANGE: return "a packed decimal that no signed number of 64 bits holds";
     case VEJUPA_QRYDSC_BROKEN_OFF: return "the description breaks off";
+    case VEJUPA_UNKNOWN_RELEASE: return "a host release that is neither 2 nor 3";
     case VEJUPA_TOO_LITTLE_ROOM: return "too little room for the columns or values";
     case VEJUPA_NO_COLUMN: return "what stands for a column or a type is none";
     default: return "no answer of this library";
@@ -453,8 +474,8 @@ static inline uint8_t vejupa_column_scale(const struct vejupa_column *column) { 
 /* A caller's own column: big-endian, without a reference length; origin SDA, which the row call does not look at. `length` is the length that the type itself
  * holds, where it holds one; of a Timestamp or Boolean the bytes of a value (0 stands for 26 and 1); of a Blob, Clob or DbClob 0 says that its values are
  * references of four bytes, and any other that they come within the row; for both, nine bytes of which the first is 02 are a reference. A CCSID matters for
- * texts. A Decimal has a function of its own: here it gives what is no column, as does a type that there is none of. Column number, DRDA type code, precision
- * and scale are 0: the row call does not look at them. */
+ * texts, dates and times among them; where it is 0, the host's release decides. A Decimal has a function of its own: here it gives what is no column, as does
+ * a type that there is none of. Column number, DRDA type code, precision and scale are 0: the row call does not look at them. */
 static inline struct vejupa_column vejupa_make_column(enum vejupa_type type, uint16_t length, int nullable, uint16_t ccsid) {
     struct vejupa_column column;
     uint32_t named = (uint32_t)type;
@@ -488,22 +509,22 @@ static inline void vejupa_set_reference_length(struct vejupa_column *column, uin
     column->words[1] = (column->words[1] & ~(UINT64_C(0xFFFF) << 48)) | (uint64_t)length << 48;
 }
 
-/* Whether the words are a column's; where a row call answers 102, some column's are not. */
+/* Whether the words are a column's; where a row call answers 102, some column's are not. At any release it is the same. */
 static inline int vejupa_is_column(const struct vejupa_column *column) {
     struct vejupa_value value;
     struct vejupa_row row;
-    return vejupa_decode_row(column, 1, NULL, 0, &value, 1, NULL, 0, &row) != VEJUPA_NO_COLUMN;
+    return vejupa_decode_row(column, 1, NULL, 0, 2, &value, 1, NULL, 0, &row) != VEJUPA_NO_COLUMN;
 }
 
 /* Where the row call answers 8, with its arguments: which column it is whose value, or indicator, is not there. Found by calls with fewer columns; `values` is
- * written. */
+ * written. What a value takes does not depend on the release, so none is stated. */
 static inline size_t vejupa_short_column(const struct vejupa_column *columns, size_t column_count, const uint8_t *data, size_t data_len,
                                          struct vejupa_value *values, size_t values_room) {
     size_t fit = 0, lacking = column_count; /* the first `fit` columns are there, the first `lacking` are not */
     struct vejupa_row row;
     while (fit + 1 < lacking) {
         size_t half = fit + (lacking - fit) / 2;
-        if (vejupa_decode_row(columns, half, data, data_len, values, values_room, NULL, 0, &row) == VEJUPA_BUFFER_TOO_SHORT) {
+        if (vejupa_decode_row(columns, half, data, data_len, 2, values, values_room, NULL, 0, &row) == VEJUPA_BUFFER_TOO_SHORT) {
             lacking = half;
         } else {
             fit = half;

@@ -1,5 +1,5 @@
-/* Holds include/vejupa.h to the library: fields of words, a value's bytes, each answer that a call can give, arrays without elements, and what the header
- * says of rows that lie one after the other. It prints one line. tools/check-bindings compiles and runs it. */
+/* Holds include/vejupa.h to the library: fields of words, a value's bytes, each answer that a call can give, arrays without elements, what the header says of
+ * rows that lie one after the other, and of host releases. It prints one line. tools/check-bindings compiles and runs it. */
 #include <stdio.h>
 #include <stdlib.h>
 
@@ -23,6 +23,7 @@ static struct vejupa_column columns[VEJUPA_MAX_COLUMNS + 1];
 static struct vejupa_value values[VEJUPA_MAX_COLUMNS + 1];
 static uint8_t text[64];
 static struct vejupa_row row;
+static uint32_t release = 2; /* what calls state, where nothing else is said; main goes through both */
 
 /* Whether the row call's numbers are these, and no character was replaced. */
 static int numbers(size_t used, size_t text_length, size_t expected, size_t actual) {
@@ -68,7 +69,7 @@ static void own_columns(void) {
     vejupa_set_reference_length(&own[1], 4);
     CHECK(vejupa_column_has_reference_length(&own[1]) && vejupa_column_reference_length(&own[1]) == 4);
     CHECK(vejupa_column_length(&own[1]) == 0x8004 && vejupa_column_ccsid(&own[1]) == 1208);
-    CHECK(vejupa_decode_row(own, 2, data, sizeof data, values, 2, text, sizeof text, &row) == VEJUPA_ACCEPTED && numbers(8, 28, 0, 0));
+    CHECK(vejupa_decode_row(own, 2, data, sizeof data, release, values, 2, text, sizeof text, &row) == VEJUPA_ACCEPTED && numbers(8, 28, 0, 0));
     CHECK(memcmp(text, "123.45LOB locator 0x00000007", 28) == 0);
     CHECK(vejupa_value_sort(&values[1]) == VEJUPA_SORT_CLOB && vejupa_value_is_external(&values[1]));
 }
@@ -118,7 +119,7 @@ static void set_origins(void) {
         CHECK(vejupa_is_column(&column) == (origin < 3));
         CHECK((column.words[0] & ~(UINT64_C(3) << 51)) == plain.words[0] && column.words[1] == plain.words[1]);
     }
-    CHECK(vejupa_decode_row(&column, 1, NULL, 0, values, 1, NULL, 0, &row) == VEJUPA_NO_COLUMN && numbers(0, 0, 0, 0));
+    CHECK(vejupa_decode_row(&column, 1, NULL, 0, release, values, 1, NULL, 0, &row) == VEJUPA_NO_COLUMN && numbers(0, 0, 0, 0));
     vejupa_set_origin(&column, VEJUPA_ORIGIN_SDA);
     CHECK(column.words[0] == plain.words[0]);
     vejupa_set_origin(&full, VEJUPA_ORIGIN_SDA);
@@ -142,7 +143,7 @@ static void origins_in_rows(void) {
         for (k = 0; little && k < LENGTH(own); k++) {
             vejupa_set_little_endian(&own[k]);
         }
-        CHECK(vejupa_decode_row(own, LENGTH(own), data, sizeof data, plain, LENGTH(plain), text, sizeof text, &row) == VEJUPA_ACCEPTED);
+        CHECK(vejupa_decode_row(own, LENGTH(own), data, sizeof data, release, plain, LENGTH(plain), text, sizeof text, &row) == VEJUPA_ACCEPTED);
         CHECK(vejupa_value_integer(&plain[0]) == (little ? 0x7000000 : 7));
         for (n = 0; n < 81; n++) {
             for (left = n, k = 0; k < LENGTH(own); left /= 3, k++) {
@@ -151,7 +152,7 @@ static void origins_in_rows(void) {
             }
             memset(values, 0xA5, sizeof values);
             memset(text, 0xA5, sizeof text);
-            CHECK(vejupa_decode_row(own, LENGTH(own), data, sizeof data, values, LENGTH(values), text, sizeof text, &row) == VEJUPA_ACCEPTED);
+            CHECK(vejupa_decode_row(own, LENGTH(own), data, sizeof data, release, values, LENGTH(values), text, sizeof text, &row) == VEJUPA_ACCEPTED);
             CHECK(numbers(little ? 14 : 12, strlen(expected), 0, 0) && is_text(row.text_length, expected));
             CHECK(memcmp(values, plain, sizeof plain) == 0);
         }
@@ -383,12 +384,12 @@ static void described_origins(void) {
     CHECK(vejupa_column_origin(&found[0]) == VEJUPA_ORIGIN_SDA && vejupa_column_little_endian(&found[0]));
     CHECK(vejupa_column_origin(&found[1]) == VEJUPA_ORIGIN_UNDECLARED_LID && !vejupa_column_little_endian(&found[1]));
     CHECK(vejupa_column_origin(&found[2]) == VEJUPA_ORIGIN_DECLARED_LID && !vejupa_column_little_endian(&found[2]));
-    CHECK(vejupa_decode_row(found, 3, data, sizeof data, values, 3, text, sizeof text, &row) == VEJUPA_ACCEPTED && numbers(13, 2, 0, 0));
+    CHECK(vejupa_decode_row(found, 3, data, sizeof data, release, values, 3, text, sizeof text, &row) == VEJUPA_ACCEPTED && numbers(13, 2, 0, 0));
     CHECK(vejupa_value_integer(&values[0]) == 42 && vejupa_value_integer(&values[1]) == 42 && is_text(row.text_length, "AB"));
 }
 
 static uint32_t decode(size_t count, const uint8_t *data, size_t data_len, size_t text_room) {
-    return vejupa_decode_row(columns, count, data, data_len, values, LENGTH(values), text, text_room, &row);
+    return vejupa_decode_row(columns, count, data, data_len, release, values, LENGTH(values), text, text_room, &row);
 }
 
 static void rows(void) {
@@ -401,11 +402,11 @@ static void rows(void) {
     CHECK(vejupa_value_sort(&values[0]) == VEJUPA_SORT_INTEGER && vejupa_value_integer(&values[0]) == 10);
     CHECK(decode(129, ten, 4, 0) == VEJUPA_COUNT_TOO_LARGE && numbers(0, 0, 0, 0));
     CHECK(decode(SIZE_MAX / 2 + 1, ten, 4, 0) == VEJUPA_COUNT_TOO_LARGE && decode(SIZE_MAX, ten, 4, 0) == VEJUPA_COUNT_TOO_LARGE);
-    CHECK(vejupa_decode_row(columns, 2, ten, 4, values, 1, text, 0, &row) == VEJUPA_TOO_LITTLE_ROOM && numbers(0, 0, 0, 0));
-    CHECK(vejupa_raw_decode_row(columns->words, 4, ten, 4, values->words, 5, text, 0, &row.used, &row.text_length, &row.replaced, &row.expected,
+    CHECK(vejupa_decode_row(columns, 2, ten, 4, release, values, 1, text, 0, &row) == VEJUPA_TOO_LITTLE_ROOM && numbers(0, 0, 0, 0));
+    CHECK(vejupa_raw_decode_row(columns->words, 4, ten, 4, release, values->words, 5, text, 0, &row.used, &row.text_length, &row.replaced, &row.expected,
                                 &row.actual) == VEJUPA_TOO_LITTLE_ROOM &&
           numbers(0, 0, 0, 0));
-    CHECK(vejupa_raw_decode_row(columns->words, 3, ten, 4, values->words, 6, text, 0, &row.used, &row.text_length, &row.replaced, &row.expected,
+    CHECK(vejupa_raw_decode_row(columns->words, 3, ten, 4, release, values->words, 6, text, 0, &row.used, &row.text_length, &row.replaced, &row.expected,
                                 &row.actual) == VEJUPA_NO_COLUMN &&
           numbers(0, 0, 0, 0));
     CHECK(decode(1, large, sizeof large, 0) == VEJUPA_INPUT_TOO_LONG && numbers(0, 0, 0, 0));
@@ -423,11 +424,11 @@ static void rows(void) {
 
     CHECK(vejupa_parse_whole_qrydsc(small_int_and_decimal, sizeof small_int_and_decimal, columns, 2, &count) == VEJUPA_ACCEPTED);
     CHECK(decode(2, data, sizeof data, 5) == VEJUPA_TEXT_BUFFER_TOO_SHORT && numbers(0, 6, 0, 0));
-    CHECK(vejupa_decode_row(columns, 2, data, sizeof data, values, 2, NULL, 0, &row) == VEJUPA_TEXT_BUFFER_TOO_SHORT && numbers(0, 6, 0, 0));
+    CHECK(vejupa_decode_row(columns, 2, data, sizeof data, release, values, 2, NULL, 0, &row) == VEJUPA_TEXT_BUFFER_TOO_SHORT && numbers(0, 6, 0, 0));
     CHECK(decode(2, data, sizeof data, 6) == VEJUPA_ACCEPTED && numbers(7, 6, 0, 0));
     decimal = vejupa_value_bytes(&values[1], data, sizeof data, text, 6);
     CHECK(vejupa_value_sort(&values[1]) == VEJUPA_SORT_DECIMAL && decimal.length == 6 && memcmp(decimal.start, "123.45", 6) == 0);
-    CHECK(vejupa_decode_row(columns, 2, data, sizeof data, values, SIZE_MAX, text, sizeof text, &row) == VEJUPA_ACCEPTED && numbers(7, 6, 0, 0));
+    CHECK(vejupa_decode_row(columns, 2, data, sizeof data, release, values, SIZE_MAX, text, sizeof text, &row) == VEJUPA_ACCEPTED && numbers(7, 6, 0, 0));
 }
 
 /* What a loop over rows must heed: a row of no bytes; a query's end that is read as rows; rows without their two leading bytes; a row that is cut off behind
@@ -441,7 +442,7 @@ static void rows_one_after_the_other(void) {
                                         0x00, 0x00, 0x00, 0x00, 0x00, 0x00, 0x00, 0x00, 0x00, 0x04, 0x00, 0x00, 0x00, 0x00, 0x00, 0x00, 0x00, 0x00, 0x00, 0x00, 0x00,
                                         0x00, ' ',  ' ',  ' ',  ' ',  ' ',  ' ',  ' ',  ' ',  ' ',  ' ',  ' ',  0x00, 0x00, 0x00, 0x00, 0x00, 0x00, 0xFF, 0xFF};
     size_t count, at = 0, rows = 0;
-    CHECK(vejupa_decode_row(NULL, 0, NULL, 0, NULL, 0, NULL, 0, &row) == VEJUPA_ACCEPTED && numbers(0, 0, 0, 0));
+    CHECK(vejupa_decode_row(NULL, 0, NULL, 0, release, NULL, 0, NULL, 0, &row) == VEJUPA_ACCEPTED && numbers(0, 0, 0, 0));
     CHECK(vejupa_parse_whole_qrydsc(small_ints, sizeof small_ints, columns, 1, &count) == VEJUPA_ACCEPTED);
     while (at < sizeof query_end && decode(count, query_end + at, sizeof query_end - at, 0) == VEJUPA_ACCEPTED) {
         CHECK(row.used == 2);
@@ -457,7 +458,7 @@ static void rows_one_after_the_other(void) {
     CHECK(decode(count, minus_one, sizeof minus_one, 0) == VEJUPA_ACCEPTED && row.used == 4 && vejupa_value_integer(&values[0]) == 1);
 }
 
-typedef uint32_t (*conversion)(const uint8_t *, size_t, uint16_t, uint8_t *, size_t, size_t *, size_t *);
+typedef uint32_t (*conversion)(const uint8_t *, size_t, uint16_t, uint32_t, uint8_t *, size_t, size_t *, size_t *);
 
 /* A text with so many U+FFFD put in, in a buffer of its length and in longer ones; 0 in shorter ones, and for too many bytes. */
 static void comes_out(conversion call, const char *bytes, size_t bytes_len, uint16_t ccsid, const char *expected, size_t put_in) {
@@ -466,14 +467,14 @@ static void comes_out(conversion call, const char *bytes, size_t bytes_len, uint
     for (room = needed; room <= sizeof text; room++) {
         memset(text, 0xA5, sizeof text);
         len = replaced = SIZE_MAX;
-        CHECK(call(data, bytes_len, ccsid, text, room, &len, &replaced) == VEJUPA_ACCEPTED && is_text(len, expected) && replaced == put_in);
+        CHECK(call(data, bytes_len, ccsid, release, text, room, &len, &replaced) == VEJUPA_ACCEPTED && is_text(len, expected) && replaced == put_in);
     }
     for (room = 0; room < needed; room++) {
         len = replaced = SIZE_MAX;
-        CHECK(call(data, bytes_len, ccsid, text, room, &len, &replaced) == VEJUPA_TEXT_BUFFER_TOO_SHORT && len == needed && replaced == 0);
+        CHECK(call(data, bytes_len, ccsid, release, text, room, &len, &replaced) == VEJUPA_TEXT_BUFFER_TOO_SHORT && len == needed && replaced == 0);
     }
     len = replaced = SIZE_MAX;
-    CHECK(call(large, sizeof large, ccsid, text, sizeof text, &len, &replaced) == VEJUPA_INPUT_TOO_LONG && len == 0 && replaced == 0);
+    CHECK(call(large, sizeof large, ccsid, release, text, sizeof text, &len, &replaced) == VEJUPA_INPUT_TOO_LONG && len == 0 && replaced == 0);
 }
 
 #define FFFD "\xEF\xBF\xBD"
@@ -522,19 +523,19 @@ static void replaced_in_rows(void) {
     memset(&row, 0xA5, sizeof row);
     CHECK(decode(129, data, sizeof data, sizeof text) == VEJUPA_COUNT_TOO_LARGE && numbers(0, 0, 0, 0));
     memset(&row, 0xA5, sizeof row);
-    CHECK(vejupa_decode_row(columns, 6, data, sizeof data, values, 5, text, sizeof text, &row) == VEJUPA_TOO_LITTLE_ROOM && numbers(0, 0, 0, 0));
+    CHECK(vejupa_decode_row(columns, 6, data, sizeof data, release, values, 5, text, sizeof text, &row) == VEJUPA_TOO_LITTLE_ROOM && numbers(0, 0, 0, 0));
 }
 
 static void texts(void) {
     static const uint8_t abc[] = {0xC1, 0xC2, 0xC3}, grin[] = {0xD8, 0x3D, 0xDE, 0x00}, packed[] = {0x00, 0x5C}, no_digits[] = {0xAB, 0xCD, 0xEF, 0x0C};
     size_t len, put_in;
-    CHECK(vejupa_decode_character_bytes(abc, 3, 37, text, 3, &len, &put_in) == VEJUPA_ACCEPTED && is_text(len, "ABC"));
-    CHECK(vejupa_decode_character_bytes(abc, 3, 37, text, 2, &len, &put_in) == VEJUPA_TEXT_BUFFER_TOO_SHORT && len == 3);
-    CHECK(vejupa_decode_character_bytes(abc, 3, 37, NULL, 0, &len, &put_in) == VEJUPA_TEXT_BUFFER_TOO_SHORT && len == 3);
-    CHECK(vejupa_decode_character_bytes(NULL, 0, 37, NULL, 0, &len, &put_in) == VEJUPA_ACCEPTED && len == 0);
-    CHECK(vejupa_decode_character_bytes(large, sizeof large, 37, text, 2, &len, &put_in) == VEJUPA_INPUT_TOO_LONG && len == 0);
-    CHECK(vejupa_decode_graphic_bytes(grin, 4, 1200, text, sizeof text, &len, &put_in) == VEJUPA_ACCEPTED && is_text(len, "\xF0\x9F\x98\x80"));
-    CHECK(vejupa_decode_graphic_bytes(NULL, 0, 1200, NULL, 0, &len, &put_in) == VEJUPA_ACCEPTED && len == 0);
+    CHECK(vejupa_decode_character_bytes(abc, 3, 37, release, text, 3, &len, &put_in) == VEJUPA_ACCEPTED && is_text(len, "ABC"));
+    CHECK(vejupa_decode_character_bytes(abc, 3, 37, release, text, 2, &len, &put_in) == VEJUPA_TEXT_BUFFER_TOO_SHORT && len == 3);
+    CHECK(vejupa_decode_character_bytes(abc, 3, 37, release, NULL, 0, &len, &put_in) == VEJUPA_TEXT_BUFFER_TOO_SHORT && len == 3);
+    CHECK(vejupa_decode_character_bytes(NULL, 0, 37, release, NULL, 0, &len, &put_in) == VEJUPA_ACCEPTED && len == 0);
+    CHECK(vejupa_decode_character_bytes(large, sizeof large, 37, release, text, 2, &len, &put_in) == VEJUPA_INPUT_TOO_LONG && len == 0);
+    CHECK(vejupa_decode_graphic_bytes(grin, 4, 1200, release, text, sizeof text, &len, &put_in) == VEJUPA_ACCEPTED && is_text(len, "\xF0\x9F\x98\x80"));
+    CHECK(vejupa_decode_graphic_bytes(NULL, 0, 1200, release, NULL, 0, &len, &put_in) == VEJUPA_ACCEPTED && len == 0);
     CHECK(vejupa_format_lob_locator(packed, 1, text, sizeof text, &len) == VEJUPA_ACCEPTED && is_text(len, "LOB locator 0x00"));
     CHECK(vejupa_format_lob_locator(NULL, 0, NULL, 0, &len) == VEJUPA_TEXT_BUFFER_TOO_SHORT && len == 14);
     CHECK(vejupa_format_rowid(packed, 2, text, sizeof text, &len) == VEJUPA_ACCEPTED && is_text(len, "0x005C"));
@@ -544,6 +545,213 @@ static void texts(void) {
     CHECK(vejupa_decode_packed_decimal(NULL, 0, 2, NULL, 0, &len) == VEJUPA_DECIMAL_EMPTY && len == 0);
     CHECK(vejupa_decode_packed_decimal(large, VEJUPA_MAX_DECIMAL + 1, 2, text, sizeof text, &len) == VEJUPA_DECIMAL_TOO_LONG);
     CHECK(vejupa_bytes_are_likely_text(NULL, 0) == 1 && vejupa_bytes_are_likely_text(packed, 2) == 0);
+}
+
+/* Whether a text comes out so at a release, with no U+FFFD put in. */
+static int reads_as(conversion call, const void *data, size_t data_len, uint32_t ccsid, uint32_t stated, const void *expected, size_t expected_len) {
+    size_t len = SIZE_MAX, put_in = SIZE_MAX;
+    return call((const uint8_t *)data, data_len, (uint16_t)ccsid, stated, text, sizeof text, &len, &put_in) == VEJUPA_ACCEPTED && len == expected_len &&
+           memcmp(text, expected, len) == 0 && put_in == 0;
+}
+
+/* Of all CCSIDs, which go by the release: those that the library does not know, as characters, and as graphics where they are not UTF-16. An odd number of
+ * bytes is not. */
+static void releases_of_texts(void) {
+    uint32_t ccsid, stated;
+    for (ccsid = 0; ccsid <= UINT16_MAX; ccsid++) {
+        int is_utf16 = ccsid == 1200 || ccsid == 13488, holds = 1;
+        for (stated = 2; stated <= 3; stated++) {
+            int is_037 = ccsid == 37 || ccsid == 500 || (stated == 3 && ccsid != 1208 && ccsid != 819);
+            const char *blanks = is_037 ? "   " : "@@@", *unit = is_utf16 ? "K" : is_037 ? "\0." : "\0K";
+            holds &= reads_as(vejupa_decode_character_bytes, "@@@", 3, ccsid, stated, blanks, 3);
+            holds &= reads_as(vejupa_decode_character_bytes, "@@@", 2, ccsid, stated, blanks, 2);
+            holds &= reads_as(vejupa_decode_graphic_bytes, "@@@", 3, ccsid, stated, blanks, 3);
+            holds &= reads_as(vejupa_decode_graphic_bytes, "\0K", 2, ccsid, stated, unit, is_utf16 ? 1 : 2);
+        }
+        CHECK(holds);
+    }
+}
+
+/* Every byte in a CCSID that the library does not know: at release 3 as in 37; at 2 as it is below 80, else as in 37, with all that stands beside it. */
+static void bytes_of_an_unknown_ccsid(void) {
+    unsigned byte;
+    for (byte = 0; byte <= 0xFF; byte++) {
+        const uint8_t data[] = {0x40, (uint8_t)byte};
+        uint8_t named[8];
+        size_t len, put_in;
+        CHECK(vejupa_decode_character_bytes(data, 2, 37, 2, named, sizeof named, &len, &put_in) == VEJUPA_ACCEPTED && named[0] == ' ');
+        CHECK(reads_as(vejupa_decode_character_bytes, data, 2, 1047, 3, named, len));
+        CHECK(byte < 0x80 ? reads_as(vejupa_decode_character_bytes, data, 2, 1047, 2, data, 2)
+                          : reads_as(vejupa_decode_character_bytes, data, 2, 1047, 2, named, len));
+    }
+}
+
+/* Long blank fields, in a buffer of the text's length and in one that holds any text; then with a byte above 7F at their end. */
+static void long_blank_fields(void) {
+    static uint8_t room[3 * 5000 + 14];
+    static const size_t lengths[] = {1, 63, 1023, 1024, 1025, 2047, 5000};
+    size_t j, k, len, put_in;
+    int turn;
+    for (k = 0; k < LENGTH(lengths); k++) {
+        for (turn = 0; turn < 8; turn++) {
+            uint32_t stated = turn % 2 == 0 ? 2 : 3;
+            conversion call = turn % 4 < 2 ? vejupa_decode_character_bytes : vejupa_decode_graphic_bytes;
+            size_t n = lengths[k], text_room = turn < 4 ? n : 3 * n + 14;
+            memset(large, 0x40, n);
+            memset(room, 0xA5, sizeof room);
+            CHECK(call(large, n, 1047, stated, room, text_room, &len, &put_in) == VEJUPA_ACCEPTED && len == n && put_in == 0);
+            for (j = 0; j < n && room[j] == (stated == 2 ? '@' : ' '); j++) {
+            }
+            CHECK(j == n && room[n] == 0xA5);
+            large[n - 1] = 0xC1;
+            CHECK(call(large, n, 1047, stated, room, text_room, &len, &put_in) == VEJUPA_ACCEPTED && len == n && put_in == 0);
+            for (j = 0; j + 1 < n && room[j] == ' '; j++) {
+            }
+            CHECK(j + 1 == n && room[j] == 'A' && room[n] == 0xA5);
+            memset(large, 0, n);
+        }
+    }
+}
+
+/* A column and its bytes in a row; its text at release 2 and at release 3. */
+struct by_release {
+    enum vejupa_type type;
+    uint16_t length, ccsid;
+    const char *bytes;
+    size_t bytes_len;
+    const char *texts[2];
+};
+
+#define FIELD(type, length, ccsid, bytes, at_2, at_3) {VEJUPA_TYPE_##type, (length), (ccsid), (bytes), sizeof(bytes) - 1, {(at_2), (at_3)}}
+
+static const struct by_release fields_by_release[] = {
+    /* by CCSID, and the CCSID is not known */
+    FIELD(CHAR, 2, 1047, "@K", "@K", " ."),
+    FIELD(CHAR, 2, 0, "@K", "@K", " ."),
+    FIELD(CHAR, 2, 1200, "@K", "@K", " ."),
+    FIELD(CHAR, 2, 1047, "@\xC1", " A", " A"),
+    FIELD(VAR_CHAR, 9, 1047, "\0\2@K", "@K", " ."),
+    FIELD(LONG_VAR_CHAR, 0, 1047, "\0\2@K", "@K", " ."),
+    FIELD(DATE, 0, 0, "@@@@@@@@@K", "@@@@@@@@@K", "         ."),
+    FIELD(TIME, 0, 0, "@@@@@@@K", "@@@@@@@K", "       ."),
+    FIELD(TIMESTAMP, 2, 0, "@K", "@K", " ."),
+    FIELD(GRAPHIC, 2, 1047, "@K", "@K", " ."),
+    FIELD(GRAPHIC, 1, 1200, "@", "@", " "),
+    FIELD(GRAPHIC, 3, 13488, "@@K", "@@K", "  ."),
+    FIELD(VAR_GRAPHIC, 9, 1047, "\0\2@K", "@K", " ."),
+    FIELD(VAR_GRAPHIC, 9, 1200, "\0\3@@K", "@@K", "  ."),
+    FIELD(LOB_CHAR, 2, 1047, "@K", "@K", " ."),
+    FIELD(LOB_BYTES, 2, 1047, "@K", "@K", " ."), /* likely text */
+    /* by CCSID, and it is known, or UTF-16 */
+    FIELD(CHAR, 2, 1208, "@K", "@K", "@K"),
+    FIELD(CHAR, 2, 819, "@K", "@K", "@K"),
+    FIELD(CHAR, 2, 37, "@K", " .", " ."),
+    FIELD(CHAR, 2, 500, "@K", " .", " ."),
+    FIELD(LOB_BYTES, 2, 1208, "@K", "@K", "@K"),
+    FIELD(LOB_BYTES, 2, 37, "@K", " .", " ."),
+    FIELD(GRAPHIC, 2, 1200, "\0K", "K", "K"),
+    FIELD(VAR_GRAPHIC, 9, 13488, "\0\2\0K", "K", "K"),
+    /* UTF-8: texts of LOBs within the row */
+    FIELD(CLOB, 100, 1047, "\0\0\0\2@K", "@K", "@K"),
+    FIELD(CLOB, 100, 37, "\0\0\0\2@K", "@K", "@K"),
+    FIELD(DB_CLOB, 100, 1200, "\0\0\0\2@K", "@K", "@K"),
+    FIELD(XML, 0, 0, "\0\0\0\2@K", "@K", "@K"),
+    /* by no CCSID */
+    FIELD(CLOB, 0, 1047, "\0\0\0@", "LOB locator 0x00000040", "LOB locator 0x00000040"),
+    FIELD(CLOB_LOCATOR, 0, 1047, "@@@@", "LOB locator 0x40404040", "LOB locator 0x40404040"),
+    FIELD(VAR_CHAR, 0x8001, 1047, "\x80\1@", "LOB locator 0x40", "LOB locator 0x40"),
+    FIELD(ROW_ID, 2, 1047, "@K", "0x404B", "0x404B"),
+    FIELD(LOB_BYTES, 2, 1047, "\0@", "", ""), /* not likely: a Blob */
+    FIELD(BINARY, 2, 1047, "@K", "", ""),
+};
+
+/* Texts at either release, in buffers of their length and of one byte less; all else of a value is the same, and so are the bytes used. */
+static void releases_of_rows(void) {
+    size_t k, needed;
+    int turn;
+    for (k = 0; k < LENGTH(fields_by_release); k++) {
+        const struct by_release *field = &fields_by_release[k];
+        const uint8_t *data = (const uint8_t *)field->bytes;
+        struct vejupa_value first = {{0, 0, 0}};
+        columns[0] = vejupa_make_column(field->type, field->length, 0, field->ccsid);
+        for (turn = 0; turn < 2; turn++) {
+            release = turn == 0 ? 2 : 3;
+            needed = strlen(field->texts[turn]);
+            memset(text, 0xA5, sizeof text);
+            CHECK(decode(1, data, field->bytes_len, sizeof text) == VEJUPA_ACCEPTED && numbers(field->bytes_len, needed, 0, 0));
+            CHECK(is_text(row.text_length, field->texts[turn]) && text[needed] == 0xA5);
+            first = turn == 0 ? values[0] : first;
+            CHECK(memcmp(&values[0], &first, sizeof first) == 0);
+            CHECK(decode(1, data, field->bytes_len, needed) == VEJUPA_ACCEPTED && is_text(row.text_length, field->texts[turn]));
+            CHECK(needed == 0 || (decode(1, data, field->bytes_len, needed - 1) == VEJUPA_TEXT_BUFFER_TOO_SHORT && numbers(0, needed, 0, 0)));
+            CHECK(decode(1, data, field->bytes_len - 1, needed) == VEJUPA_BUFFER_TOO_SHORT);
+        }
+    }
+}
+
+/* No releases: those around the two, and such as would be one if only their lowest bits were kept. */
+static const uint32_t no_releases[] = {0, 1, 4, 5, 127, 130, 255, 256, 258, 259, 65535, 65538, 65539, UINT32_C(0x01000002), UINT32_C(0x80000003), UINT32_MAX};
+
+static int all_are(const void *array, size_t length, uint8_t byte) {
+    const uint8_t *bytes = (const uint8_t *)array;
+    size_t k;
+    for (k = 0; k < length && bytes[k] == byte; k++) {
+    }
+    return k == length;
+}
+
+/* Whether a conversion answers 22 at this release, with nothing written and no number. */
+static int refuses_text(conversion call, const uint8_t *data, size_t data_len, uint16_t ccsid, uint32_t stated, size_t room) {
+    size_t len = SIZE_MAX, put_in = SIZE_MAX;
+    memset(text, 0xA5, sizeof text);
+    return call(data, data_len, ccsid, stated, text, room, &len, &put_in) == VEJUPA_UNKNOWN_RELEASE && len == 0 && put_in == 0 &&
+           all_are(text, sizeof text, 0xA5);
+}
+
+/* The same of the row call, with so many words for columns and for values. */
+static int refuses_row(size_t column_words, const uint8_t *data, size_t data_len, uint32_t stated, size_t value_words, size_t text_room) {
+    memset(values, 0xA5, sizeof values);
+    memset(text, 0xA5, sizeof text);
+    memset(&row, 0xA5, sizeof row);
+    return vejupa_raw_decode_row(columns->words, column_words, data, data_len, stated, values->words, value_words, text, text_room, &row.used,
+                                 &row.text_length, &row.replaced, &row.expected, &row.actual) == VEJUPA_UNKNOWN_RELEASE &&
+           numbers(0, 0, 0, 0) && all_are(values, sizeof values, 0xA5) && all_are(text, sizeof text, 0xA5);
+}
+
+/* 22 comes before every other answer, and where there would be none. */
+static void unknown_releases(void) {
+    static const uint8_t ten[] = {0x00, 0x00, 0x00, 0x0A, 0x40, 0x40};
+    static const uint16_t ccsids[] = {0, 37, 500, 819, 1047, 1200, 1208, 13488};
+    size_t j, k;
+    for (k = 0; k < LENGTH(no_releases); k++) {
+        uint32_t stated = no_releases[k];
+        for (j = 0; j < LENGTH(ccsids); j++) {
+            conversion call = j % 2 == 0 ? vejupa_decode_character_bytes : vejupa_decode_graphic_bytes;
+            conversion other = j % 2 == 1 ? vejupa_decode_character_bytes : vejupa_decode_graphic_bytes;
+            CHECK(refuses_text(call, ten, sizeof ten, ccsids[j], stated, sizeof text) && refuses_text(other, ten, sizeof ten, ccsids[j], stated, sizeof text));
+            CHECK(refuses_text(call, NULL, 0, ccsids[j], stated, 0) && refuses_text(other, NULL, 0, ccsids[j], stated, 0));
+            CHECK(refuses_text(call, ten, sizeof ten, ccsids[j], stated, 1) && refuses_text(other, ten, sizeof ten, ccsids[j], stated, 1)); /* 9 */
+            CHECK(refuses_text(call, large, sizeof large, ccsids[j], stated, sizeof text)); /* 4 */
+            CHECK(refuses_text(other, large, sizeof large, ccsids[j], stated, sizeof text));
+        }
+        columns[0] = vejupa_make_column(VEJUPA_TYPE_INTEGER, 0, 0, 0);
+        columns[1] = vejupa_make_column(VEJUPA_TYPE_CHAR, 2, 0, 1047);
+        CHECK(refuses_row(0, ten, 0, stated, 0, 0));                                 /* no column */
+        CHECK(refuses_row(2, ten, sizeof ten, stated, 3, sizeof text));              /* no text */
+        CHECK(refuses_row(4, ten, sizeof ten, stated, 6, sizeof text));              /* one */
+        CHECK(refuses_row(4, ten, sizeof ten, stated, 6, 0));                        /* 9 */
+        CHECK(refuses_row(4, ten, sizeof ten - 1, stated, 6, sizeof text));          /* 8 */
+        CHECK(refuses_row(4, large, sizeof large, stated, 6, sizeof text));          /* 4 */
+        CHECK(refuses_row(3, ten, sizeof ten, stated, 6, sizeof text));              /* 102, by an odd number of words */
+        CHECK(refuses_row(4, ten, sizeof ten, stated, 5, sizeof text));              /* 101 */
+        CHECK(refuses_row(2 * LENGTH(columns), ten, sizeof ten, stated, 0, 0));      /* 3, and 101 */
+        columns[1].words[0] = VEJUPA_TYPE_DEC_FLOAT | 16 << 8;
+        CHECK(refuses_row(4, ten, sizeof ten, stated, 6, sizeof text));              /* 5 */
+        columns[1].words[0] = VEJUPA_TYPE_NULL + 1;
+        CHECK(refuses_row(4, large, sizeof large, stated, 0, 0));                    /* 102, 101 and 4 */
+        CHECK(vejupa_decode_row(columns, SIZE_MAX, NULL, 0, stated, NULL, 0, NULL, 0, &row) == VEJUPA_UNKNOWN_RELEASE && numbers(0, 0, 0, 0));
+        CHECK(vejupa_decode_row(NULL, 0, NULL, 0, stated, NULL, 0, NULL, 0, &row) == VEJUPA_UNKNOWN_RELEASE && numbers(0, 0, 0, 0));
+    }
 }
 
 /* Whether vejupa_decode_packed_whole answers so, with such a number, and with the scale where it accepts. Both are written, whatever was there before. */
@@ -706,7 +914,7 @@ static void fixed_lengths(void) {
 
 /* Each answer has words of its own, and a number that is none has others. */
 static void names(void) {
-    static const uint32_t answers[] = {0, 1, 2, 3, 4, 5, 6, 7, 8, 9, 12, 13, 14, 15, 101, 102, 10};
+    static const uint32_t answers[] = {0, 1, 2, 3, 4, 5, 6, 7, 8, 9, 12, 13, 14, 15, 22, 101, 102, 10};
     size_t i, j;
     for (i = 0; i < LENGTH(answers); i++) {
         for (j = 0; j < i; j++) {
@@ -718,6 +926,7 @@ static void names(void) {
     CHECK(strcmp(vejupa_refusal_name(VEJUPA_DECIMAL_SIGN), "a packed decimal with a sign below A") == 0);
     CHECK(strcmp(vejupa_refusal_name(VEJUPA_DECIMAL_OUT_OF_RANGE), "a packed decimal that no signed number of 64 bits holds") == 0);
     CHECK(strcmp(vejupa_refusal_name(VEJUPA_QRYDSC_BROKEN_OFF), "the description breaks off") == 0);
+    CHECK(strcmp(vejupa_refusal_name(VEJUPA_UNKNOWN_RELEASE), "a host release that is neither 2 nor 3") == 0);
     for (i = 0; i <= VEJUPA_TYPE_NULL + 1; i++) {
         for (j = 0; j < i; j++) {
             CHECK(strcmp(vejupa_type_name((uint32_t)i), vejupa_type_name((uint32_t)j)) != 0);
@@ -747,28 +956,40 @@ static void version(void) {
     CHECK(vejupa_version_wanted() == 10000 * first + 100 * second + third);
 }
 
-int main(void) {
-    fields_of_a_column();
+/* What holds at either release: every CCSID in it is known, save where a byte is above 7F. */
+static void at_a_release(void) {
     own_columns();
-    no_columns();
     set_origins();
     origins_in_rows();
-    fields_of_values();
-    bytes_of_values();
     described_origins();
-    ends_of_descriptions();
-    descriptions_cut_off();
     descriptions();
     rows();
     rows_one_after_the_other();
     texts();
     replaced_characters();
     replaced_in_rows();
+    packed_bytes_in_rows();
+}
+
+int main(void) {
+    fields_of_a_column();
+    no_columns();
+    fields_of_values();
+    bytes_of_values();
+    ends_of_descriptions();
+    descriptions_cut_off();
+    for (release = 2; release <= 3; release++) {
+        at_a_release();
+    }
+    releases_of_texts();
+    bytes_of_an_unknown_ccsid();
+    long_blank_fields();
+    releases_of_rows();
+    unknown_releases();
     short_whole_numbers();
     whole_numbers_at_the_ends();
     refused_whole_numbers();
     scales_and_signs();
-    packed_bytes_in_rows();
     fixed_lengths();
     names();
     version();

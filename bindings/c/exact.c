@@ -1,6 +1,6 @@
 /* Makes the calls of a stored list (the format of oracle/README.md: Q, T, G, L and P lines, q, t and g, n and w; others are passed over) with every slice in
- * memory of exactly its length, so that a memory checker sees a byte read or written outside of it. It compares no answer: oracle/check does.
- * tools/check-memory runs it. */
+ * memory of exactly its length, so that a memory checker sees a byte read or written outside of it. Lines that state no host release are gone through at both.
+ * It compares no answer: oracle/check does. tools/check-memory runs it. */
 #include <ctype.h>
 #include <stdio.h>
 #include <stdlib.h>
@@ -73,6 +73,9 @@ static struct slice bytes_of(const char *field) {
 /* The sum of what was read, so that nothing is left out. */
 static unsigned long touched;
 
+/* What calls state. */
+static uint32_t release;
+
 /* Reads the bytes of every value. */
 static void touch(const struct vejupa_value *values, size_t count, struct slice data, const uint8_t *text, size_t text_len) {
     for (size_t k = 0; k < count; k++) {
@@ -89,7 +92,7 @@ static void row(const struct vejupa_column *columns, size_t count, struct slice 
         struct vejupa_value *values = exactly(count * sizeof *values);
         uint8_t *text = exactly(lengths[turn]);
         struct vejupa_row answer;
-        uint32_t refusal = vejupa_decode_row(columns, count, data.start, data.length, values, count, text, lengths[turn], &answer);
+        uint32_t refusal = vejupa_decode_row(columns, count, data.start, data.length, release, values, count, text, lengths[turn], &answer);
         if (refusal == VEJUPA_ACCEPTED) {
             touch(values, count, data, text, lengths[turn]);
             touched += answer.replaced;
@@ -151,10 +154,10 @@ static void descriptions(const char *field, const char *row_field) {
 
 static uint32_t convert(char kind, unsigned number, struct slice data, uint8_t *text, size_t text_room, size_t *text_length, size_t *replaced) {
     if (kind == 'T') {
-        return vejupa_decode_character_bytes(data.start, data.length, (uint16_t)number, text, text_room, text_length, replaced);
+        return vejupa_decode_character_bytes(data.start, data.length, (uint16_t)number, release, text, text_room, text_length, replaced);
     }
     if (kind == 'G') {
-        return vejupa_decode_graphic_bytes(data.start, data.length, (uint16_t)number, text, text_room, text_length, replaced);
+        return vejupa_decode_graphic_bytes(data.start, data.length, (uint16_t)number, release, text, text_room, text_length, replaced);
     }
     return vejupa_decode_packed_decimal(data.start, data.length, (uint8_t)number, text, text_room, text_length);
 }
@@ -182,39 +185,50 @@ static void whole_number_of(unsigned scale, struct slice data) {
     free(number);
 }
 
+/* Makes the calls of a line of so many fields; 0 where it asks for none. */
+static int request(char *const *fields, int n) {
+    if (n >= 4 && strcmp(fields[0], "Q") == 0) {
+        descriptions(fields[1], fields[3]);
+    } else if (n >= 2 && strcmp(fields[0], "n") == 0) {
+        descriptions(fields[1], "-"); /* such a line has no row */
+    } else if (n >= 3 && (*fields[0] == 'T' || *fields[0] == 'G' || *fields[0] == 'P')) {
+        struct slice data = bytes_of(fields[2]);
+        text_of(*fields[0], (unsigned)strtoul(fields[1], NULL, 10), data);
+        free(data.start);
+    } else if (n >= 3 && strcmp(fields[0], "w") == 0) {
+        struct slice data = bytes_of(fields[2]);
+        whole_number_of((unsigned)strtoul(fields[1], NULL, 10), data);
+        free(data.start);
+    } else if (n >= 2 && *fields[0] == 'L') {
+        struct slice data = bytes_of(fields[1]);
+        vejupa_bytes_are_likely_text(data.start, data.length);
+        free(data.start);
+    } else {
+        return 0;
+    }
+    return 1;
+}
+
 int main(void) {
     static char line[1 << 22];
     unsigned long calls = 0;
     while (fgets(line, sizeof line, stdin) != NULL) {
-        char *fields[4] = {NULL, NULL, NULL, NULL};
+        char *fields[5] = {NULL, NULL, NULL, NULL, NULL};
         int n = 0;
-        for (char *field = strtok(line, " \n"); field != NULL && n < 4; field = strtok(NULL, " \n")) {
+        for (char *field = strtok(line, " \n"); field != NULL && n < 5; field = strtok(NULL, " \n")) {
             fields[n++] = field;
-            if (n == 1 && strchr("qtg", *field) != NULL) {
-                *field = (char)toupper(*field);
-                strtok(NULL, " \n"); /* the release */
+        }
+        if (n >= 2 && strchr("qtg", *fields[0]) != NULL) { /* as in upper case, with the release in front */
+            release = (uint32_t)strtoul(fields[1], NULL, 10);
+            *fields[0] = (char)toupper(*fields[0]);
+            fields[1] = fields[0];
+            calls += (unsigned long)request(fields + 1, n - 1);
+        } else if (n >= 1) {
+            int by_release = strchr("QTG", *fields[0]) != NULL;
+            for (release = 2; release <= (by_release ? 3U : 2U); release++) {
+                calls += (unsigned long)request(fields, n);
             }
         }
-        if (n == 4 && strcmp(fields[0], "Q") == 0) {
-            descriptions(fields[1], fields[3]);
-        } else if (n >= 2 && strcmp(fields[0], "n") == 0) {
-            descriptions(fields[1], "-"); /* such a line has no row */
-        } else if (n >= 3 && (*fields[0] == 'T' || *fields[0] == 'G' || *fields[0] == 'P')) {
-            struct slice data = bytes_of(fields[2]);
-            text_of(*fields[0], (unsigned)strtoul(fields[1], NULL, 10), data);
-            free(data.start);
-        } else if (n >= 3 && strcmp(fields[0], "w") == 0) {
-            struct slice data = bytes_of(fields[2]);
-            whole_number_of((unsigned)strtoul(fields[1], NULL, 10), data);
-            free(data.start);
-        } else if (n >= 2 && *fields[0] == 'L') {
-            struct slice data = bytes_of(fields[1]);
-            vejupa_bytes_are_likely_text(data.start, data.length);
-            free(data.start);
-        } else {
-            continue;
-        }
-        calls++;
     }
     printf("%lu requests, what was read of their answers adds up to %lu\n", calls, touched);
     return 0;

@@ -1,6 +1,7 @@
 /* How much stack the calls take: each is made on a stack of its own, filled with a pattern first, whose bytes are then counted from the end that stayed. It
- * prints one line, and fails where a call took more than the header says. Long texts take other ways through the library than short ones,
- * descriptions of columns other ways than bytes that describe none, and whole numbers other ways than refused ones, so there are all of these.
+ * prints one line, and fails where a call took more than the header says. Long texts take other ways through the library than short ones, texts of one
+ * host release other ways than those of the other, descriptions of columns other ways than bytes that describe none, and whole numbers other ways than refused
+ * ones, so there are all of these.
  * tools/check-bindings compiles and runs it. */
 #define _XOPEN_SOURCE 700
 #include <stdio.h>
@@ -18,6 +19,7 @@ static ucontext_t back, there;
 static uint8_t data[30000];
 static size_t data_len;
 static uint16_t ccsid;
+static uint32_t release;
 static size_t text_room;
 static uint8_t text[3 * sizeof data + 14 + 258];
 static struct vejupa_column columns[VEJUPA_MAX_COLUMNS];
@@ -29,14 +31,14 @@ static uint8_t number_scale;
 static struct vejupa_row row;
 
 static void nothing(void) {}
-static void characters(void) { (void)vejupa_decode_character_bytes(data, data_len, ccsid, text, text_room, &text_length, &replaced); }
-static void graphics(void) { (void)vejupa_decode_graphic_bytes(data, data_len, ccsid, text, text_room, &text_length, &replaced); }
+static void characters(void) { (void)vejupa_decode_character_bytes(data, data_len, ccsid, release, text, text_room, &text_length, &replaced); }
+static void graphics(void) { (void)vejupa_decode_graphic_bytes(data, data_len, ccsid, release, text, text_room, &text_length, &replaced); }
 static void decimal(void) { (void)vejupa_decode_packed_decimal(data, 128, 2, text, text_room, &text_length); }
 static void whole_number(void) { (void)vejupa_decode_packed_whole(data, data_len, 2, &number, &number_scale); }
 static void likely(void) { (void)vejupa_bytes_are_likely_text(data, data_len); }
 static void whole_description(void) { (void)vejupa_parse_whole_qrydsc(data, data_len, columns, columns_room, &count); }
 static void any_description(void) { (void)vejupa_parse_qrydsc(data, data_len, columns, columns_room, &count, &broken_off); }
-static void decode(void) { (void)vejupa_decode_row(columns, 1, data, data_len, values, VEJUPA_MAX_COLUMNS, text, text_room, &row); }
+static void decode(void) { (void)vejupa_decode_row(columns, 1, data, data_len, release, values, VEJUPA_MAX_COLUMNS, text, text_room, &row); }
 
 /* The bytes of stack that a call took, the beginning of such a stack included. */
 static size_t taken(void (*call)(void)) {
@@ -65,22 +67,35 @@ static void call(void (*one)(void)) {
     most = bytes > most ? bytes : most;
 }
 
-/* Every call on the first n bytes of `data`: without room for a text, with just enough, and with more than enough. */
-static void calls(size_t n) {
-    static const uint16_t ccsids[] = {1208, 819, 37, 1047, 1200, 0};
-    size_t k, turn;
-    data_len = n;
-    call(likely);
-    for (k = 0; k < sizeof ccsids / sizeof *ccsids; k++) {
-        ccsid = ccsids[k];
-        columns[0] = vejupa_make_column(k % 2 == 0 ? VEJUPA_TYPE_CHAR : VEJUPA_TYPE_GRAPHIC, (uint16_t)n, 0, ccsid);
+/* Every call that takes a CCSID, by a column of this type too, on `data`: without room for a text, with just enough, and with more than enough. At both
+ * releases, and at what is none. */
+static void calls_by_ccsid(enum vejupa_type type) {
+    size_t turn;
+    columns[0] = vejupa_make_column(type, (uint16_t)data_len, 0, ccsid);
+    for (release = 2; release <= 4; release++) {
         for (turn = 0; turn < 3; turn++) {
             text_room = turn == 0 ? 0 : turn == 1 ? text_length : sizeof text;
-            call(decimal);
             call(decode);
             call(graphics);
             call(characters);
         }
+    }
+}
+
+/* Every call on the first n bytes of `data`. */
+static void calls(size_t n) {
+    static const uint16_t ccsids[] = {1208, 819, 37, 1047, 1200, 0};
+    size_t k;
+    data_len = n;
+    call(likely);
+    for (k = 0; k < sizeof ccsids / sizeof *ccsids; k++) {
+        ccsid = ccsids[k];
+        calls_by_ccsid(VEJUPA_TYPE_CHAR);
+        calls_by_ccsid(VEJUPA_TYPE_GRAPHIC);
+    }
+    for (k = 0; k < 3; k++) {
+        text_room = k == 0 ? 0 : k == 1 ? text_length : sizeof text;
+        call(decimal);
     }
 }
 

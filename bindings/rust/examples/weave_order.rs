@@ -1,9 +1,13 @@
 //! Weave orders, from a host's bytes to a table: the same as examples/weave_order.c at the repository's root, which says what the bytes
 //! are, and with the same output.
 use vejupa::{
-    decode_packed_whole, decode_row_into, Buffers, Columns, Db2Type, PackedWhole, Refusal, Row,
-    Rows, Value,
+    decode_character_bytes, decode_packed_whole, decode_row_into, Buffers, Columns, Db2Type,
+    PackedWhole, Refusal, Row, Rows, Value,
 };
+
+/// The release of the host, 2 or 3, which each call that converts texts by CCSID is told. It belongs to the host and not to the program: a
+/// controller reads it from where it keeps the host's address.
+const RELEASE: u32 = 2;
 
 /// What the host sends once: the description.
 const DESCRIPTION: &[u8] = &[
@@ -96,7 +100,7 @@ fn height(row: Row, data: &[u8], columns: &Columns) -> Result<Option<PackedWhole
         return Ok(None);
     };
     let before: Columns = columns.iter().take(HEIGHT).collect();
-    let begins = before.decode_row(data)?.used + usize::from(column.nullable);
+    let begins = before.decode_row(data, RELEASE)?.used + usize::from(column.nullable);
     let packed = &data[begins..begins + (usize::from(precision) + 2) / 2];
     decode_packed_whole(packed, scale).map(Some)
 }
@@ -118,7 +122,7 @@ fn print_height(height: Result<Option<PackedWhole>, Refusal>) {
 ///   number below 0. With the two SmallInts or null of 09 76 D0 05 00 02 05 00 02 the rows FF 00 00 07 (null and 7) and 00 00 01 00 00 02
 ///   (1 and 2) come out as one, 1792 and 256.
 fn print_rows(columns: &Columns) {
-    let mut rows = Rows::new(BLOCK, columns);
+    let mut rows = Rows::new(BLOCK, columns, RELEASE);
     let mut at = 0;
     while rows.rest().starts_with(&[0xFF, 0x00]) {
         let Some(row) = rows.next_row() else { break };
@@ -132,6 +136,16 @@ fn print_rows(columns: &Columns) {
     println!("\n{} bytes are left, from {at} on", rows.rest().len());
 }
 
+/// What the release decides: a text whose CCSID the library does not know, as 1047, is guessed at release 2, and is code page 037 at release 3.
+/// A blank field shows it.
+fn print_blank_field(release: u32) {
+    print!("a blank field of CCSID 1047 at release {release}: ");
+    match decode_character_bytes(&[0x40; 4], 1047, release) {
+        Ok(blanks) => println!("{:?}", blanks.text),
+        Err(refusal) => println!("{refusal}"),
+    }
+}
+
 fn main() -> Result<(), Refusal> {
     // A description that breaks off is refused here. Columns may be missing in one: rows would lack their values, and each next row would be
     // looked for within the one before it.
@@ -139,6 +153,15 @@ fn main() -> Result<(), Refusal> {
     print_columns(&columns);
     print_rows(&columns);
     print!("\nthe first row, cut off: ");
-    print_row(decode_row_into(&BLOCK[..21], &columns, &mut Buffers::new()));
+    let mut buffers = Buffers::new();
+    print_row(decode_row_into(
+        &BLOCK[..21],
+        &columns,
+        RELEASE,
+        &mut buffers,
+    ));
+    println!();
+    print_blank_field(2);
+    print_blank_field(3);
     Ok(())
 }

@@ -22,7 +22,7 @@ use std::slice::ChunksExact;
 ///     Column::new(Db2Type::Integer),
 ///     Column::new(Db2Type::Char(3)).with_ccsid(37).with_nullable(true),
 /// ];
-/// let row = decode_row(&[0x00, 0x00, 0x00, 0x07, 0x00, 0xC1, 0xC2, 0xC3], &columns)?;
+/// let row = decode_row(&[0x00, 0x00, 0x00, 0x07, 0x00, 0xC1, 0xC2, 0xC3], &columns, 2)?;
 /// assert_eq!(row.values, [Value::Integer(7), Value::Char("ABC")]);
 /// # Ok::<(), vejupa::Refusal>(())
 /// ```
@@ -56,9 +56,9 @@ pub struct Column {
 impl Column {
     /// A column of a type and nothing else: not nullable, big-endian, CCSID 0, no reference, origin SDA, every other number 0.
     ///
-    /// Say more where it matters. A text of CCSID 0 is guessed, as that of every CCSID that the library does not name: give it one. A Blob,
-    /// Clob or DbClob of length 0 is a reference, of four bytes or of nine that begin 02: where its values come within the row, give it a length. A Timestamp of
-    /// length 0 has 26 bytes.
+    /// Say more where it matters. A text of CCSID 0, a date or a time too, goes by the [host's release](crate#the-hosts-release): at 2 it is
+    /// guessed, at 3 it is code page 037, so that ASCII comes out wrong. Give it one. A Blob, Clob or DbClob of length 0 is a reference, of
+    /// four bytes or of nine that begin 02: where its values come within the row, give it a length. A Timestamp of length 0 has 26 bytes.
     #[must_use]
     pub const fn new(db2_type: Db2Type) -> Column {
         Column {
@@ -202,7 +202,7 @@ pub fn parse_whole_qrydsc(data: &[u8]) -> Result<Vec<Column>, Refusal> {
 /// if description.broken_off {
 ///     eprintln!("the description breaks off: columns may be missing");
 /// }
-/// let row = description.columns.decode_row(&[0x2A, 0x00, 0x00, 0x00])?;
+/// let row = description.columns.decode_row(&[0x2A, 0x00, 0x00, 0x00], 2)?;
 /// assert_eq!(row.values.len(), 1);
 /// # assert!(description.broken_off);
 /// # Ok::<(), vejupa::Refusal>(())
@@ -298,12 +298,13 @@ impl Columns {
         }
     }
 
-    /// The values of a row, with texts and bytes of their own: [`decode_row`](crate::decode_row) by these columns.
+    /// The values of a row, with texts and bytes of their own: [`decode_row`](crate::decode_row) by these columns, at the
+    /// [host's release](crate#the-hosts-release).
     ///
     /// # Errors
     /// As [`decode_row`](crate::decode_row).
-    pub fn decode_row(&self, data: &[u8]) -> Result<OwnedRow, Refusal> {
-        decode_row_into(data, self, &mut Buffers::new()).map(Row::into_owned)
+    pub fn decode_row(&self, data: &[u8], release: u32) -> Result<OwnedRow, Refusal> {
+        decode_row_into(data, self, release, &mut Buffers::new()).map(Row::into_owned)
     }
 
     /// The words, two a column, as [`raw::decode_row`] takes them.

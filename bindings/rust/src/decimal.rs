@@ -44,7 +44,7 @@ pub struct PackedWhole {
 /// let columns = Columns::parse_whole(&[0x09, 0x76, 0xD0, 0x33, 0x00, 0x08, 0x0F, 0x05, 0x02])?;
 /// let row = [0x00, 0x00, 0x03, b'G', b'U', b'L', 0x00, 0x01, 0x25, 0x0C];
 /// let before: Columns = columns.iter().take(1).collect();
-/// let at = before.decode_row(&row)?.used + 1; // behind the indicator, which says that it is not null
+/// let at = before.decode_row(&row, 2)?.used + 1; // behind the indicator, which says that it is not null
 /// assert_eq!(decode_packed_whole(&row[at..at + 3], 2)?.number, 1250);
 /// # Ok::<(), vejupa::Refusal>(())
 /// ```

@@ -9,8 +9,10 @@
 //! let columns = Columns::parse_whole(&[0x09, 0x76, 0xD0, 0x02, 0x00, 0x04, 0x0F, 0x05, 0x02])?;
 //!
 //! // Rows follow. The buffers are used for one after the other.
+//! let release = 2; // the host's: see below
 //! let mut buffers = Buffers::new();
-//! let row = decode_row_into(&[0x00, 0x00, 0x00, 0x07, 0x00, 0x12, 0x34, 0x5C], &columns, &mut buffers)?;
+//! let bytes = [0x00, 0x00, 0x00, 0x07, 0x00, 0x12, 0x34, 0x5C];
+//! let row = decode_row_into(&bytes, &columns, release, &mut buffers)?;
 //! assert_eq!(row.value(0), Value::Integer(7));
 //! assert_eq!(row.value(1), Value::Decimal("123.45"));
 //! assert_eq!(row.used(), 8);
@@ -21,6 +23,33 @@
 //! that breaks off is refused; [`parse_qrydsc`] is for one that was stored so: it gives the columns read up to there, and says that it
 //! breaks off. [`Rows`] goes through rows that lie one after the other. [`decode_character_bytes`] and the like convert single texts.
 //! [`decode_packed_whole`] reads a packed decimal as a number. [`raw`] has the calls on plain words and lent slices.
+//!
+//! # The host's release
+//!
+//! Every call that converts texts by CCSID is told the release of the host that sent them, 2 or 3: [`decode_row`] and its other forms,
+//! [`Rows`], [`decode_character_bytes`], [`decode_graphic_bytes`]. It decides how a text is read whose CCSID is none of 1208, 819, 37 and 500,
+//! save a graphic text that is UTF-16 (CCSID 1200 or 13488, an even number of bytes):
+//!
+//! - **2**: by a guess, as the published Rust does and as this crate did before 0.6.0: ASCII where all bytes are below 0x80, else code page
+//!   037. A blank field, which is bytes 0x40, comes out as `@`s.
+//! - **3**: code page 037, whatever the bytes are.
+//!
+//! In a row this goes for Char, VarChar, LongVarChar, Graphic, VarGraphic, Date, Time, Timestamp and LobChar, and for a LobBytes whose bytes
+//! are [likely text](bytes_are_likely_text). The text of a Clob, DbClob or Xml within the row is UTF-8 at either release; locators, row ids,
+//! decimals and numbers have no part in it. What a value takes of the row, and so [`Row::used`], does not depend on the release.
+//!
+//! Hosts change over one at a time: keep the number beside the host's address, not in the program. Any other number is refused
+//! ([`Refusal::UnknownRelease`]), before anything else is looked at. That the one is stated for a host of the other no call notices: compare
+//! a blank field, and a text with letters, with what the host's own client shows.
+//!
+//! ```
+//! use vejupa::{decode_character_bytes, Refusal};
+//! let blank = [0x40; 4];
+//! assert_eq!(decode_character_bytes(&blank, 1047, 2)?.text, "@@@@");
+//! assert_eq!(decode_character_bytes(&blank, 1047, 3)?.text, "    ");
+//! assert_eq!(decode_character_bytes(&blank, 1047, 4), Err(Refusal::UnknownRelease));
+//! # Ok::<(), Refusal>(())
+//! ```
 //!
 //! # The archive
 //!

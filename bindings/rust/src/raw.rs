@@ -12,7 +12,7 @@ mod foreign {
     }
 
     unsafe extern "C" {
-        pub fn vejupa_version_0_5_1() -> u32;
+        pub fn vejupa_version_0_6_0() -> u32;
         pub fn vejupa_raw_parse_qrydsc(
             data: *const u8,
             data_len: usize,
@@ -33,6 +33,7 @@ mod foreign {
             column_words_len: usize,
             data: *const u8,
             data_len: usize,
+            release: u32,
             value_words: *mut u64,
             value_words_len: usize,
             text: *mut u8,
@@ -57,6 +58,7 @@ mod foreign {
             data: *const u8,
             data_len: usize,
             ccsid: u16,
+            release: u32,
             text: *mut u8,
             text_len: usize,
             text_length: *mut usize,
@@ -66,6 +68,7 @@ mod foreign {
             data: *const u8,
             data_len: usize,
             ccsid: u16,
+            release: u32,
             text: *mut u8,
             text_len: usize,
             text_length: *mut usize,
@@ -107,7 +110,7 @@ mod foreign {
 
 // The symbol has the version's name: a program does not link with an archive of another one.
 #[used]
-static OF_THIS_VERSION: unsafe extern "C" fn() -> u32 = foreign::vejupa_version_0_5_1;
+static OF_THIS_VERSION: unsafe extern "C" fn() -> u32 = foreign::vejupa_version_0_6_0;
 
 /// What every call answers where it accepts.
 pub const ACCEPTED: u32 = 0;
@@ -210,7 +213,7 @@ const UNWRITTEN: usize = usize::MAX;
 
 /// The archive's version: 10,000 for each major one, 100 for each minor one, 1 for each patch.
 pub fn version() -> u32 {
-    unsafe { foreign::vejupa_version_0_5_1() }
+    unsafe { foreign::vejupa_version_0_6_0() }
 }
 
 /// Two words a column into `column_words`, for as many columns as are described.
@@ -253,6 +256,7 @@ pub fn parse_whole_qrydsc(data: &[u8], column_words: &mut [u64]) -> WholeDescrip
 pub fn decode_row(
     column_words: &[u64],
     data: &[u8],
+    release: u32,
     value_words: &mut [u64],
     text: &mut [u8],
 ) -> RowAnswer {
@@ -270,6 +274,7 @@ pub fn decode_row(
             column_words.len(),
             data.as_ptr(),
             data.len(),
+            release,
             value_words.as_mut_ptr(),
             value_words.len(),
             text.as_mut_ptr(),
@@ -344,12 +349,18 @@ fn converted(call: impl FnOnce(*mut usize, *mut usize) -> u32) -> TextAnswer {
 
 /// The text of a character value.
 #[inline]
-pub fn decode_character_bytes(data: &[u8], ccsid: u16, text: &mut [u8]) -> TextAnswer {
+pub fn decode_character_bytes(
+    data: &[u8],
+    ccsid: u16,
+    release: u32,
+    text: &mut [u8],
+) -> TextAnswer {
     converted(|text_length, replaced| unsafe {
         foreign::vejupa_raw_decode_character_bytes(
             data.as_ptr(),
             data.len(),
             ccsid,
+            release,
             text.as_mut_ptr(),
             text.len(),
             text_length,
@@ -360,12 +371,13 @@ pub fn decode_character_bytes(data: &[u8], ccsid: u16, text: &mut [u8]) -> TextA
 
 /// The text of a graphic value.
 #[inline]
-pub fn decode_graphic_bytes(data: &[u8], ccsid: u16, text: &mut [u8]) -> TextAnswer {
+pub fn decode_graphic_bytes(data: &[u8], ccsid: u16, release: u32, text: &mut [u8]) -> TextAnswer {
     converted(|text_length, replaced| unsafe {
         foreign::vejupa_raw_decode_graphic_bytes(
             data.as_ptr(),
             data.len(),
             ccsid,
+            release,
             text.as_mut_ptr(),
             text.len(),
             text_length,

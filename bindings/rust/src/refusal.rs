@@ -45,6 +45,8 @@ pub enum Refusal {
     DecimalOutOfRange,
     /// 15: a description that breaks off: bytes are left behind its last whole triplet. It is tested behind 1 and before 2.
     QrydscBrokenOff,
+    /// 22: a [host's release](crate#the-hosts-release) that is neither 2 nor 3. It is tested before all others.
+    UnknownRelease,
 }
 
 impl Refusal {
@@ -64,6 +66,7 @@ impl Refusal {
             Refusal::DecimalSign => 13,
             Refusal::DecimalOutOfRange => 14,
             Refusal::QrydscBrokenOff => 15,
+            Refusal::UnknownRelease => 22,
         }
     }
 
@@ -84,6 +87,7 @@ impl Refusal {
             13 => Refusal::DecimalSign,
             14 => Refusal::DecimalOutOfRange,
             15 => Refusal::QrydscBrokenOff,
+            22 => Refusal::UnknownRelease,
             // To ask for the version also makes every program refer to its symbol where the compiler lets the linker drop a static (`raw`).
             _ => panic!(
                 "the library of version {} answered {number}, which is no refusal here",
@@ -120,6 +124,7 @@ impl fmt::Display for Refusal {
             Refusal::DecimalSign => pad(f, format_args!("refusal 13: a packed decimal with a sign below A")),
             Refusal::DecimalOutOfRange => pad(f, format_args!("refusal 14: a packed decimal that no signed number of 64 bits holds")),
             Refusal::QrydscBrokenOff => pad(f, format_args!("refusal 15: the description breaks off")),
+            Refusal::UnknownRelease => pad(f, format_args!("refusal 22: a host release that is neither 2 nor 3")),
         }
     }
 }

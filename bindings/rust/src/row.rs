@@ -58,7 +58,12 @@ impl Buffers {
     }
 
     /// Decodes a row. The second turn, with at least the length that the first asked for, is the last.
-    pub(crate) fn fill(&mut self, data: &[u8], columns: &Columns) -> Result<Filled, Refusal> {
+    pub(crate) fn fill(
+        &mut self,
+        data: &[u8],
+        columns: &Columns,
+        release: u32,
+    ) -> Result<Filled, Refusal> {
         let words = VALUE_WORDS * columns.len();
         if self.values.len() < words {
             self.values.resize(words, 0);
@@ -68,7 +73,13 @@ impl Buffers {
             self.text.resize(room, 0);
         }
         loop {
-            let answer = raw::decode_row(columns.words(), data, &mut self.values, &mut self.text);
+            let answer = raw::decode_row(
+                columns.words(),
+                data,
+                release,
+                &mut self.values,
+                &mut self.text,
+            );
             match answer.number {
                 ACCEPTED => {
                     return Ok(Filled {
@@ -84,7 +95,7 @@ impl Buffers {
                 }
                 BUFFER_TOO_SHORT => {
                     return Err(Refusal::BufferTooShort {
-                        column: self.short_column(data, columns),
+                        column: self.short_column(data, columns, release),
                         expected: answer.expected,
                         actual: answer.actual,
                     })
@@ -98,12 +109,12 @@ impl Buffers {
     // what a column reads does not depend on those behind it. No text is written meanwhile: for want of room the library only measures
     // it.
     #[cold]
-    fn short_column(&mut self, data: &[u8], columns: &Columns) -> usize {
+    fn short_column(&mut self, data: &[u8], columns: &Columns, release: u32) -> usize {
         let (mut enough, mut short) = (0, columns.len());
         while short - enough > 1 {
             let middle = enough + (short - enough) / 2;
             let first = &columns.words()[..COLUMN_WORDS * middle];
-            match raw::decode_row(first, data, &mut self.values, &mut []).number {
+            match raw::decode_row(first, data, release, &mut self.values, &mut []).number {
                 BUFFER_TOO_SHORT => short = middle,
                 _ => enough = middle,
             }
@@ -150,22 +161,37 @@ pub struct Row<'a> {
 /// a row without them must not begin FF, be it the indicator of a Null or a number below 0. Bytes behind the row do not change it, save for the few columns that do not
 /// carry their own end (W9 in `docs/RULES.md`); they count for [`MAX_INPUT`](crate::MAX_INPUT).
 ///
+/// The release is the [host's](crate#the-hosts-release), 2 or 3. It decides how texts are read whose CCSIDs the library does not
+/// know, and nothing else.
+///
 /// # Errors
-/// [`Refusal::CountTooLarge`], [`Refusal::InputTooLong`], [`Refusal::DecFloatColumn`] and [`Refusal::BufferTooShort`].
+/// The first of these that applies: [`Refusal::UnknownRelease`], [`Refusal::CountTooLarge`], [`Refusal::InputTooLong`],
+/// [`Refusal::DecFloatColumn`] and [`Refusal::BufferTooShort`].
 ///
 /// ```
 /// use vejupa::{decode_row, parse_whole_qrydsc, Value};
 /// let columns = parse_whole_qrydsc(&[0x09, 0x76, 0xD0, 0x05, 0x00, 0x02, 0x0F, 0x05, 0x02])?;
-/// let row = decode_row(&[0x00, 0x00, 0x2A, 0x00, 0x12, 0x34, 0x5C], &columns)?;
+/// let row = decode_row(&[0x00, 0x00, 0x2A, 0x00, 0x12, 0x34, 0x5C], &columns, 2)?;
 /// assert_eq!(row.values, [Value::SmallInt(42), Value::Decimal("123.45")]);
 /// assert_eq!(row.used, 7);
 /// # Ok::<(), vejupa::Refusal>(())
 /// ```
-pub fn decode_row(data: &[u8], columns: &[Column]) -> Result<OwnedRow, Refusal> {
-    Columns::from(columns).decode_row(data)
+///
+/// A blank field of a CCSID that the library does not know:
+///
+/// ```
+/// use vejupa::{decode_row, Column, Db2Type, Value};
+/// let columns = [Column::new(Db2Type::Char(4)).with_ccsid(1047)];
+/// assert_eq!(decode_row(&[0x40; 4], &columns, 2)?.values, [Value::Char("@@@@")]);
+/// assert_eq!(decode_row(&[0x40; 4], &columns, 3)?.values, [Value::Char("    ")]);
+/// # Ok::<(), vejupa::Refusal>(())
+/// ```
+pub fn decode_row(data: &[u8], columns: &[Column], release: u32) -> Result<OwnedRow, Refusal> {
+    Columns::from(columns).decode_row(data, release)
 }
 
-/// The values of a row, in lent buffers: the form for many rows. What [`decode_row`] says of a first byte FF holds here too.
+/// The values of a row, in lent buffers: the form for many rows. What [`decode_row`] says of a first byte FF and of the release holds here
+/// too.
 ///
 /// # Errors
 /// As [`decode_row`].
@@ -176,7 +202,7 @@ pub fn decode_row(data: &[u8], columns: &[Column]) -> Result<OwnedRow, Refusal> 
 /// let mut buffers = Buffers::new();
 /// let mut sum = 0;
 /// for bytes in [[0x2A, 0, 0, 0], [0x01, 0, 0, 0]] {
-///     let row = decode_row_into(&bytes, &columns, &mut buffers)?;
+///     let row = decode_row_into(&bytes, &columns, 2, &mut buffers)?;
 ///     sum += row.value(0).as_i64().expect("an Integer that is not null");
 /// }
 /// assert_eq!(sum, 43);
@@ -185,9 +211,10 @@ pub fn decode_row(data: &[u8], columns: &[Column]) -> Result<OwnedRow, Refusal> 
 pub fn decode_row_into<'a>(
     data: &'a [u8],
     columns: &Columns,
+    release: u32,
     buffers: &'a mut Buffers,
 ) -> Result<Row<'a>, Refusal> {
-    let filled = buffers.fill(data, columns)?;
+    let filled = buffers.fill(data, columns, release)?;
     Ok(buffers.row(data, filled))
 }
 
@@ -268,7 +295,7 @@ impl<'a> Row<'a> {
     /// use vejupa::{decode_row_into, Buffers, Column, Columns, Db2Type, Value};
     /// let columns = Columns::from([Column::new(Db2Type::VarChar(8)).with_ccsid(1208)]);
     /// let mut buffers = Buffers::new();
-    /// let row = decode_row_into(b"\x00\x05cr\xC3me", &columns, &mut buffers)?;
+    /// let row = decode_row_into(b"\x00\x05cr\xC3me", &columns, 2, &mut buffers)?;
     /// assert_eq!(row.value(0), Value::VarChar("cr\u{FFFD}me"));
     /// assert_eq!(row.replaced(), 1);
     /// # Ok::<(), vejupa::Refusal>(())

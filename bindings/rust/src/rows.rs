@@ -32,7 +32,7 @@ use std::iter::FusedIterator;
 /// let columns = Columns::parse_whole(&[0x06, 0x76, 0xD0, 0x04, 0x00, 0x02])?;
 /// // Two rows of a SmallInt, and the beginning of a query end.
 /// let block = [0xFF, 0x00, 0x00, 0x07, 0xFF, 0x00, 0x00, 0x08, 0x00, 0x64, 0x00, 0x00, 0x00];
-/// let mut rows = Rows::new(&block, &columns);
+/// let mut rows = Rows::new(&block, &columns, 2);
 /// let mut sum = 0;
 /// while rows.rest().starts_with(&[0xFF, 0x00]) {
 ///     let Some(row) = rows.next_row() else { break };
@@ -48,7 +48,7 @@ use std::iter::FusedIterator;
 /// ```
 /// use vejupa::{Columns, OwnedRow, Refusal, Rows};
 /// let columns = Columns::parse_whole(&[0x06, 0x76, 0xD0, 0x04, 0x00, 0x02])?;
-/// let rows: Result<Vec<OwnedRow>, Refusal> = Rows::new(&[0x00, 0x07, 0x00, 0x08], &columns).collect();
+/// let rows: Result<Vec<OwnedRow>, Refusal> = Rows::new(&[0x00, 0x07, 0x00, 0x08], &columns, 2).collect();
 /// assert_eq!(rows?.len(), 2);
 /// # Ok::<(), Refusal>(())
 /// ```
@@ -57,21 +57,29 @@ use std::iter::FusedIterator;
 pub struct Rows<'a, 'c> {
     rest: &'a [u8],
     columns: &'c Columns,
+    release: u32,
     buffers: Buffers,
     stopped: bool,
 }
 
 impl<'a, 'c> Rows<'a, 'c> {
-    /// The rows of a block, by their columns.
-    pub fn new(data: &'a [u8], columns: &'c Columns) -> Rows<'a, 'c> {
-        Rows::with_buffers(data, columns, Buffers::new())
+    /// The rows of a block, by their columns and the [host's release](crate#the-hosts-release). That the release is neither 2 nor 3 the
+    /// first row says, by [`Refusal::UnknownRelease`].
+    pub fn new(data: &'a [u8], columns: &'c Columns, release: u32) -> Rows<'a, 'c> {
+        Rows::with_buffers(data, columns, release, Buffers::new())
     }
 
     /// The same, with buffers that were used before; [`Rows::into_buffers`] gives them back.
-    pub fn with_buffers(data: &'a [u8], columns: &'c Columns, buffers: Buffers) -> Rows<'a, 'c> {
+    pub fn with_buffers(
+        data: &'a [u8],
+        columns: &'c Columns,
+        release: u32,
+        buffers: Buffers,
+    ) -> Rows<'a, 'c> {
         Rows {
             rest: data,
             columns,
+            release,
             buffers,
             stopped: false,
         }
@@ -88,7 +96,7 @@ impl<'a, 'c> Rows<'a, 'c> {
             return None;
         }
         let data = self.rest;
-        match self.buffers.fill(data, self.columns) {
+        match self.buffers.fill(data, self.columns, self.release) {
             Ok(filled) if filled.used > 0 => {
                 self.rest = &data[filled.used..];
                 Some(Ok(self.buffers.row(data, filled)))

@@ -78,21 +78,26 @@ fn owned_text(room: usize, call: impl Fn(&mut [u8]) -> TextAnswer) -> Result<Str
     owned(room, call).map(|made| made.text)
 }
 
-/// The text of a character value, by its CCSID: 1208 is UTF-8, 819 ISO 8859-1, 37 and 500 code page 037; any other is ASCII where all
-/// bytes are below 0x80, else code page 037. What is malformed becomes U+FFFD, and is counted.
+/// The text of a character value, by its CCSID: 1208 is UTF-8, 819 ISO 8859-1, 37 and 500 code page 037. Any other goes by the
+/// [host's release](crate#the-hosts-release): at 2 it is ASCII where all bytes are below 0x80, else code page 037; at 3 it is code page 037.
+/// What is malformed becomes U+FFFD, and is counted.
 ///
 /// # Errors
-/// [`Refusal::InputTooLong`].
+/// The first of [`Refusal::UnknownRelease`] and [`Refusal::InputTooLong`] that applies.
 ///
 /// ```
-/// assert_eq!(vejupa::decode_character_bytes(&[0xC1, 0xC2, 0xC3], 37)?.text, "ABC");
-/// let damaged = vejupa::decode_character_bytes(&[0xC1, 0x41], 1208)?;
+/// use vejupa::decode_character_bytes;
+/// assert_eq!(decode_character_bytes(&[0xC1, 0xC2, 0xC3], 37, 2)?.text, "ABC");
+/// let damaged = decode_character_bytes(&[0xC1, 0x41], 1208, 2)?;
 /// assert_eq!((damaged.text.as_str(), damaged.replaced), ("\u{FFFD}A", 1));
+/// // A CCSID that the library does not know, at release 2 and at release 3.
+/// assert_eq!(decode_character_bytes(&[0x40, 0x4B], 1047, 2)?.text, "@K");
+/// assert_eq!(decode_character_bytes(&[0x40, 0x4B], 1047, 3)?.text, " .");
 /// # Ok::<(), vejupa::Refusal>(())
 /// ```
-pub fn decode_character_bytes(data: &[u8], ccsid: u16) -> Result<Text, Refusal> {
+pub fn decode_character_bytes(data: &[u8], ccsid: u16, release: u32) -> Result<Text, Refusal> {
     owned(data.len() + SPARE, |text| {
-        raw::decode_character_bytes(data, ccsid, text)
+        raw::decode_character_bytes(data, ccsid, release, text)
     })
 }
 
@@ -104,33 +109,39 @@ pub fn decode_character_bytes(data: &[u8], ccsid: u16) -> Result<Text, Refusal> 
 /// ```
 /// use vejupa::{decode_character_bytes_into, Refusal};
 /// let mut text = [0; 3];
-/// assert_eq!(decode_character_bytes_into(&[0xC1, 0xC2, 0xC3], 37, &mut text)?.text, "ABC");
-/// let refusal = decode_character_bytes_into(&[0xC1, 0xC2, 0xC3, 0xC4], 37, &mut text);
+/// assert_eq!(decode_character_bytes_into(&[0xC1, 0xC2, 0xC3], 37, 2, &mut text)?.text, "ABC");
+/// let refusal = decode_character_bytes_into(&[0xC1, 0xC2, 0xC3, 0xC4], 37, 2, &mut text);
 /// assert_eq!(refusal, Err(Refusal::TextBufferTooShort { needed: 4 }));
 /// # Ok::<(), Refusal>(())
 /// ```
 pub fn decode_character_bytes_into<'t>(
     data: &[u8],
     ccsid: u16,
+    release: u32,
     text: &'t mut [u8],
 ) -> Result<TextRef<'t>, Refusal> {
-    converted(raw::decode_character_bytes(data, ccsid, text), text)
+    converted(
+        raw::decode_character_bytes(data, ccsid, release, text),
+        text,
+    )
 }
 
-/// The text of a graphic value, by its CCSID: 1200 and 13488 are big-endian UTF-16 where the number of bytes is even; any other goes as
-/// characters. An unpaired surrogate becomes U+FFFD, and is counted.
+/// The text of a graphic value, by its CCSID: 1200 and 13488 are big-endian UTF-16 where the number of bytes is even, at either
+/// [release](crate#the-hosts-release). Any other goes as characters do, and so does an odd number of bytes. An unpaired surrogate becomes
+/// U+FFFD, and is counted.
 ///
 /// # Errors
-/// [`Refusal::InputTooLong`].
+/// As [`decode_character_bytes`].
 ///
 /// ```
-/// assert_eq!(vejupa::decode_graphic_bytes(&[0xD8, 0x3D, 0xDE, 0x00], 1200)?.text, "\u{1F600}");
-/// assert_eq!(vejupa::decode_graphic_bytes(&[0xD8, 0x3D], 1200)?.replaced, 1);
+/// use vejupa::decode_graphic_bytes;
+/// assert_eq!(decode_graphic_bytes(&[0xD8, 0x3D, 0xDE, 0x00], 1200, 3)?.text, "\u{1F600}");
+/// assert_eq!(decode_graphic_bytes(&[0xD8, 0x3D], 1200, 3)?.replaced, 1);
 /// # Ok::<(), vejupa::Refusal>(())
 /// ```
-pub fn decode_graphic_bytes(data: &[u8], ccsid: u16) -> Result<Text, Refusal> {
+pub fn decode_graphic_bytes(data: &[u8], ccsid: u16, release: u32) -> Result<Text, Refusal> {
     owned(data.len() + SPARE, |text| {
-        raw::decode_graphic_bytes(data, ccsid, text)
+        raw::decode_graphic_bytes(data, ccsid, release, text)
     })
 }
 
@@ -141,9 +152,10 @@ pub fn decode_graphic_bytes(data: &[u8], ccsid: u16) -> Result<Text, Refusal> {
 pub fn decode_graphic_bytes_into<'t>(
     data: &[u8],
     ccsid: u16,
+    release: u32,
     text: &'t mut [u8],
 ) -> Result<TextRef<'t>, Refusal> {
-    converted(raw::decode_graphic_bytes(data, ccsid, text), text)
+    converted(raw::decode_graphic_bytes(data, ccsid, release, text), text)
 }
 
 /// `LOB locator 0x` and the bytes in upper-case hexadecimal.

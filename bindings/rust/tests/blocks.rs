@@ -38,7 +38,9 @@ fn all_rows_of_a_block() {
     let (described, bytes) = all_sorts();
     let described = Columns::from(&described[..]);
     let block = bytes.repeat(5);
-    let rows: Vec<OwnedRow> = Rows::new(&block, &described).map(Result::unwrap).collect();
+    let rows: Vec<OwnedRow> = Rows::new(&block, &described, 2)
+        .map(Result::unwrap)
+        .collect();
     assert_eq!(rows.len(), 5);
     for row in &rows {
         assert_eq!(row.values, VALUES);
@@ -46,7 +48,7 @@ fn all_rows_of_a_block() {
         assert_eq!(row.external_columns, [11, 12, 13, 14]);
     }
 
-    let mut rows = Rows::new(&block, &described);
+    let mut rows = Rows::new(&block, &described, 2);
     for left in (0..5).rev() {
         let row = rows.next_row().unwrap().unwrap();
         assert!(row.values().eq(VALUES));
@@ -60,7 +62,7 @@ fn all_rows_of_a_block() {
 #[test]
 fn by_turns() {
     let described = columns(SMALL_INT);
-    let mut rows = Rows::new(&[0, 1, 0, 2, 0, 3], &described);
+    let mut rows = Rows::new(&[0, 1, 0, 2, 0, 3], &described, 2);
     assert_eq!(rows.next().unwrap().unwrap().values, [Value::SmallInt(1)]);
     let second = rows.next_row().unwrap().unwrap();
     assert_eq!((second.value(0), second.used()), (Value::SmallInt(2), 2));
@@ -75,7 +77,7 @@ fn the_rest_is_the_blocks() {
     let block = [0, 1, 0, 2, 7];
     let described = columns(SMALL_INT);
     let rest = {
-        let mut rows = Rows::new(&block, &described);
+        let mut rows = Rows::new(&block, &described, 2);
         rows.next_row();
         rows.rest()
     };
@@ -85,7 +87,7 @@ fn the_rest_is_the_blocks() {
 #[test]
 fn nothing_to_read() {
     let described = columns(SMALL_INT);
-    let mut rows = Rows::new(&[], &described);
+    let mut rows = Rows::new(&[], &described, 2);
     assert_eq!((rows.next(), rows.rest()), (None, &[][..]));
 }
 
@@ -93,19 +95,19 @@ fn nothing_to_read() {
 #[test]
 fn rows_that_use_no_byte() {
     let none = Columns::default();
-    let mut rows = Rows::new(&[0x01, 0x02], &none);
+    let mut rows = Rows::new(&[0x01, 0x02], &none, 2);
     assert_eq!(rows.next(), None);
     assert!(rows.next_row().is_none());
     assert_eq!(rows.rest(), [0x01, 0x02]);
 
     // Without columns the two leading bytes are used, what follows is not.
-    let mut rows = Rows::new(&[0xFF, 0x00, 0x01], &none);
+    let mut rows = Rows::new(&[0xFF, 0x00, 0x01], &none, 2);
     assert_eq!(rows.next().unwrap().unwrap().used, 2);
     assert_eq!((rows.next(), rows.rest()), (None, &[0x01][..]));
 
     // A reference of no bytes.
     let blob = Columns::from(&[Column::new(Db2Type::Blob).with_reference_length(0)][..]);
-    let mut rows = Rows::new(&[0x01], &blob);
+    let mut rows = Rows::new(&[0x01], &blob, 2);
     assert_eq!((rows.next(), rows.rest()), (None, &[0x01][..]));
 }
 
@@ -120,7 +122,7 @@ fn a_refusal_ends_the_rows() {
         actual: 1,
     };
     for borrowed in [false, true] {
-        let mut rows = Rows::new(&block, &described);
+        let mut rows = Rows::new(&block, &described, 2);
         let first = rows.next().unwrap().unwrap();
         assert_eq!(numbers(&first), [Some(1), Some(2)]);
         let refusal = match borrowed {
@@ -134,7 +136,9 @@ fn a_refusal_ends_the_rows() {
             assert_eq!(rows.next(), None);
         }
         let more = [rows.rest(), &[4]].concat();
-        let again: Vec<OwnedRow> = Rows::new(&more, &described).map(Result::unwrap).collect();
+        let again: Vec<OwnedRow> = Rows::new(&more, &described, 2)
+            .map(Result::unwrap)
+            .collect();
         assert_eq!(again.len(), 1);
         assert_eq!(numbers(&again[0]), [Some(3), Some(4)]);
     }
@@ -144,9 +148,12 @@ fn a_refusal_ends_the_rows() {
 fn blocks_up_to_the_limit() {
     let described = columns(SMALL_INT);
     let block = vec![0; vejupa::MAX_INPUT];
-    assert_eq!(Rows::new(&block, &described).count(), vejupa::MAX_INPUT / 2);
+    assert_eq!(
+        Rows::new(&block, &described, 2).count(),
+        vejupa::MAX_INPUT / 2
+    );
     let block = vec![0; vejupa::MAX_INPUT + 1];
-    let mut rows = Rows::new(&block, &described);
+    let mut rows = Rows::new(&block, &described, 2);
     assert_eq!(rows.next(), Some(Err(Refusal::InputTooLong)));
     assert_eq!((rows.next(), rows.rest().len()), (None, block.len()));
 }
@@ -156,7 +163,7 @@ fn blocks_up_to_the_limit() {
 fn a_loop_that_stops_before_other_groups() {
     let described = columns(SMALL_INT);
     let block = [&[0xFF, 0, 0, 7, 0xFF, 0, 0, 8][..], &query_end()].concat();
-    let mut rows = Rows::new(&block, &described);
+    let mut rows = Rows::new(&block, &described, 2);
     let mut read = Vec::new();
     while rows.rest().starts_with(&[0xFF]) {
         let Some(row) = rows.next_row() else { break };
@@ -165,7 +172,7 @@ fn a_loop_that_stops_before_other_groups() {
     assert_eq!(read, [Some(7), Some(8)]);
     assert_eq!(rows.rest(), query_end());
 
-    let mut rows = Rows::new(&block[..7], &described);
+    let mut rows = Rows::new(&block[..7], &described, 2);
     let mut refusals = 0;
     while rows.rest().starts_with(&[0xFF]) {
         let Some(row) = rows.next_row() else { break };
@@ -180,7 +187,7 @@ fn a_loop_that_stops_before_other_groups() {
 fn a_query_end_read_as_rows() {
     let described = columns(SMALL_INT);
     let end = query_end();
-    let mut rows = Rows::new(&end, &described);
+    let mut rows = Rows::new(&end, &described, 2);
     for pair in end[..60].chunks(2) {
         let number = i16::from_be_bytes([pair[0], pair[1]]);
         assert_eq!(
@@ -204,7 +211,7 @@ fn a_leading_null_read_as_the_two_leading_bytes() {
         [0x00, 0x00, 0x01, 0x00, 0x00, 0x02],
     );
     let block = [&first[..], &second].concat();
-    let mut rows = Rows::new(&block, &described);
+    let mut rows = Rows::new(&block, &described, 2);
     let row = rows.next().unwrap().unwrap();
     assert_eq!(numbers(&row), [Some(1792), Some(256)]);
     let short = Refusal::BufferTooShort {
@@ -216,7 +223,9 @@ fn a_leading_null_read_as_the_two_leading_bytes() {
 
     // With the two leading bytes before each row they are read as they were meant.
     let block = [&[0xFF, 0x00][..], &first, &[0xFF, 0x00], &second].concat();
-    let rows: Vec<OwnedRow> = Rows::new(&block, &described).map(Result::unwrap).collect();
+    let rows: Vec<OwnedRow> = Rows::new(&block, &described, 2)
+        .map(Result::unwrap)
+        .collect();
     assert_eq!(numbers(&rows[0]), [None, Some(7)]);
     assert_eq!(numbers(&rows[1]), [Some(1), Some(2)]);
     assert_eq!(rows.len(), 2);
@@ -226,13 +235,16 @@ fn a_leading_null_read_as_the_two_leading_bytes() {
 #[test]
 fn a_lone_ff_is_not_taken_for_a_row() {
     let columns = Columns::from([Column::new(Db2Type::SmallInt).with_nullable(true)]);
-    assert_eq!(columns.decode_row(&[0xFF]).unwrap().values, [Value::Null]);
+    assert_eq!(
+        columns.decode_row(&[0xFF], 2).unwrap().values,
+        [Value::Null]
+    );
     let whole = [0xFF, 0x00, 0x00, 0x00, 0x07, 0xFF, 0x00, 0x00, 0x00, 0x08];
     for cut in 0..=whole.len() {
         let mut left = whole[..cut].to_vec();
         let mut found = Vec::new();
         for more in [&whole[cut..], &[]] {
-            let mut rows = Rows::new(&left, &columns);
+            let mut rows = Rows::new(&left, &columns, 2);
             while rows.rest().starts_with(&[0xFF, 0x00]) {
                 match rows.next_row() {
                     Some(Ok(row)) => found.push(row.value(0).as_i64()),
@@ -253,7 +265,7 @@ fn buffers_and_rest_go_on() {
     let block = [0x00, 0x07, 0x00];
     let rest = {
         let columns = Columns::from([Column::new(Db2Type::SmallInt)]);
-        let mut rows = Rows::with_buffers(&block, &columns, Buffers::with_text(9_000));
+        let mut rows = Rows::with_buffers(&block, &columns, 2, Buffers::with_text(9_000));
         assert_eq!(rows.next_row().unwrap().unwrap().value(0).as_i64(), Some(7));
         let rest = rows.rest();
         let buffers = rows.into_buffers();

@@ -110,7 +110,7 @@ fn some_words_are_no_column() {
         [2 << 51, 1 << 48],
     ] {
         assert_eq!(Column::from_words(words), None, "{words:X?}");
-        let answer = raw::decode_row(&words, &[0; 16], &mut [0; 3], &mut []);
+        let answer = raw::decode_row(&words, &[0; 16], 2, &mut [0; 3], &mut []);
         assert_eq!(answer.number, raw::NO_COLUMN, "{words:X?}");
     }
     assert_eq!(
@@ -195,7 +195,7 @@ fn nothing_is_decoded_by_an_origin() {
             .map(|column| column.with_byte_order(byte_order))
             .collect();
         // All but the last: where the Graphic's units have two bytes, it takes some of the Xml's.
-        assert!(decode_row(&bytes, &plain[..plain.len() - 1]).is_ok());
+        assert!(decode_row(&bytes, &plain[..plain.len() - 1], 2).is_ok());
         // One origin for all, or each by turns.
         for (first, step) in [(0, 0), (1, 0), (2, 0), (0, 1), (1, 1), (2, 1)] {
             let mut other = plain.clone();
@@ -203,12 +203,12 @@ fn nothing_is_decoded_by_an_origin() {
                 column.origin = ORIGINS[(first + step * k) % 3];
             }
             for count in 0..=plain.len() {
-                let expected = decode_row(&bytes, &plain[..count]);
-                assert_eq!(decode_row(&bytes, &other[..count]), expected);
+                let expected = decode_row(&bytes, &plain[..count], 2);
+                assert_eq!(decode_row(&bytes, &other[..count], 2), expected);
             }
             for length in 0..bytes.len() {
-                let expected = decode_row(&bytes[..length], &plain);
-                assert_eq!(decode_row(&bytes[..length], &other), expected);
+                let expected = decode_row(&bytes[..length], &plain, 2);
+                assert_eq!(decode_row(&bytes[..length], &other, 2), expected);
             }
         }
     }
@@ -275,7 +275,7 @@ fn a_type_goes_by_its_own_numbers() {
         column.precision = 31;
         column.scale = 5;
     }
-    let row = decode_row(b"abc\x12\x3C", &columns).unwrap();
+    let row = decode_row(b"abc\x12\x3C", &columns, 2).unwrap();
     assert_eq!(row.values, [Value::Char("abc"), Value::Decimal("12.3")]);
 }
 
@@ -328,10 +328,10 @@ fn lists_from_what_holds_columns() {
     list.extend([Column::new(Db2Type::Clob)]);
     assert_eq!(list.len(), 3);
     let data = [0x00, 0x07, 0xC1, 0xC2, 0x00, 0x00, 0x00, 0x05];
-    let row = list.decode_row(&data).unwrap();
+    let row = list.decode_row(&data, 2).unwrap();
     assert_eq!(
         row,
-        decode_row(&data, &list.iter().collect::<Vec<_>>()).unwrap()
+        decode_row(&data, &list.iter().collect::<Vec<_>>(), 2).unwrap()
     );
     let values = [
         Value::SmallInt(7),
@@ -356,7 +356,7 @@ fn values_from_words() {
     let data = [0x00, 0x07, 0xC1, 0xC2];
     let (mut words, mut text) = ([0; 6], [0; 2]);
     assert_eq!(
-        raw::decode_row(list.words(), &data, &mut words, &mut text).number,
+        raw::decode_row(list.words(), &data, 2, &mut words, &mut text).number,
         raw::ACCEPTED
     );
     let text = std::str::from_utf8(&text).unwrap();

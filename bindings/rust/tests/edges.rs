@@ -1,4 +1,5 @@
-//! The cases A to P of the rules ("At the edges"), each with its whole outcome. crates/edges has the same table for the prover.
+//! The cases A to P of the rules ("At the edges"), each with its whole outcome, at either release. crates/edges has the same table for the
+//! prover.
 use vejupa::{
     decode_packed_decimal, decode_row, decode_row_into, parse_qrydsc, parse_whole_qrydsc, Buffers,
     Columns, Refusal, Value,
@@ -116,36 +117,37 @@ const ROWS: [Case; 11] = [
 fn rows() {
     let mut buffers = Buffers::new();
     for case in ROWS {
-        let columns = parse_whole_qrydsc(case.description).unwrap();
-        let row = decode_row(case.row, &columns).unwrap();
-        assert_eq!(row.values, case.values, "{}", case.letter);
-        assert_eq!(row.external_columns, case.external, "{}", case.letter);
-        assert_eq!(row.used, case.used, "{}", case.letter);
-
         let columns = Columns::parse_whole(case.description).unwrap();
         let description = parse_qrydsc(case.description).unwrap();
         assert!(!description.broken_off, "{}", case.letter);
         assert_eq!(description.columns, columns, "{}", case.letter);
-        let row = decode_row_into(case.row, &columns, &mut buffers).unwrap();
-        let external: Vec<usize> = row.external_columns().collect();
-        assert!(row.values().eq(case.values.iter().copied()), "{row:?}");
-        assert_eq!(external, case.external, "{}", case.letter);
-        assert_eq!(row.used(), case.used, "{}", case.letter);
+        let one_by_one = parse_whole_qrydsc(case.description).unwrap();
+        for release in [2, 3] {
+            let row = decode_row(case.row, &one_by_one, release).unwrap();
+            assert_eq!(row.values, case.values, "{}", case.letter);
+            assert_eq!(row.external_columns, case.external, "{}", case.letter);
+            assert_eq!(row.used, case.used, "{}", case.letter);
+
+            let row = decode_row_into(case.row, &columns, release, &mut buffers).unwrap();
+            let external: Vec<usize> = row.external_columns().collect();
+            assert!(row.values().eq(case.values.iter().copied()), "{row:?}");
+            assert_eq!(external, case.external, "{}", case.letter);
+            assert_eq!(row.used(), case.used, "{}", case.letter);
+        }
     }
 }
 
 #[test]
 fn e_is_too_short() {
     let columns = parse_whole_qrydsc(NULLABLE_INTEGER).unwrap();
-    let refusal = decode_row(&[0xFF, 0xFF], &columns).unwrap_err();
-    assert_eq!(
-        refusal,
-        Refusal::BufferTooShort {
-            column: 0,
-            expected: 1,
-            actual: 0
-        }
-    );
+    let short = Refusal::BufferTooShort {
+        column: 0,
+        expected: 1,
+        actual: 0,
+    };
+    for release in [2, 3] {
+        assert_eq!(decode_row(&[0xFF, 0xFF], &columns, release), Err(short));
+    }
 }
 
 #[test]

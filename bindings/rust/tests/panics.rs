@@ -15,7 +15,7 @@ fn of_three_columns(check: impl FnOnce(Row)) {
     let integers = [0x05, 0x70, 0x02, 0x00, 0x04].repeat(3);
     let mut buffers = Buffers::new();
     let columns = Columns::parse_whole(&integers).unwrap();
-    check(decode_row_into(&[0; 12], &columns, &mut buffers).unwrap());
+    check(decode_row_into(&[0; 12], &columns, 2, &mut buffers).unwrap());
 }
 
 #[test]
@@ -37,7 +37,7 @@ fn columns_that_are_not_there() {
         }
     });
     let mut buffers = Buffers::new();
-    let none = decode_row_into(&[], &Columns::default(), &mut buffers).unwrap();
+    let none = decode_row_into(&[], &Columns::default(), 2, &mut buffers).unwrap();
     answers.push((0, 0, line!(), said(|| none.value(0))));
     drop(panic::take_hook());
 

@@ -42,7 +42,7 @@ fn column(db2_type: Db2Type) -> Column {
 fn with_row_of_all_sorts(check: impl FnOnce(Row)) {
     let (columns, bytes) = all_sorts();
     let mut buffers = Buffers::new();
-    check(decode_row_into(&bytes, &Columns::from(&columns[..]), &mut buffers).unwrap());
+    check(decode_row_into(&bytes, &Columns::from(&columns[..]), 2, &mut buffers).unwrap());
 }
 
 #[test]
@@ -88,7 +88,7 @@ fn values_outlive_their_row() {
     let columns = Columns::from(&columns[..]);
     let mut buffers = Buffers::new();
     let (values, sixth, text, words, bytes_of_ninth) = {
-        let row = decode_row_into(&bytes, &columns, &mut buffers).unwrap();
+        let row = decode_row_into(&bytes, &columns, 2, &mut buffers).unwrap();
         let copy = row;
         let values: Vec<Value> = copy.into_iter().collect();
         (
@@ -109,7 +109,7 @@ fn values_outlive_their_row() {
 #[test]
 fn owned_rows() {
     let (columns, bytes) = all_sorts();
-    let row: OwnedRow = decode_row(&bytes, &columns).unwrap();
+    let row: OwnedRow = decode_row(&bytes, &columns, 2).unwrap();
     assert_eq!(row.values, VALUES);
     assert_eq!(row.external_columns, [11, 12, 13, 14]);
     assert_eq!(row.used, bytes.len());
@@ -223,7 +223,7 @@ fn floats_carry_their_bits() {
             &double.to_be_bytes(),
         ]
         .concat();
-        let row = decode_row(&row, &columns).unwrap();
+        let row = decode_row(&row, &columns, 2).unwrap();
         for k in [0, 1] {
             assert!(matches!(row.values[k], OwnedValue::Real(x) if x.to_bits() == bits));
         }
@@ -236,18 +236,18 @@ fn one_row_after_another_without_allocation() {
     let (columns, bytes) = all_sorts();
     let columns = Columns::from(&columns[..]);
     let mut buffers = Buffers::new();
-    decode_row_into(&bytes, &columns, &mut buffers).unwrap();
+    decode_row_into(&bytes, &columns, 2, &mut buffers).unwrap();
     let before = ALLOCATIONS.with(Cell::get);
     for _ in 0..3 {
-        let row = decode_row_into(&bytes, &columns, &mut buffers).unwrap();
+        let row = decode_row_into(&bytes, &columns, 2, &mut buffers).unwrap();
         assert!(row.values().eq(VALUES));
         let few: &[u8] = &bytes[..5];
-        assert!(decode_row_into(few, &columns, &mut buffers).is_err());
+        assert!(decode_row_into(few, &columns, 2, &mut buffers).is_err());
     }
     assert_eq!(ALLOCATIONS.with(Cell::get), before);
 
     let block = bytes.repeat(4);
-    let mut rows = Rows::new(&block, &columns);
+    let mut rows = Rows::new(&block, &columns, 2);
     assert!(rows.next_row().is_some());
     let before = ALLOCATIONS.with(Cell::get);
     for _ in 0..3 {
@@ -264,9 +264,9 @@ fn buffers_serve_narrow_rows_after_wide_ones() {
     let narrow = Columns::parse_whole(&[0x05, 0x70, 0x02, 0x00, 0x04]).unwrap();
     let mut buffers = Buffers::with_text(1);
     for _ in 0..2 {
-        let row = decode_row_into(&bytes, &wide, &mut buffers).unwrap();
+        let row = decode_row_into(&bytes, &wide, 2, &mut buffers).unwrap();
         assert!(row.values().eq(VALUES));
-        let row = decode_row_into(&[1, 0, 0, 0], &narrow, &mut buffers).unwrap();
+        let row = decode_row_into(&[1, 0, 0, 0], &narrow, 2, &mut buffers).unwrap();
         assert_eq!((row.len(), row.value(0)), (1, Value::Integer(1)));
         assert_eq!((row.used(), row.text()), (4, ""));
     }
@@ -280,20 +280,20 @@ fn a_long_text() {
     bytes[..2].fill(0xFF);
     bytes.splice(0..0, [0xFF, 0x00]);
     let text = "é".repeat(65_535);
-    let row = decode_row(&bytes, &columns).unwrap();
+    let row = decode_row(&bytes, &columns, 2).unwrap();
     assert!(row.values == [Value::VarChar(&text)]);
     let mut buffers = Buffers::new();
-    let row = decode_row_into(&bytes, &Columns::from(&columns[..]), &mut buffers).unwrap();
+    let row = decode_row_into(&bytes, &Columns::from(&columns[..]), 2, &mut buffers).unwrap();
     assert!(row.value(0) == Value::VarChar(&text));
     assert_eq!(row.used(), 65_539);
 }
 
 #[test]
 fn a_row_without_columns() {
-    let row = decode_row(&[0xFF, 0x41], &[]).unwrap();
+    let row = decode_row(&[0xFF, 0x41], &[], 2).unwrap();
     assert_eq!((row.values.len(), row.used), (0, 2));
     let mut buffers = Buffers::new();
-    let row = decode_row_into(&[0xFF, 0x41], &Columns::default(), &mut buffers).unwrap();
+    let row = decode_row_into(&[0xFF, 0x41], &Columns::default(), 2, &mut buffers).unwrap();
     assert!(row.is_empty());
     assert_eq!((row.len(), row.used()), (0, 2));
 }
@@ -303,18 +303,18 @@ fn refusals() {
     let integer = column(Db2Type::Integer);
     let dec_float = column(Db2Type::DecFloat(16));
     assert_eq!(
-        decode_row(&[], &[integer; 129]).unwrap_err(),
+        decode_row(&[], &[integer; 129], 2).unwrap_err(),
         Refusal::CountTooLarge
     );
     assert_eq!(
-        decode_row(&[0; vejupa::MAX_INPUT + 1], &[dec_float]).unwrap_err(),
+        decode_row(&[0; vejupa::MAX_INPUT + 1], &[dec_float], 2).unwrap_err(),
         Refusal::InputTooLong
     );
     assert_eq!(
-        decode_row(&[], &[integer, dec_float]).unwrap_err(),
+        decode_row(&[], &[integer, dec_float], 2).unwrap_err(),
         Refusal::DecFloatColumn
     );
-    let short = decode_row(&[1, 2, 3], &[integer]).unwrap_err();
+    let short = decode_row(&[1, 2, 3], &[integer], 2).unwrap_err();
     assert_eq!(
         short,
         Refusal::BufferTooShort {
@@ -343,7 +343,7 @@ fn a_refusal_changes_no_buffer() {
     let mut values = [7; 3 * 22 + 1];
     let mut text = vec![7; needed + 1];
 
-    let answer = raw::decode_row(columns.words(), &bytes, &mut values[..65], &mut text);
+    let answer = raw::decode_row(columns.words(), &bytes, 2, &mut values[..65], &mut text);
     let refused = RowAnswer {
         number: TOO_FEW_WORDS,
         used: 0,
@@ -357,6 +357,7 @@ fn a_refusal_changes_no_buffer() {
     let answer = raw::decode_row(
         columns.words(),
         &bytes,
+        2,
         &mut values,
         &mut text[..needed - 1],
     );
@@ -366,7 +367,7 @@ fn a_refusal_changes_no_buffer() {
         ..refused
     };
     assert_eq!(answer, expected);
-    let answer = raw::decode_row(columns.words(), &bytes[..5], &mut values, &mut text);
+    let answer = raw::decode_row(columns.words(), &bytes[..5], 2, &mut values, &mut text);
     let expected = RowAnswer {
         number: BUFFER_TOO_SHORT,
         expected: 2,
@@ -376,7 +377,7 @@ fn a_refusal_changes_no_buffer() {
     assert_eq!(answer, expected);
     assert!(values.iter().all(|&word| word == 7) && text.iter().all(|&byte| byte == 7));
 
-    let answer = raw::decode_row(columns.words(), &bytes, &mut values, &mut text);
+    let answer = raw::decode_row(columns.words(), &bytes, 2, &mut values, &mut text);
     let expected = RowAnswer {
         number: ACCEPTED,
         used: bytes.len(),
@@ -413,17 +414,17 @@ fn damaged() -> (Columns, Vec<u8>, usize) {
 fn replaced_characters_of_a_row() {
     let (columns, bytes, replaced) = damaged();
     let mut buffers = Buffers::new();
-    let row = decode_row_into(&bytes, &columns, &mut buffers).unwrap();
+    let row = decode_row_into(&bytes, &columns, 2, &mut buffers).unwrap();
     assert_eq!(row.replaced(), replaced);
     assert_eq!(row.into_owned().replaced, replaced);
-    assert_eq!(columns.decode_row(&bytes).unwrap().replaced, replaced);
+    assert_eq!(columns.decode_row(&bytes, 2).unwrap().replaced, replaced);
     assert_eq!(row.value(3), Value::Clob("\u{FFFD}\u{FFFD}"));
 
     let needed = row.text().len();
     let mut values = [0; 3 * 6];
     let mut text = vec![0; needed + 1000];
     for room in [needed, needed + 1, needed + 1000] {
-        let answer = raw::decode_row(columns.words(), &bytes, &mut values, &mut text[..room]);
+        let answer = raw::decode_row(columns.words(), &bytes, 2, &mut values, &mut text[..room]);
         assert_eq!((answer.number, answer.replaced), (ACCEPTED, replaced));
     }
     for (data, words, room, number) in [
@@ -434,6 +435,7 @@ fn replaced_characters_of_a_row() {
         let answer = raw::decode_row(
             columns.words(),
             data,
+            2,
             &mut values[..words],
             &mut text[..room],
         );
@@ -446,10 +448,10 @@ fn replaced_characters_of_a_row() {
 fn rows_are_compared_by_what_was_replaced() {
     let columns = Columns::from([column(Db2Type::VarChar(9)).with_ccsid(1208)]);
     let (mut one, mut two) = (Buffers::new(), Buffers::new());
-    let sent = decode_row_into(b"\x00\x03\xEF\xBF\xBD", &columns, &mut one).unwrap();
-    let put_in = decode_row_into(b"\x00\x03\xE2\x82\xF0", &columns, &mut two).unwrap();
+    let sent = decode_row_into(b"\x00\x03\xEF\xBF\xBD", &columns, 2, &mut one).unwrap();
+    let put_in = decode_row_into(b"\x00\x03\xE2\x82\xF0", &columns, 2, &mut two).unwrap();
     assert_eq!((sent.replaced(), put_in.replaced()), (0, 2));
-    let put_in = decode_row_into(b"\x00\x02\xE2\x82", &columns, &mut two).unwrap();
+    let put_in = decode_row_into(b"\x00\x02\xE2\x82", &columns, 2, &mut two).unwrap();
     assert!(sent.values().eq(put_in.values()));
     assert_ne!(sent, put_in);
     assert_ne!(sent, put_in.into_owned());
@@ -465,14 +467,17 @@ fn rows_are_compared() {
     let data = [0xC1, 0xC2, 0x00, 0x00, 0x00, 0x07];
     let other = [0xC1, 0xC2, 0x00, 0x00, 0x00, 0x08];
     let (mut one, mut two, mut three) = (Buffers::new(), Buffers::new(), Buffers::new());
-    let row = decode_row_into(&data, &columns, &mut one).unwrap();
+    let row = decode_row_into(&data, &columns, 2, &mut one).unwrap();
     let longer = [&data[..], &[0x01]].concat();
-    assert_eq!(row, decode_row_into(&longer, &columns, &mut two).unwrap());
+    assert_eq!(
+        row,
+        decode_row_into(&longer, &columns, 2, &mut two).unwrap()
+    );
     assert_eq!(row, row.into_owned());
-    let other = decode_row_into(&other, &columns, &mut three).unwrap();
+    let other = decode_row_into(&other, &columns, 2, &mut three).unwrap();
     assert_ne!(row, other);
     let marked = [&[0xFF, 0x00], &data[..]].concat();
-    assert_ne!(row, columns.decode_row(&marked).unwrap());
+    assert_ne!(row, columns.decode_row(&marked, 2).unwrap());
     let mut owned = row.into_owned();
     owned.external_columns.clear();
     assert_ne!(row, owned);

@@ -176,8 +176,9 @@ fn refusals() {
         Refusal::DecimalSign,
         Refusal::DecimalOutOfRange,
         Refusal::QrydscBrokenOff,
+        Refusal::UnknownRelease,
     ];
-    for (number, refusal) in (1..=9).chain(12..=15).zip(all) {
+    for (number, refusal) in (1..=9).chain(12..=15).chain([22]).zip(all) {
         let text = refusal.to_string();
         assert_eq!(refusal.number(), number);
         assert!(text.starts_with(&format!("refusal {number}: ")), "{text}");
@@ -208,6 +209,10 @@ fn refusals() {
     assert_eq!(
         all[12].to_string(),
         "refusal 15: the description breaks off"
+    );
+    assert_eq!(
+        all[13].to_string(),
+        "refusal 22: a host release that is neither 2 nor 3"
     );
 }
 
@@ -249,7 +254,7 @@ const SHOWN: &str =
 fn rows() {
     let columns = Columns::parse_whole(DESCRIPTION).unwrap();
     let mut buffers = Buffers::new();
-    let row = decode_row_into(ROW, &columns, &mut buffers).unwrap();
+    let row = decode_row_into(ROW, &columns, 2, &mut buffers).unwrap();
     assert_eq!(format!("{row:?}"), format!("Row {SHOWN}"));
     let mut values = row.values();
     values.next();
@@ -257,7 +262,7 @@ fn rows() {
         format!("{values:?}"),
         "[Binary(X'8B1A'), Blob(X'00000007')]"
     );
-    let row = decode_row(ROW, &parse_whole_qrydsc(DESCRIPTION).unwrap()).unwrap();
+    let row = decode_row(ROW, &parse_whole_qrydsc(DESCRIPTION).unwrap(), 2).unwrap();
     assert_eq!(format!("{row:?}"), format!("OwnedRow {SHOWN}"));
 }
 
@@ -270,12 +275,12 @@ fn what_holds_bytes() {
         format!("{buffers:?}"),
         "Buffers { values: 0, text_bytes: 1000 }"
     );
-    decode_row_into(ROW, &columns, &mut buffers).unwrap();
+    decode_row_into(ROW, &columns, 2, &mut buffers).unwrap();
     assert_eq!(
         format!("{buffers:?}"),
         "Buffers { values: 3, text_bytes: 1000 }"
     );
-    let mut rows = Rows::new(ROW, &columns);
+    let mut rows = Rows::new(ROW, &columns, 2);
     assert_eq!(
         format!("{rows:?}"),
         "Rows { columns: 3, rest_bytes: 9, ended: false }"

@@ -1,4 +1,4 @@
-//! Conversions of single texts.
+//! Conversions of single texts. What goes by the host's release is in releases.rs.
 use vejupa::raw::{self, TextAnswer, ACCEPTED, TEXT_BUFFER_TOO_SHORT};
 use vejupa::{
     bytes_are_likely_text, decode_character_bytes, decode_character_bytes_into,
@@ -9,9 +9,9 @@ use vejupa::{
 
 #[test]
 fn texts_longer_than_the_first_try() {
-    let text = decode_character_bytes(&[0x80; 1000], 1208).unwrap();
+    let text = decode_character_bytes(&[0x80; 1000], 1208, 2).unwrap();
     assert_eq!((text.text, text.replaced), ("\u{FFFD}".repeat(1000), 1000));
-    let text = decode_graphic_bytes(&[0xD8; 1000], 1200).unwrap();
+    let text = decode_graphic_bytes(&[0xD8; 1000], 1200, 2).unwrap();
     assert_eq!((text.text, text.replaced), ("\u{FFFD}".repeat(500), 500));
 }
 
@@ -28,12 +28,12 @@ fn replaced_characters() {
         (b"\xEF\xBF", 819, "\u{EF}\u{BF}", 0),
         (b"\xC1\x4A", 37, "A\u{A2}", 0),
     ];
-    for (data, ccsid, text, replaced) in characters {
-        let made = decode_character_bytes(data, ccsid).unwrap();
+    for ((data, ccsid, text, replaced), release) in at_either_release(&characters) {
+        let made = decode_character_bytes(data, ccsid, release).unwrap();
         assert_eq!((made.text.as_str(), made.replaced), (text, replaced));
         for more in [0, 1, 100] {
             let mut buffer = vec![0; text.len() + more];
-            let made = decode_character_bytes_into(data, ccsid, &mut buffer).unwrap();
+            let made = decode_character_bytes_into(data, ccsid, release, &mut buffer).unwrap();
             assert_eq!((made.text, made.replaced), (text, replaced));
         }
     }
@@ -43,16 +43,21 @@ fn replaced_characters() {
         (&[0xD8, 0x3D, 0xFF, 0xFD], "\u{FFFD}\u{FFFD}", 1),
         (&[0xFF, 0xFD], "\u{FFFD}", 0),
     ];
-    for (data, text, replaced) in graphics {
-        let made = decode_graphic_bytes(data, 1200).unwrap();
+    for ((data, text, replaced), release) in at_either_release(&graphics) {
+        let made = decode_graphic_bytes(data, 1200, release).unwrap();
         assert_eq!((made.text.as_str(), made.replaced), (text, replaced));
         let mut buffer = vec![0; text.len()];
-        let made = decode_graphic_bytes_into(data, 1200, &mut buffer).unwrap();
+        let made = decode_graphic_bytes_into(data, 1200, release, &mut buffer).unwrap();
         assert_eq!((made.text, made.replaced), (text, replaced));
     }
 }
 
-type Call = fn(&[u8], u16, &mut [u8]) -> TextAnswer;
+/// Each case at release 2 and at release 3.
+fn at_either_release<T: Copy>(cases: &[T]) -> impl Iterator<Item = (T, u32)> + '_ {
+    cases.iter().flat_map(|case| [(*case, 2), (*case, 3)])
+}
+
+type Call = fn(&[u8], u16, u32, &mut [u8]) -> TextAnswer;
 
 /// Through the plain calls: a refusal counts nothing.
 #[test]
@@ -78,17 +83,24 @@ fn a_refusal_counts_nothing() {
         (raw::decode_character_bytes, &[0x80, 0x80], 1208),
         (raw::decode_graphic_bytes, &[0xD8, 0x00, 0xD8, 0x00], 1200),
     ];
-    for (call, data, ccsid) in calls {
-        assert_eq!(call(data, ccsid, &mut text[..5]), short);
-        assert_eq!(call(data, ccsid, &mut text), accepted);
-        assert_eq!(call(&long, ccsid, &mut text), too_long);
+    for ((call, data, ccsid), release) in at_either_release(&calls) {
+        assert_eq!(call(data, ccsid, release, &mut text[..5]), short);
+        assert_eq!(call(data, ccsid, release, &mut text), accepted);
+        assert_eq!(call(&long, ccsid, release, &mut text), too_long);
     }
 }
 
 #[test]
 fn empty_texts() {
-    assert_eq!(decode_character_bytes(&[], 37).unwrap().text, "");
-    assert_eq!(decode_graphic_bytes(&[], 1200).unwrap().text, "");
+    for release in [2, 3] {
+        for ccsid in [37, 1047, 1200] {
+            assert_eq!(
+                decode_character_bytes(&[], ccsid, release).unwrap().text,
+                ""
+            );
+            assert_eq!(decode_graphic_bytes(&[], ccsid, release).unwrap().text, "");
+        }
+    }
     assert_eq!(format_lob_locator(&[]).unwrap(), "LOB locator 0x");
     assert_eq!(format_rowid(&[]).unwrap(), "0x");
     assert!(bytes_are_likely_text(&[]));
@@ -100,7 +112,7 @@ fn lent_buffers() {
     let mut text = [0; 3];
     assert_eq!(format_rowid_into(&[0xAB], &mut text), short);
     assert_eq!(
-        decode_graphic_bytes_into(&[0xD8, 0x3D, 0xDE, 0x00], 13488, &mut text)
+        decode_graphic_bytes_into(&[0xD8, 0x3D, 0xDE, 0x00], 13488, 2, &mut text)
             .map(|made| made.text),
         short
     );
@@ -120,11 +132,11 @@ fn lent_buffers() {
 fn refusals() {
     let long = vec![0x41; vejupa::MAX_INPUT + 1];
     assert_eq!(
-        decode_character_bytes(&long, 1208),
+        decode_character_bytes(&long, 1208, 2),
         Err(Refusal::InputTooLong)
     );
     assert_eq!(
-        decode_graphic_bytes(&long, 1200),
+        decode_graphic_bytes(&long, 1200, 2),
         Err(Refusal::InputTooLong)
     );
     assert_eq!(format_lob_locator(&long), Err(Refusal::InputTooLong));

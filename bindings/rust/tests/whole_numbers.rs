@@ -302,7 +302,7 @@ fn packed_bytes_in_rows() {
         if random.below(2) == 0 {
             data[..2].copy_from_slice(&[0xFF, 0x00]);
         }
-        let Ok(row) = decode_row_into(&data, &columns, &mut buffers) else {
+        let Ok(row) = decode_row_into(&data, &columns, 2, &mut buffers) else {
             continue;
         };
         for (k, column) in columns.iter().enumerate() {
@@ -312,7 +312,7 @@ fn packed_bytes_in_rows() {
                 continue;
             };
             let before: Vec<Column> = columns.iter().take(k).collect();
-            let begins = decode_row(&data, &before).unwrap().used;
+            let begins = decode_row(&data, &before, 2).unwrap().used;
             let packed = &data[begins + usize::from(column.nullable)..];
             let packed = &packed[..(usize::from(precision) + 2) / 2];
             assert_eq!(decode_packed_decimal(packed, scale).as_deref(), Ok(text));

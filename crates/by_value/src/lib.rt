@@ -72,23 +72,24 @@ pub extern "C" fn by_value_whole_number(data: &[u8]) -> u64
 pub extern "C" fn by_value_decode_row(
     described: &[u8],
     row: &[u8],
+    release: u32,
     text: &mut [u8],
     rounds: u64,
     index: u64,
 ) -> u64
-    ensures number { λ r. ⌜ r ≡ numberAt (rowAnswer (description (now (described .entry)) .columns) (now (row .entry)) (now (text .entry))) (index % maxColumns) ⌝ }
-    ensures text { λ _. ⌜ now (text .exit) ≡ rowText (description (now (described .entry)) .columns) (now (row .entry)) (now (text .entry)) ⌝ }
+    ensures number { λ r. ⌜ r ≡ numberAt (rowAnswer release (description (now (described .entry)) .columns) (now (row .entry)) (now (text .entry))) (index % maxColumns) ⌝ }
+    ensures text { λ _. ⌜ now (text .exit) ≡ rowText release (description (now (described .entry)) .columns) (now (row .entry)) (now (text .entry)) ⌝ }
 {
     let d = qrydsc::parse_qrydsc(described);
     let columns = d.columns;
     let place = index as usize % MAX_COLUMNS;
-    let once = row::decode_row(row, columns, text);
+    let once = row::decode_row(row, columns, release, text);
     let value = once.places[place];
     let first = value_words(value);
     let mut number = first.number;
     let mut i: u64 = 0;
     while i < rounds {
-        let again = row::decode_row(row, columns, text);
+        let again = row::decode_row(row, columns, release, text);
         let same = again.places[place];
         let words = value_words(same);
         number = words.number;
@@ -99,12 +100,17 @@ pub extern "C" fn by_value_decode_row(
 
 // How many characters were replaced in a row's texts: the comparison with the Rust holds it to a second opinion.
 #[no_mangle]
-pub extern "C" fn by_value_replaced(described: &[u8], row: &[u8], text: &mut [u8]) -> u64
-    ensures number { λ r. ⌜ r ≡ rowAnswer (description (now (described .entry)) .columns) (now (row .entry)) (now (text .entry)) .replaced ⌝ }
-    ensures text { λ _. ⌜ now (text .exit) ≡ rowText (description (now (described .entry)) .columns) (now (row .entry)) (now (text .entry)) ⌝ }
+pub extern "C" fn by_value_replaced(
+    described: &[u8],
+    row: &[u8],
+    release: u32,
+    text: &mut [u8],
+) -> u64
+    ensures number { λ r. ⌜ r ≡ rowAnswer release (description (now (described .entry)) .columns) (now (row .entry)) (now (text .entry)) .replaced ⌝ }
+    ensures text { λ _. ⌜ now (text .exit) ≡ rowText release (description (now (described .entry)) .columns) (now (row .entry)) (now (text .entry)) ⌝ }
 {
     let d = qrydsc::parse_qrydsc(described);
     let columns = d.columns;
-    let answer = row::decode_row(row, columns, text);
+    let answer = row::decode_row(row, columns, release, text);
     answer.replaced as u64
 }

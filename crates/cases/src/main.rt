@@ -20,6 +20,9 @@ const TEXT: usize = 24;
 
 const BEFORE: u8 = 0xAA;
 
+// The host release of the table, whose outcomes are the Rust's.
+const RELEASE: u32 = 2;
+
 // The precision handed to decode_packed_decimal. It has no part in the text.
 const PRECISION: u8 = 31;
 
@@ -36,7 +39,7 @@ fn decode(description: &[u8], row: &[u8]) -> Decoded {
     let outcome = d.outcome;
     let columns = d.columns;
     let mut text = [BEFORE; TEXT];
-    let answer = row::decode_row(row, columns, &mut text);
+    let answer = row::decode_row(row, columns, RELEASE, &mut text);
     Decoded {
         description: outcome,
         columns: columns.count,

@@ -23,7 +23,7 @@ use Rattle.rules.specs.declared.Extent.{Extent}
 use Rattle.rules.specs.declared.Extent.the-variants.{Fixed, Counted, Inline, Locator}
 use Rattle.rules.specs.Extent.{be32, isReference, referenceMark, lobNeed, need, lobExtent, lengthExtent, typeExtent, extentOf}
 use Rattle.rules.specs.Meaning.{ByteSort, Item, allZero, typeItem, itemIn}
-use Rattle.rules.specs.Conversions.{ported}
+use Rattle.rules.specs.Conversions.{conversionsOf}
 use Rattle.rules.proofs.Extents.{cuts}
 use Rattle.cell.specs.declared.CellItem.{CellItem}
 use Rattle.cell.specs.declared.CellItem.the-variants as cell
@@ -50,15 +50,16 @@ reference-nine s e = go (leb 9 (length s)) refl e
     go false l f = absurd (true≢false (sym f))
 
 -- all bytes as a part
-pub whole-part : (r : CellItem) (k : ByteSort) (s : List ℕ) → Holds r s (Item.part k 0 (length s - 0)) → Holds r s (Item.part k 0 (length s))
-whole-part r k s h = subst (λ (n : ℕ). Holds r s (Item.part k 0 n)) (sub-zero (length s)) h
+pub whole-part : (release : ℕ) (r : CellItem) (k : ByteSort) (s : List ℕ) → Holds release r s (Item.part k 0 (length s - 0)) → Holds release r s (Item.part k 0 (length s))
+whole-part release r k s h = subst (λ (n : ℕ). Holds release r s (Item.part k 0 n)) (sub-zero (length s)) h
 
 -- a column whose type is known
-module _ (c : ColumnDescriptor) (s : List ℕ) {t : Db2Type} (e : c .«db2_type» ≡ t) where
-  pub holds-by : (r : CellItem) → Holds r s (typeItem ported t c s) → Holds r s (itemIn ported c s)
-  unfolding itemIn
-  holds-by r h = subst (λ (u : Db2Type). Holds r s (typeItem ported u c s)) (sym e) h
+pub holds-by : (release : ℕ) (c : ColumnDescriptor) (s : List ℕ) {t : Db2Type} → c .«db2_type» ≡ t
+    → (r : CellItem) → Holds release r s (typeItem (conversionsOf release) t c s) → Holds release r s (itemIn (conversionsOf release) c s)
+unfolding itemIn
+holds-by release c s e r h = subst (λ (u : Db2Type). Holds release r s (typeItem (conversionsOf release) u c s)) (sym e) h
 
+module _ (c : ColumnDescriptor) (s : List ℕ) {t : Db2Type} (e : c .«db2_type» ≡ t) where
   pub need-by : need (extentOf c) s ≡ length s → need (typeExtent t c) s ≡ length s
   need-by h = subst (λ (u : Db2Type). need (typeExtent u c) s ≡ length s) e h
 

@@ -12,7 +12,7 @@ use Rattle.rules.specs.declared.Extent.{Extent}
 use Rattle.rules.specs.declared.Extent.the-variants.{Fixed}
 use Rattle.rules.specs.Extent.{need, extentOf, typeExtent}
 use Rattle.rules.specs.Meaning.{Item, itemIn, typeItem, isEmptyLob, typeRefers, refersIn}
-use Rattle.rules.specs.Conversions.{ported}
+use Rattle.rules.specs.Conversions.{conversionsOf}
 use Rattle.cell.specs.Cell.{taken, NumberIs}
 
 -- a column whose type has a width
@@ -26,13 +26,13 @@ module _ (c : ColumnDescriptor) {t : Db2Type} (e : c .«db2_type» ≡ t) (n : �
   unfolding need
   number-need s = sym (ap (λ (u : Db2Type). need (typeExtent u c) s) e ∙ ap (λ (k : Extent). need k s) x)
 
-  module _ (s : List ℕ) (f : List ℕ → RowNumber) (i : (l : List ℕ) → typeItem ported t c l ≡ Item.numeric (f l)) where
-    item-is : itemIn ported c (taken c s) ≡ Item.numeric (f (take n s))
+  module _ (release : ℕ) (s : List ℕ) (f : List ℕ → RowNumber) (i : (l : List ℕ) → typeItem (conversionsOf release) t c l ≡ Item.numeric (f l)) where
+    item-is : itemIn (conversionsOf release) c (taken c s) ≡ Item.numeric (f (take n s))
     unfolding itemIn
-    item-is = ap (λ (u : Db2Type). typeItem ported u c (taken c s)) e ∙ i (taken c s) ∙ ap (λ (k : ℕ). Item.numeric (f (take k s))) (sym (number-need s))
+    item-is = ap (λ (u : Db2Type). typeItem (conversionsOf release) u c (taken c s)) e ∙ i (taken c s) ∙ ap (λ (k : ℕ). Item.numeric (f (take k s))) (sym (number-need s))
 
-    pub number-is : ((l : List ℕ) → typeRefers t c l ≡ false) → (v : Db2Value) → v ≡ numberValue (f (take n s)) → NumberIs v c s
+    pub number-is : ((l : List ℕ) → typeRefers t c l ≡ false) → (v : Db2Value) → v ≡ numberValue (f (take n s)) → NumberIs release v c s
     unfolding refersIn isEmptyLob
     number-is r v h =
-        let b : refersIn ported c (taken c s) ≡ false = ap (λ (y : Item). not (isEmptyLob y) && typeRefers (c .«db2_type») c (taken c s)) item-is ∙ ap (λ (u : Db2Type). typeRefers u c (taken c s)) e ∙ r (taken c s) in
+        let b : refersIn (conversionsOf release) c (taken c s) ≡ false = ap (λ (y : Item). not (isEmptyLob y) && typeRefers (c .«db2_type») c (taken c s)) item-is ∙ ap (λ (u : Db2Type). typeRefers u c (taken c s)) e ∙ r (taken c s) in
         ((f (take n s), (item-is, h)), b)

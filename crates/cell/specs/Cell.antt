@@ -8,14 +8,14 @@ use Rattle.numbers.specs.Number.{Number as RowNumber, numberValue}
 use Rattle.refusal.specs.Refusal.{mostBytes}
 use Rattle.packed.specs.Packed.{decimalText}
 use Rattle.buffer.specs.Buffer.{Converted, unreplaced}
-use Rattle.conversion.specs.Conversion.{fromCharacters, fromGraphics, fromUtf8, locatorText, rowIdText}
+use Rattle.conversion.specs.Conversion.{charactersBy, graphicsBy, fromUtf8, locatorText, rowIdText}
 use Rattle.types.specs.Names.{namedIn}
 use Rattle.types.specs.declared.Db2Type.{Db2Type}
 use Rattle.types.specs.declared.Db2Type.the-variants as type
 use Rattle.types.specs.declared.Db2Value.{Db2Value}
 use Rattle.types.specs.declared.ColumnDescriptor.{ColumnDescriptor}
 use Rattle.rules.specs.Extent.{need, extentOf}
-use Rattle.rules.specs.Conversions.{ported}
+use Rattle.rules.specs.Conversions.{conversionsOf}
 use Rattle.rules.specs.Meaning as meaning
 use Rattle.cell.specs.declared.ByteSort.{ByteSort}
 use Rattle.cell.specs.declared.ByteSort.the-variants as bytes
@@ -57,53 +57,54 @@ lobOf kinds.Xmls = meaning.Lob.xmls
 abbrev pub isNumber : Db2Type → Bool
 isNumber t = namedIn (type.SmallInt ∷ type.Integer ∷ type.BigInt ∷ type.Real ∷ type.Double ∷ []) t
 
--- what is made of bytes, by their encoding and as they are to be read
-abbrev pub decoded : Encoding → List ℕ → Converted
-decoded (Characters ccsid) s = fromCharacters ccsid s
-decoded (Graphics ccsid) s = fromGraphics ccsid s
-decoded Utf8 s = fromUtf8 s
-decoded Locator s = unreplaced (locatorText s)
-decoded RowId s = unreplaced (rowIdText s)
+-- what is made of bytes at a release, by their encoding and as they are to be read
+abbrev pub decoded : ℕ → Encoding → List ℕ → Converted
+decoded release (Characters ccsid) s = charactersBy release ccsid s
+decoded release (Graphics ccsid) s = graphicsBy release ccsid s
+decoded release Utf8 s = fromUtf8 s
+decoded release Locator s = unreplaced (locatorText s)
+decoded release RowId s = unreplaced (rowIdText s)
 
-abbrev pub readBy : Reading → List ℕ → Converted
-readBy (By encoding) s = decoded encoding s
-readBy (Packed scale) s = unreplaced (decimalText scale s)
+abbrev pub readBy : ℕ → Reading → List ℕ → Converted
+readBy release (By encoding) s = decoded release encoding s
+readBy release (Packed scale) s = unreplaced (decimalText scale s)
 
 -- the bytes are as many as the reading takes: a packed decimal has one at least, and no more than one called alone may have
 abbrev pub Readable : Reading → ℕ → Type 0
 Readable (By encoding) n = Unit {0}
 Readable (Packed scale) n = (0 < n) × (n ≤ mostBytes)
 
--- the code's item says of the value's bytes s what i is: a part lies within s, and a text is that of a part of s
-abbrev pub Holds : CellItem → List ℕ → meaning.Item → Type 0
-Holds Nothing s i = i ≡ meaning.Item.nothing
-Holds (Boolean b) s i = i ≡ meaning.Item.boolean b
-Holds (Part k from len) s i = (i ≡ meaning.Item.part (byteSort k) from len) × (from + len ≤ length s)
-Holds (Text k reading from len) s i = (i ≡ meaning.Item.text (textSort k) (readBy reading (take len (drop from s)))) × ((from + len ≤ length s) × Readable reading len)
+-- the code's item says of the value's bytes s what i is, at a release: a part lies within s, and a text is that of a part of s
+abbrev pub Holds : ℕ → CellItem → List ℕ → meaning.Item → Type 0
+Holds release Nothing s i = i ≡ meaning.Item.nothing
+Holds release (Boolean b) s i = i ≡ meaning.Item.boolean b
+Holds release (Part k from len) s i = (i ≡ meaning.Item.part (byteSort k) from len) × (from + len ≤ length s)
+Holds release (Text k reading from len) s i = (i ≡ meaning.Item.text (textSort k) (readBy release reading (take len (drop from s)))) × ((from + len ≤ length s) × Readable reading len)
 
 -- the item of any `count` bytes that are a value of the type t; in a column of this CCSID
 abbrev pub Means : CellItem → Db2Type → ℕ → Type 0
-Means r t count = (c : ColumnDescriptor) (s : List ℕ) → length s ≡ count → Holds r s (meaning.typeItem ported t c s)
+Means r t count = (release : ℕ) (c : ColumnDescriptor) (s : List ℕ) → length s ≡ count → Holds release r s (meaning.typeItem (conversionsOf release) t c s)
 
 abbrev pub MeansBy : ℕ → CellItem → Db2Type → ℕ → Type 0
-MeansBy ccsid r t count = (c : ColumnDescriptor) (s : List ℕ) → c .ccsid ≡ ccsid → length s ≡ count → Holds r s (meaning.typeItem ported t c s)
+MeansBy ccsid r t count =
+    (release : ℕ) (c : ColumnDescriptor) (s : List ℕ) → c .ccsid ≡ ccsid → length s ≡ count → Holds release r s (meaning.typeItem (conversionsOf release) t c s)
 
--- ---- the value of the column c, where s is the rest of the row and the value's bytes are there
+-- ---- the value of the column c at a release, where s is the rest of the row and the value's bytes are there
 
 -- those bytes
 abbrev pub taken : ColumnDescriptor → List ℕ → List ℕ
 taken c s = take (need (extentOf c) s) s
 
-abbrev pub NumberIs : Db2Value → ColumnDescriptor → List ℕ → Type 0
-NumberIs v c s =
-    ((x : RowNumber) × ((meaning.itemIn ported c (taken c s) ≡ meaning.Item.numeric x) × (v ≡ numberValue x)))
-    × (meaning.refersIn ported c (taken c s) ≡ false)
+abbrev pub NumberIs : ℕ → Db2Value → ColumnDescriptor → List ℕ → Type 0
+NumberIs release v c s =
+    ((x : RowNumber) × ((meaning.itemIn (conversionsOf release) c (taken c s) ≡ meaning.Item.numeric x) × (v ≡ numberValue x)))
+    × (meaning.refersIn (conversionsOf release) c (taken c s) ≡ false)
 
-abbrev pub OtherIs : OtherValue → ColumnDescriptor → List ℕ → Type 0
-OtherIs d c s =
-    Holds (d .item) (taken c s) (meaning.itemIn ported c (taken c s))
-    × ((d .used ≡ need (extentOf c) s) × (d .external ≡ meaning.refersIn ported c (taken c s)))
+abbrev pub OtherIs : ℕ → OtherValue → ColumnDescriptor → List ℕ → Type 0
+OtherIs release d c s =
+    Holds release (d .item) (taken c s) (meaning.itemIn (conversionsOf release) c (taken c s))
+    × ((d .used ≡ need (extentOf c) s) × (d .external ≡ meaning.refersIn (conversionsOf release) c (taken c s)))
 
-abbrev pub ValueIs : ColumnValue → ColumnDescriptor → List ℕ → Type 0
-ValueIs (Number v used) c s = NumberIs v c s × (used ≡ need (extentOf c) s)
-ValueIs (Other d) c s = OtherIs d c s
+abbrev pub ValueIs : ℕ → ColumnValue → ColumnDescriptor → List ℕ → Type 0
+ValueIs release (Number v used) c s = NumberIs release v c s × (used ≡ need (extentOf c) s)
+ValueIs release (Other d) c s = OtherIs release d c s

@@ -13,7 +13,7 @@ use Rattle.types.specs.declared.ColumnDescriptor.{ColumnDescriptor}
 use Rattle.rules.specs.Extent.{isReference, typeExtent}
 use Rattle.rules.specs.Meaning.{allZero, isEmptyReference, typeItem}
 use Rattle.rules.specs.Row.{itemText}
-use Rattle.rules.specs.Conversions.{ported}
+use Rattle.rules.specs.Conversions.{conversionsOf}
 use Rattle.cell.specs.declared.NumberWidth.{NumberWidth}
 use Rattle.cell.specs.declared.NumberWidth.the-variants as width
 use Rattle.cell.specs.Cell.{isNumber}
@@ -51,5 +51,5 @@ lobRefers Absent located s = cond (isReference s) (not (allZero (drop 1 s))) loc
 -- values of the type t take so many bytes and have no text; or are no numbers
 abbrev pub WidthOf : NumberWidth → Db2Type → Type 0
 WidthOf (width.Bytes n) t =
-    ((c : ColumnDescriptor) → typeExtent t c ≡ Fixed n) × (((c : ColumnDescriptor) (s : List ℕ) → itemText (typeItem ported t c s) ≡ []) × (n ≤ 8))
+    ((c : ColumnDescriptor) → typeExtent t c ≡ Fixed n) × (((release : ℕ) (c : ColumnDescriptor) (s : List ℕ) → itemText (typeItem (conversionsOf release) t c s) ≡ []) × (n ≤ 8))
 WidthOf width.NoNumber t = isNumber t ≡ false

@@ -34,9 +34,9 @@ ghost use Rattle.types.specs.Names.{bit8000};
 ghost use Rattle.rules.specs.Meaning.{Item, Lob, lobEmpty, lobReference, lobInline, declaredLob, undeclaredLob, lobItem, headerIn, headerItem, lobBytesItem, lobCharItem, itemIn};
 ghost use Rattle.rules.specs.Extent.{need, extentOf};
 ghost use Rattle.types.specs.declared.ReferenceLength.{ReferenceLength};
-ghost use Rattle.rules.specs.Conversions.{ported};
+ghost use Rattle.rules.specs.Conversions.{conversionsOf};
 ghost use Rattle.buffer.specs.Buffer.{unreplaced};
-ghost use Rattle.conversion.specs.Conversion.{fromCharacters};
+ghost use Rattle.conversion.specs.Conversion.{charactersBy};
 ghost use Rattle.refusal.specs.Refusal.{mostBytes};
 ghost use Rattle.types.specs.declared.Db2Type.{Db2Type};
 ghost use Rattle.cell.specs.Cell.{byteSort, textSort, lobOf, decoded, Holds, Means, MeansBy, isNumber, OtherIs, ValueIs};
@@ -121,7 +121,7 @@ pub enum ColumnValue {
 // The text, or the part, that all bytes from a place on are.
 fn text_from(sort: TextSort, encoding: Encoding, bytes: &[u8], from: usize) -> CellItem
     requires { ⌜ from ≤ length (now bytes) ⌝ }
-    ensures { λ r. ⌜ Holds r (now (bytes .entry)) (Item.text (textSort sort) (decoded encoding (drop from (now (bytes .entry))))) ⌝ }
+    ensures { λ r. ⌜ ((release : ℕ) → Holds release r (now (bytes .entry)) (Item.text (textSort sort) (decoded release encoding (drop from (now (bytes .entry)))))) ⌝ }
 {
     CellItem::Text {
         sort,
@@ -133,7 +133,7 @@ fn text_from(sort: TextSort, encoding: Encoding, bytes: &[u8], from: usize) -> C
 
 fn part_from(sort: ByteSort, bytes: &[u8], from: usize) -> CellItem
     requires { ⌜ from ≤ length (now bytes) ⌝ }
-    ensures { λ r. ⌜ Holds r (now (bytes .entry)) (Item.part (byteSort sort) from (length (now (bytes .entry)) - from)) ⌝ }
+    ensures { λ r. ⌜ ((release : ℕ) → Holds release r (now (bytes .entry)) (Item.part (byteSort sort) from (length (now (bytes .entry)) - from))) ⌝ }
 {
     CellItem::Part {
         sort,
@@ -145,7 +145,7 @@ fn part_from(sort: ByteSort, bytes: &[u8], from: usize) -> CellItem
 // A text of a value's bytes, all from a place on, by the CCSID.
 fn characters(sort: TextSort, ccsid: u16, from: usize, count: usize) -> CellItem
     requires { ⌜ from ≤ count ⌝ }
-    ensures { λ r. ⌜ ((s : List ℕ) → length s ≡ count → Holds r s (Item.text (textSort sort) (fromCharacters ccsid (drop from s)))) ⌝ }
+    ensures { λ r. ⌜ ((release : ℕ) (s : List ℕ) → length s ≡ count → Holds release r s (Item.text (textSort sort) (charactersBy release ccsid (drop from s)))) ⌝ }
 {
     CellItem::Text {
         sort,
@@ -202,7 +202,7 @@ pub fn timestamp_item(ccsid: u16, count: usize) -> CellItem
 
 // An empty text, whatever the bytes.
 fn empty_text(sort: TextSort) -> CellItem
-    ensures { λ r. ⌜ ((s : List ℕ) → Holds r s (Item.text (textSort sort) (unreplaced []))) ⌝ }
+    ensures { λ r. ⌜ ((release : ℕ) (s : List ℕ) → Holds release r s (Item.text (textSort sort) (unreplaced []))) ⌝ }
 {
     CellItem::Text {
         sort,
@@ -214,7 +214,7 @@ fn empty_text(sort: TextSort) -> CellItem
 
 // The Rust: empty_lob_value.
 fn lob_empty(kind: LobKind) -> CellItem
-    ensures { λ r. ⌜ ((s : List ℕ) → Holds r s (lobEmpty (lobOf kind))) ⌝ }
+    ensures { λ r. ⌜ ((release : ℕ) (s : List ℕ) → Holds release r s (lobEmpty (lobOf kind))) ⌝ }
 {
     match kind {
         LobKind::Blobs => CellItem::Part {
@@ -228,7 +228,7 @@ fn lob_empty(kind: LobKind) -> CellItem
 }
 
 fn first_four(bytes: &[u8]) -> CellItem
-    ensures { λ r. ⌜ Holds r (now (bytes .entry)) (lobReference ported Lob.blobs (now (bytes .entry))) ⌝ }
+    ensures { λ r. ⌜ ((release : ℕ) → Holds release r (now (bytes .entry)) (lobReference (conversionsOf release) Lob.blobs (now (bytes .entry)))) ⌝ }
 {
     if bytes.len() < 4 {
         CellItem::Part {
@@ -247,7 +247,7 @@ fn first_four(bytes: &[u8]) -> CellItem
 
 // A reference or a locator: a Blob shows its first four bytes, the others a text.
 fn lob_reference(kind: LobKind, bytes: &[u8]) -> CellItem
-    ensures { λ r. ⌜ Holds r (now (bytes .entry)) (lobReference ported (lobOf kind) (now (bytes .entry))) ⌝ }
+    ensures { λ r. ⌜ ((release : ℕ) → Holds release r (now (bytes .entry)) (lobReference (conversionsOf release) (lobOf kind) (now (bytes .entry)))) ⌝ }
 {
     match kind {
         LobKind::Blobs => first_four(bytes),
@@ -259,7 +259,7 @@ fn lob_reference(kind: LobKind, bytes: &[u8]) -> CellItem
 // A LOB within the row: what stands behind its four bytes of length.
 fn lob_inline(kind: LobKind, bytes: &[u8]) -> CellItem
     requires { ⌜ 4 ≤ length (now bytes) ⌝ }
-    ensures { λ r. ⌜ Holds r (now (bytes .entry)) (lobInline ported (lobOf kind) (now (bytes .entry))) ⌝ }
+    ensures { λ r. ⌜ ((release : ℕ) → Holds release r (now (bytes .entry)) (lobInline (conversionsOf release) (lobOf kind) (now (bytes .entry)))) ⌝ }
 {
     match kind {
         LobKind::Blobs => part_from(ByteSort::Blob, bytes, 4),
@@ -270,7 +270,7 @@ fn lob_inline(kind: LobKind, bytes: &[u8]) -> CellItem
 
 // A LOB with a reference length is a reference, empty also where all its bytes are zero.
 fn declared_lob(kind: LobKind, bytes: &[u8]) -> CellItem
-    ensures { λ r. ⌜ Holds r (now (bytes .entry)) (declaredLob ported (lobOf kind) (now (bytes .entry))) ⌝ }
+    ensures { λ r. ⌜ ((release : ℕ) → Holds release r (now (bytes .entry)) (declaredLob (conversionsOf release) (lobOf kind) (now (bytes .entry)))) ⌝ }
 {
     if all_zero(bytes) {
         return lob_empty(kind);
@@ -284,7 +284,7 @@ fn declared_lob(kind: LobKind, bytes: &[u8]) -> CellItem
 // One without is a reference of nine bytes, or a locator of four, or within the row.
 fn undeclared_lob(kind: LobKind, located: bool, bytes: &[u8]) -> CellItem
     requires { ⌜ 4 ≤ length (now bytes) ⌝ }
-    ensures { λ r. ⌜ Holds r (now (bytes .entry)) (undeclaredLob ported located (lobOf kind) (now (bytes .entry))) ⌝ }
+    ensures { λ r. ⌜ ((release : ℕ) → Holds release r (now (bytes .entry)) (undeclaredLob (conversionsOf release) located (lobOf kind) (now (bytes .entry)))) ⌝ }
 {
     if is_reference(bytes) {
         if all_zero(&bytes[1..]) {
@@ -300,7 +300,7 @@ fn undeclared_lob(kind: LobKind, located: bool, bytes: &[u8]) -> CellItem
 
 fn header_from(bytes: &[u8], from: usize) -> CellItem
     requires { ⌜ from ≤ length (now bytes) ⌝ }
-    ensures { λ r. ⌜ Holds r (now (bytes .entry)) (headerIn ported (drop from (now (bytes .entry)))) ⌝ }
+    ensures { λ r. ⌜ ((release : ℕ) → Holds release r (now (bytes .entry)) (headerIn (conversionsOf release) (drop from (now (bytes .entry))))) ⌝ }
 {
     if is_empty_header(&bytes[from..]) {
         return empty_text(TextSort::Clob);
@@ -310,7 +310,7 @@ fn header_from(bytes: &[u8], from: usize) -> CellItem
 
 // The Rust: decode_externalized_lob_header.
 fn header_item(bytes: &[u8]) -> CellItem
-    ensures { λ r. ⌜ Holds r (now (bytes .entry)) (headerItem ported (now (bytes .entry))) ⌝ }
+    ensures { λ r. ⌜ ((release : ℕ) → Holds release r (now (bytes .entry)) (headerItem (conversionsOf release) (now (bytes .entry)))) ⌝ }
 {
     if says_header(bytes) {
         return header_from(bytes, 2);
@@ -320,7 +320,7 @@ fn header_item(bytes: &[u8]) -> CellItem
 
 // A reference in hexadecimal is a Blob; else likely text is a VarChar, and other bytes are a Blob.
 fn lob_bytes_item(declared: usize, ccsid: u16, bytes: &[u8]) -> CellItem
-    ensures { λ r. ⌜ Holds r (now (bytes .entry)) (lobBytesItem ported declared ccsid (now (bytes .entry))) ⌝ }
+    ensures { λ r. ⌜ ((release : ℕ) → Holds release r (now (bytes .entry)) (lobBytesItem (conversionsOf release) declared ccsid (now (bytes .entry)))) ⌝ }
 {
     if is_short_reference(declared, bytes) {
         return part_from(ByteSort::Blob, bytes, 0);
@@ -332,7 +332,7 @@ fn lob_bytes_item(declared: usize, ccsid: u16, bytes: &[u8]) -> CellItem
 }
 
 fn lob_char_item(declared: usize, ccsid: u16, bytes: &[u8]) -> CellItem
-    ensures { λ r. ⌜ Holds r (now (bytes .entry)) (lobCharItem ported declared ccsid (now (bytes .entry))) ⌝ }
+    ensures { λ r. ⌜ ((release : ℕ) → Holds release r (now (bytes .entry)) (lobCharItem (conversionsOf release) declared ccsid (now (bytes .entry)))) ⌝ }
 {
     if is_short_reference(declared, bytes) {
         return text_from(TextSort::Clob, Encoding::Locator, bytes, 0);
@@ -343,7 +343,7 @@ fn lob_char_item(declared: usize, ccsid: u16, bytes: &[u8]) -> CellItem
 // `located`: a Blob, Clob or DbClob of length 0.
 fn lob_item(kind: LobKind, reference: ReferenceLength, located: bool, bytes: &[u8]) -> CellItem
     requires { ⌜ (reference ≡ ReferenceLength.Absent → 4 ≤ length (now bytes)) ⌝ }
-    ensures { λ r. ⌜ Holds r (now (bytes .entry)) (lobItem ported reference located (lobOf kind) (now (bytes .entry))) ⌝ }
+    ensures { λ r. ⌜ ((release : ℕ) → Holds release r (now (bytes .entry)) (lobItem (conversionsOf release) reference located (lobOf kind) (now (bytes .entry)))) ⌝ }
 {
     match reference {
         ReferenceLength::Width(_) => declared_lob(kind, bytes),
@@ -355,7 +355,7 @@ fn lob_item(kind: LobKind, reference: ReferenceLength, located: bool, bytes: &[u
 fn item_of(bytes: &[u8], column: ColumnDescriptor) -> CellItem
     requires there { ⌜ need (extentOf column) (now bytes) ≡ length (now bytes) ⌝ }
     requires other { ⌜ isNumber (column .«db2_type») ≡ false ⌝ }
-    ensures { λ r. ⌜ Holds r (now (bytes .entry)) (itemIn ported column (now (bytes .entry))) ⌝ }
+    ensures { λ r. ⌜ ((release : ℕ) → Holds release r (now (bytes .entry)) (itemIn (conversionsOf release) column (now (bytes .entry)))) ⌝ }
 {
     let t = column.db2_type;
     let length = column.length;
@@ -407,7 +407,7 @@ fn item_of(bytes: &[u8], column: ColumnDescriptor) -> CellItem
 pub fn decode_other_value(rest: &[u8], column: ColumnDescriptor) -> OtherValue
     requires there { ⌜ need (extentOf column) (now rest) ≤ length (now rest) ⌝ }
     requires other { ⌜ isNumber (column .«db2_type») ≡ false ⌝ }
-    ensures { λ r. ⌜ OtherIs r column (now (rest .entry)) ⌝ }
+    ensures { λ r. ⌜ ((release : ℕ) → OtherIs release r column (now (rest .entry))) ⌝ }
 {
     let used = other_need(rest, column);
     let item = item_of(&rest[..used], column);
@@ -423,7 +423,7 @@ pub fn decode_other_value(rest: &[u8], column: ColumnDescriptor) -> OtherValue
 // over columns. So a column is handed on in a copy made in the one arm that needs it: the numbers wait for no store.
 pub fn decode_column_value(rest: &[u8], column: ColumnDescriptor) -> ColumnValue
     requires { ⌜ need (extentOf column) (now rest) ≤ length (now rest) ⌝ }
-    ensures { λ r. ⌜ ValueIs r column (now (rest .entry)) ⌝ }
+    ensures { λ r. ⌜ ((release : ℕ) → ValueIs release r column (now (rest .entry))) ⌝ }
 {
     let t = column.db2_type;
     let order = column.byte_order;

@@ -7,13 +7,13 @@ use types::Db2Type;
 use types::ReferenceLength;
 ghost use mathlib.Core.Path.{_≡_};
 ghost use mathlib.Core.Bool.{cond, not, _&&_, _||_};
-ghost use Prim.Native.Nat.{_≤_};
+ghost use Prim.Native.Nat.{ℕ, _≤_};
 ghost use lib.ListN.{length, drop};
 ghost use Rattle.types.specs.declared.ReferenceLength.{ReferenceLength};
 ghost use Rattle.types.specs.Names.{bit8000};
 ghost use Rattle.rules.specs.Extent.{isReference, need, extentOf};
 ghost use Rattle.rules.specs.Meaning.{allZero, isEmptyReference, isEmptyHeader, headerBytes, refersIn};
-ghost use Rattle.rules.specs.Conversions.{ported};
+ghost use Rattle.rules.specs.Conversions.{conversionsOf};
 ghost use Rattle.cell.specs.Inner.{lobRefers};
 
 pub fn all_zero(s: &[u8]) -> bool
@@ -101,7 +101,7 @@ fn varying_refers(n: u16, bytes: &[u8]) -> bool
 // Whether a value refers to data outside the row, where the bytes are all that it takes. An empty LOB does not.
 pub fn refers(bytes: &[u8], column: ColumnDescriptor) -> bool
     requires { ⌜ need (extentOf column) (now bytes) ≡ length (now bytes) ⌝ }
-    ensures { λ r. ⌜ r ≡ refersIn ported column (now (bytes .entry)) ⌝ }
+    ensures { λ r. ⌜ ((release : ℕ) → r ≡ refersIn (conversionsOf release) column (now (bytes .entry))) ⌝ }
 {
     let t = column.db2_type;
     let length = column.length;

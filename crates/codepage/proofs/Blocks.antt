@@ -17,7 +17,7 @@ use Rattle.codepage.proofs.ByteText.{byte-length}
 
 -- ---- a block, and the text after it
 
-byte-append : (f : ℕ → ℕ) (a b : List ℕ) → byteText f (a ++ b) ≡ byteText f a ++ byteText f b
+pub byte-append : (f : ℕ → ℕ) (a b : List ℕ) → byteText f (a ++ b) ≡ byteText f a ++ byteText f b
 unfolding byteText bytePieces piecesText pieceText
 byte-append f [] b = refl
 byte-append f (x ∷ a) b = ap (λ (l : List ℕ). utf8 (f x) ++ l) (byte-append f a b) ∙ sym (append-assoc (utf8 (f x)) (byteText f a) (byteText f b))

@@ -1,9 +1,9 @@
--- The laws of specs/Counts.antt: for every CCSID text and number come of one list of pieces. Assumes nothing.
+-- The laws of specs/Counts.antt: for every CCSID and release text and number come of one list of pieces. Assumes nothing.
 use Prim.Native.Nat.{ℕ, suc, _<_}
 use mathlib.Core.Bool.{Bool, true, false, cond}
 use mathlib.Core.List.{List, [], _∷_}
 use mathlib.Core.Logic.{inl}
-use mathlib.Core.Path.{_≡_, refl, sym, ap, _∙_}
+use mathlib.Core.Path.{_≡_, refl, sym, ap, subst, _∙_}
 use native.Mathlib.Omega.{arith}
 use borrow.Author.Tests.{ltb-true}
 use lib.Dec.{eqb, ltb}
@@ -17,8 +17,11 @@ use Rattle.unicode.proofs.Ranges.{is-scalar, both}
 use Rattle.unicode.proofs.ScalarBytes.{utf8-one}
 use Rattle.codepage.specs.CodePage.{bytePieces, byteText, codePoint819, codePoint037}
 use Rattle.codepage.proofs.CodePage037.{code-point-small}
-use Rattle.conversion.specs.Conversion.{isUtf16, characterText, graphicText, fromCharacters, fromGraphics}
+use Rattle.conversion.specs.Conversion.{isUtf16, characterText, graphicText, fromCharacters, fromGraphics, charactersBy, graphicsBy}
+use Rattle.buffer.specs.Buffer.{Converted}
+use Rattle.conversion.specs.Releases.{ccsidBy, graphicCcsidBy}
 use Rattle.conversion.specs.Counts.{characterPieces, graphicPieces, Counts}
+use Rattle.conversion.proofs.Releases.{characters-as, graphics-as}
 
 -- ---- a byte is a code point: nothing is malformed
 
@@ -73,15 +76,24 @@ module _ (s : List ℕ) (h : AreBytes s) where
   unfolding utf16Text
   of-utf16 = record { textOf = refl; putIn = refl; atMost = omega (arith, texts .utf16-most s); together = texts .utf16-counted s h }
 
-  pub characters-counted : (ccsid : ℕ) → Counts (fromCharacters ccsid s) (characterPieces ccsid s) (length s)
+  characters-counted2 : (ccsid : ℕ) → Counts (fromCharacters ccsid s) (characterPieces ccsid s) (length s)
   unfolding characterText characterPieces
-  characters-counted ccsid =
+  characters-counted2 ccsid =
       tested (eqb ccsid 1208) (λ e. of-utf8)
       (alike (eqb ccsid 819) (λ e. of-bytes codePoint819 h refl)
       (alike (eqb ccsid 37) (λ e. of-bytes codePoint037 small037 refl)
       (alike (eqb ccsid 500) (λ e. of-bytes codePoint037 small037 refl)
       (alike (allAscii s) (λ e. of-bytes codePoint819 h (ascii-pieces s e)) (of-bytes codePoint037 small037 refl)))))
 
-  pub graphics-counted : (ccsid : ℕ) → Counts (fromGraphics ccsid s) (graphicPieces ccsid s) (length s)
+  graphics-counted2 : (ccsid : ℕ) → Counts (fromGraphics ccsid s) (graphicPieces ccsid s) (length s)
   unfolding graphicText graphicPieces
-  graphics-counted ccsid = tested (isUtf16 ccsid (length s)) (λ e. of-utf16) (characters-counted ccsid)
+  graphics-counted2 ccsid = tested (isUtf16 ccsid (length s)) (λ e. of-utf16) (characters-counted2 ccsid)
+
+  -- at every release: by the CCSID that release 2 would have for it
+  pub characters-counted : (release ccsid : ℕ) → Counts (charactersBy release ccsid s) (characterPieces (ccsidBy release ccsid) s) (length s)
+  characters-counted release ccsid = subst (λ (x : Converted). Counts x (characterPieces (ccsidBy release ccsid) s) (length s)) (sym (characters-as release ccsid s)) (characters-counted2 (ccsidBy release ccsid))
+
+  pub graphics-counted : (release ccsid : ℕ) → Counts (graphicsBy release ccsid s) (graphicPieces (graphicCcsidBy release ccsid (length s)) s) (length s)
+  graphics-counted release ccsid =
+      subst (λ (x : Converted). Counts x (graphicPieces (graphicCcsidBy release ccsid (length s)) s) (length s)) (sym (graphics-as release ccsid s))
+      (graphics-counted2 (graphicCcsidBy release ccsid (length s)))

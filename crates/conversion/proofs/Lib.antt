@@ -2,6 +2,8 @@ pub mod HexLaws
 pub mod PlainText
 pub mod Picks
 pub mod Arms
+pub mod Releases
+pub mod Empty
 pub mod Utf8Texts
 pub mod Guesses
 pub mod Replaced

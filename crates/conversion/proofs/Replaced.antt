@@ -2,6 +2,7 @@
 use Prim.Native.Nat.{ℕ, _≤_}
 use mathlib.Core.Bool.{Bool, true, false, cond}
 use mathlib.Core.List.{List}
+use mathlib.Core.Path.{sym, subst}
 use native.Mathlib.Omega.{arith}
 use lib.Dec.{eqb}
 use lib.ListN.{length}
@@ -9,7 +10,9 @@ use Rattle.unicode.specs.Unicode.{replacements, utf8Pieces, utf8Text, utf16Piec
 use Rattle.unicode.proofs.Laws.{texts}
 use Rattle.unicode.proofs.Replaced as parts
 use Rattle.buffer.specs.Buffer.{Converted, unreplaced}
-use Rattle.conversion.specs.Conversion.{isUtf16, characterText, graphicText, fromCharacters, fromGraphics, fromUtf8}
+use Rattle.conversion.specs.Conversion.{isUtf16, characterText, graphicText, fromCharacters, fromGraphics, fromUtf8, charactersBy, graphicsBy}
+use Rattle.conversion.specs.Releases.{ccsidBy, graphicCcsidBy}
+use Rattle.conversion.proofs.Releases.{characters-as, graphics-as}
 
 -- of the bytes s
 pub record Few (s : List ℕ) (c : Converted) : Type 0 where
@@ -34,10 +37,17 @@ module _ (s : List ℕ) where
   unfolding utf16Text
   utf16-few = record { within-text = parts.within-text (utf16Pieces s); within-bytes = omega (arith, texts .utf16-most s) }
 
-  pub characters-few : (ccsid : ℕ) → Few s (fromCharacters ccsid s)
+  characters-few2 : (ccsid : ℕ) → Few s (fromCharacters ccsid s)
   unfolding characterText
-  characters-few ccsid = picked (eqb ccsid 1208) _ _ _ _ utf8-few (none-few s _)
+  characters-few2 ccsid = picked (eqb ccsid 1208) _ _ _ _ utf8-few (none-few s _)
 
-  pub graphics-few : (ccsid : ℕ) → Few s (fromGraphics ccsid s)
+  graphics-few2 : (ccsid : ℕ) → Few s (fromGraphics ccsid s)
   unfolding graphicText
-  graphics-few ccsid = picked (isUtf16 ccsid (length s)) _ _ _ _ utf16-few (characters-few ccsid)
+  graphics-few2 ccsid = picked (isUtf16 ccsid (length s)) _ _ _ _ utf16-few (characters-few2 ccsid)
+
+  -- at every release
+  pub characters-few : (release ccsid : ℕ) → Few s (charactersBy release ccsid s)
+  characters-few release ccsid = subst (Few s) (sym (characters-as release ccsid s)) (characters-few2 (ccsidBy release ccsid))
+
+  pub graphics-few : (release ccsid : ℕ) → Few s (graphicsBy release ccsid s)
+  graphics-few release ccsid = subst (Few s) (sym (graphics-as release ccsid s)) (graphics-few2 (graphicCcsidBy release ccsid (length s)))

@@ -1,8 +1,8 @@
--- Every text is well-formed UTF-8 (D86 of the Unicode Standard; the rules' T1), whatever the bytes and the CCSID. Assumes nothing.
+-- Every text is well-formed UTF-8 (D86 of the Unicode Standard; the rules' T1), whatever the bytes, the CCSID and the release. Assumes nothing.
 use Prim.Native.Nat.{ℕ, zero, suc, _+_, _/_, _%_, _<_}
 use mathlib.Core.Bool.{Bool, true, false, cond}
 use mathlib.Core.List.{List, [], _∷_, _++_}
-use mathlib.Core.Path.{_≡_, refl, subst}
+use mathlib.Core.Path.{_≡_, refl, sym, subst}
 use native.Mathlib.Omega.{arith}
 use lib.Dec.{eqb, ltb}
 use lib.ListN.{length, getD}
@@ -15,7 +15,10 @@ use Rattle.unicode.proofs.Laws.{texts}
 use Rattle.codepage.specs.CodePage.{byteText, codePoint819, codePoint037}
 use Rattle.codepage.proofs.WellFormed.{latin1-well-formed, ebcdic-well-formed}
 use Rattle.conversion.specs.Hex.{hexDigit, hexText}
-use Rattle.conversion.specs.Conversion.{locatorMark, rowIdMark, isUtf16, characterText, graphicText, locatorText, rowIdText}
+use Rattle.buffer.specs.Buffer.{Converted}
+use Rattle.conversion.specs.Conversion.{locatorMark, rowIdMark, isUtf16, characterText, graphicText, charactersBy, graphicsBy, locatorText, rowIdText}
+use Rattle.conversion.specs.Releases.{ccsidBy, graphicCcsidBy}
+use Rattle.conversion.proofs.Releases.{characters-as, graphics-as}
 
 -- ---- ASCII
 
@@ -61,18 +64,27 @@ module _ (s : List ℕ) (h : AreBytes s) where
   abbrev Fine : List ℕ → Type 0
   Fine t = WellFormed utf8 t
 
-  pub characters-well-formed : (ccsid : ℕ) → Fine (characterText ccsid s)
+  characters-well-formed2 : (ccsid : ℕ) → Fine (characterText ccsid s)
   unfolding characterText
-  characters-well-formed ccsid =
+  characters-well-formed2 ccsid =
       picked Fine (eqb ccsid 1208) (utf8Text s) _ (λ e. texts .utf8-text s h)
       (picked Fine (eqb ccsid 819) (byteText codePoint819 s) _ (λ e. latin1-well-formed s h)
       (picked Fine (eqb ccsid 37) (byteText codePoint037 s) _ (λ e. ebcdic-well-formed s h)
       (picked Fine (eqb ccsid 500) (byteText codePoint037 s) _ (λ e. ebcdic-well-formed s h)
       (picked Fine (allAscii s) s _ (λ e. ascii-well-formed s e) (ebcdic-well-formed s h)))))
 
-  pub graphics-well-formed : (ccsid : ℕ) → Fine (graphicText ccsid s)
+  graphics-well-formed2 : (ccsid : ℕ) → Fine (graphicText ccsid s)
   unfolding graphicText
-  graphics-well-formed ccsid = picked Fine (isUtf16 ccsid (length s)) (utf16Text s) _ (λ e. texts .utf16-text s h) (characters-well-formed ccsid)
+  graphics-well-formed2 ccsid = picked Fine (isUtf16 ccsid (length s)) (utf16Text s) _ (λ e. texts .utf16-text s h) (characters-well-formed2 ccsid)
+
+  -- at every release
+  pub characters-well-formed : (release ccsid : ℕ) → Fine (charactersBy release ccsid s .textBytes)
+  characters-well-formed release ccsid =
+      subst (λ (x : Converted). Fine (x .textBytes)) (sym (characters-as release ccsid s)) (characters-well-formed2 (ccsidBy release ccsid))
+
+  pub graphics-well-formed : (release ccsid : ℕ) → Fine (graphicsBy release ccsid s .textBytes)
+  graphics-well-formed release ccsid =
+      subst (λ (x : Converted). Fine (x .textBytes)) (sym (graphics-as release ccsid s)) (graphics-well-formed2 (graphicCcsidBy release ccsid (length s)))
 
   pub locator-well-formed : Fine (locatorText s)
   unfolding locatorText allAscii

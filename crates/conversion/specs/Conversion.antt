@@ -1,8 +1,8 @@
--- The text of bytes by CCSID, and how many U+FFFD are put in for what is malformed: T1, T3 to T8, N4a. Assumes nothing.
+-- The text of bytes by CCSID and host release, and how many U+FFFD are put in for what is malformed: T1, T3 to T8, N4a, N10a, N10b. Assumes nothing.
 use Prim.Native.Nat.{ℕ, _%_}
-use mathlib.Core.Bool.{Bool, true, false, cond}
+use mathlib.Core.Bool.{Bool, true, false, cond, _||_}
 use mathlib.Core.List.{List, [], _∷_, _++_}
-use lib.Dec.{eqb}
+use lib.Dec.{eqb, ltb}
 use lib.ListN.{length}
 use Rattle.unicode.specs.Unicode.{replacements, utf8Pieces, utf8Text, utf16Pieces, utf16Text}
 use Rattle.buffer.specs.Buffer.{Converted}
@@ -36,6 +36,21 @@ fromCharacters ccsid s = record { textBytes = characterText ccsid s; replaced = 
 abbrev pub fromGraphics : ℕ → List ℕ → Converted
 fromGraphics ccsid s =
     record { textBytes = graphicText ccsid s; replaced = cond (isUtf16 ccsid (length s)) (replacements (utf16Pieces s)) (fromCharacters ccsid s .replaced) }
+
+-- N10a: the host releases. What stands below is never asked for another number: refusal 22 comes first
+abbrev pub isRelease : ℕ → Bool
+isRelease release = eqb release 2 || eqb release 3
+
+-- N10b: from release 3 on a CCSID other than 1208 and 819 is code page 037, with no look at the bytes; before it, it is as above
+unfoldable pub characterText3 : ℕ → List ℕ → List ℕ
+characterText3 ccsid s = cond (eqb ccsid 1208) (utf8Text s) (cond (eqb ccsid 819) (byteText codePoint819 s) (byteText codePoint037 s))
+
+abbrev pub charactersBy : ℕ → ℕ → List ℕ → Converted
+charactersBy release ccsid s =
+    cond (ltb release 3) (fromCharacters ccsid s) (record { textBytes = characterText3 ccsid s; replaced = fromCharacters ccsid s .replaced })
+
+abbrev pub graphicsBy : ℕ → ℕ → List ℕ → Converted
+graphicsBy release ccsid s = cond (ltb release 3 || isUtf16 ccsid (length s)) (fromGraphics ccsid s) (charactersBy release ccsid s)
 
 -- `LOB locator 0x`, and `0x`
 abbrev pub locatorMark : List ℕ

@@ -1,4 +1,4 @@
--- What the number of U+FFFD that a conversion puts in says of the bytes, for every CCSID: N4a, N4b. Statements; proofs/Counts.antt proves them. No contract cites
+-- What the number of U+FFFD that a conversion puts in says of the bytes, for every CCSID and release: N4a, N4b. Statements; proofs/Counts.antt proves them. No contract cites
 -- this file. Assumes nothing.
 use Prim.Native.Nat.{ℕ, _+_, _≤_}
 use mathlib.Core.Bool.{cond}
@@ -13,7 +13,7 @@ use Rattle.unicode.specs.Laws.{replacementCharacters}
 use Rattle.codepage.specs.CodePage.{bytePieces, codePoint819, codePoint037}
 use Rattle.conversion.specs.Conversion.{isUtf16}
 
--- the pieces that bytes are read as, by CCSID
+-- the pieces that bytes are read as at release 2, by CCSID; at another by ccsidBy of specs/Releases.antt
 unfoldable pub characterPieces : ℕ → List ℕ → List Piece
 characterPieces ccsid s =
     cond (eqb ccsid 1208) (utf8Pieces s)

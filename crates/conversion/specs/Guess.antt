@@ -16,6 +16,6 @@ unfoldable pub guessText : List ℕ → List ℕ
 guessText s = textIn (guess s) s
 
 -- the conversion is guessed, of characters and of graphics
-pub record Guessed (ccsid : ℕ) : Type 0 where
-  pub characters : (s : List ℕ) → characterConversion ccsid s ≡ guess s
-  pub graphics : (s : List ℕ) → graphicConversion ccsid s ≡ guess s
+pub record Guessed (release ccsid : ℕ) : Type 0 where
+  pub characters : (s : List ℕ) → characterConversion release ccsid s ≡ guess s
+  pub graphics : (s : List ℕ) → graphicConversion release ccsid s ≡ guess s

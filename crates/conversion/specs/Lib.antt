@@ -4,3 +4,4 @@ pub mod Picked
 pub mod Measure
 pub mod Guess
 pub mod Counts
+pub mod Releases

@@ -4,7 +4,7 @@
 use Prim.Native.Nat.{ℕ}
 use mathlib.Core.Bool.{cond}
 use mathlib.Core.List.{List}
-use lib.Dec.{eqb}
+use lib.Dec.{eqb, ltb}
 use lib.ListN.{length}
 use Rattle.unicode.specs.Unicode.{replacements, utf8Pieces, utf8Text, utf16Pieces, utf16Text}
 use Rattle.unicode.specs.Ascii.{allAscii}
@@ -36,13 +36,13 @@ replacedIn RowId s = 0
 abbrev pub convertedIn : Conversion → List ℕ → Converted
 convertedIn p s = record { textBytes = textIn p s; replaced = replacedIn p s }
 
-unfoldable pub characterConversion : ℕ → List ℕ → Conversion
-characterConversion ccsid s =
+unfoldable pub characterConversion : ℕ → ℕ → List ℕ → Conversion
+characterConversion release ccsid s =
     cond (eqb ccsid 1208) Utf8
     (cond (eqb ccsid 819) Latin1
     (cond (eqb ccsid 37) Ebcdic037
     (cond (eqb ccsid 500) Ebcdic037
-    (cond (allAscii s) Plain Ebcdic037))))
+    (cond (ltb release 3) (cond (allAscii s) Plain Ebcdic037) Ebcdic037))))
 
-unfoldable pub graphicConversion : ℕ → List ℕ → Conversion
-graphicConversion ccsid s = cond (isUtf16 ccsid (length s)) Utf16 (characterConversion ccsid s)
+unfoldable pub graphicConversion : ℕ → ℕ → List ℕ → Conversion
+graphicConversion release ccsid s = cond (isUtf16 ccsid (length s)) Utf16 (characterConversion release ccsid s)

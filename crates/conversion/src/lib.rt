@@ -1,5 +1,5 @@
-// Inner. Text conversions: which one a CCSID asks for, how long its text is, and its writing into a lent buffer. A conversion is picked
-// once, before any loop over bytes. It refuses nothing: callers test lengths.
+// Inner. Text conversions: which one a CCSID asks for at a host release, how long its text is, and its writing into a lent buffer. A conversion is picked
+// once, before any loop over bytes; only the pick looks at the release. It refuses nothing: callers test lengths and releases.
 pub mod hex;
 
 use buffer::Written;
@@ -22,7 +22,7 @@ ghost use lib.ListN.{length, take};
 ghost use Rattle.refusal.specs.Refusal.{inputLimit};
 ghost use Rattle.buffer.specs.Buffer.{overwritten};
 ghost use Rattle.utf.specs.Ascii.{AsciiRun};
-ghost use Rattle.conversion.specs.Conversion.{isUtf16};
+ghost use Rattle.conversion.specs.Conversion.{isRelease, isUtf16};
 ghost use Rattle.conversion.specs.Picked.{characterConversion, graphicConversion, textIn, replacedIn};
 ghost use Rattle.conversion.specs.Guess.{guessText, Guessed};
 ghost use Rattle.conversion.specs.Measure.{Measures};
@@ -42,9 +42,19 @@ pub enum Conversion {
     RowId,
 }
 
-// The conversion that a CCSID asks for; for an unnamed one, by a look at the bytes.
-pub fn character_conversion(ccsid: u16, s: &[u8]) -> Conversion
-    ensures { λ r. ⌜ r ≡ characterConversion ccsid (now (s .entry)) ⌝ }
+// Whether a call takes the number for a host release: refusal 22 where it does not.
+pub fn is_release(release: u32) -> bool
+    ensures { λ r. ⌜ r ≡ isRelease release ⌝ }
+{
+    if release == 2 {
+        return true;
+    }
+    release == 3
+}
+
+// The conversion that a CCSID asks for; for an unnamed one code page 037, before release 3 by a look at the bytes.
+pub fn character_conversion(ccsid: u16, release: u32, s: &[u8]) -> Conversion
+    ensures { λ r. ⌜ r ≡ characterConversion release ccsid (now (s .entry)) ⌝ }
 {
     if ccsid == 1208 {
         return Conversion::Utf8;
@@ -56,6 +66,9 @@ pub fn character_conversion(ccsid: u16, s: &[u8]) -> Conversion
         return Conversion::Ebcdic037;
     }
     if ccsid == 500 {
+        return Conversion::Ebcdic037;
+    }
+    if 3 <= release {
         return Conversion::Ebcdic037;
     }
     if !has_high(s) {
@@ -77,13 +90,13 @@ fn is_utf16(ccsid: u16, count: usize) -> bool
 }
 
 // The same for a graphic value.
-pub fn graphic_conversion(ccsid: u16, s: &[u8]) -> Conversion
-    ensures { λ r. ⌜ r ≡ graphicConversion ccsid (now (s .entry)) ⌝ }
+pub fn graphic_conversion(ccsid: u16, release: u32, s: &[u8]) -> Conversion
+    ensures { λ r. ⌜ r ≡ graphicConversion release ccsid (now (s .entry)) ⌝ }
 {
     if is_utf16(ccsid, s.len()) {
         return Conversion::Utf16;
     }
-    character_conversion(ccsid, s)
+    character_conversion(ccsid, release, s)
 }
 
 // The length of a text, and a conversion that gives the same text and is cheap to write: Plain where measuring found that out.
@@ -175,13 +188,13 @@ pub fn text_write(conversion: Conversion, s: &[u8], out: &mut [u8]) -> Written
     }
 }
 
-// The CCSID is not named, and not one of UTF-16: the conversion goes by a look at the bytes.
-pub fn is_guessed(ccsid: u16) -> bool
-    ensures { λ r. ⌜ (r ≡ true → Guessed ccsid) ⌝ }
+// The CCSID is not named, and not one of UTF-16, and the release is before 3: the conversion goes by a look at the bytes.
+pub fn is_guessed(ccsid: u16, release: u32) -> bool
+    ensures { λ r. ⌜ (r ≡ true → Guessed release ccsid) ⌝ }
 {
     match ccsid {
         1208 | 819 | 37 | 500 | 1200 | 13488 => false,
-        _ => true,
+        _ => release < 3,
     }
 }
 

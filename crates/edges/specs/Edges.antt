@@ -33,13 +33,14 @@ pub data Found : Type 0 where
   answered : Told → RowTold → List ℕ → List (List ℕ) → Found
   converted : TextTold → List ℕ → Found
 
-unfoldable pub foundOf : Given → Found
-foundOf (rowCase d s) =
+-- at a host release; the table holds at 2 and at 3
+unfoldable pub foundOf : ℕ → Given → Found
+foundOf release (rowCase d s) =
     let columns = description d .columns in
-    let answer = rowAnswer columns s lent in
-    let after = rowText columns s lent in
+    let answer = rowAnswer release columns s lent in
+    let after = rowText release columns s lent in
     answered (description d .outcome) answer after (map (λ v. valueBytes (v .value) s after) (take (columns .count) (answer .places)))
-foundOf (decimalCase s scale) = converted (decimalAnswer scale s lent) (decimalBuffer scale s lent)
+foundOf release (decimalCase s scale) = converted (decimalAnswer scale s lent) (decimalBuffer scale s lent)
 
 -- an accepted row: its values, their texts one after the other, the bytes of each value, and the bytes used; in no case is a character replaced
 abbrev pub values : List ValuePlace → List ℕ → List (List ℕ) → ℕ → Found
@@ -108,8 +109,8 @@ edges =
     ∷ []
 
 -- V1: every outcome that the definitions give is the one in the table
-abbrev pub EdgesHold : Type 0
-EdgesHold = map (λ e. foundOf (e .given)) edges ≡ map (λ e. e .found) edges
+abbrev pub EdgesHold : ℕ → Type 0
+EdgesHold release = map (λ e. foundOf release (e .given)) edges ≡ map (λ e. e .found) edges
 
 -- the letters are A to P, in order
 abbrev pub LettersInOrder : Type 0

@@ -24,7 +24,7 @@ use Rattle.rules.specs.Walk.{columnNeed, Cell, absent, present, cellOf, done, w
 pub use Rattle.unicode.specs.Laws.{AreBytes}
 use Rattle.unicode.proofs.Bytes.{bytes-drop, bytes-take}
 use Rattle.rules.specs.Row.{itemText, cellItem, rowTexts}
-use Rattle.rules.specs.Conversions.{ported}
+use Rattle.rules.specs.Conversions.{conversionsOf}
 use Rattle.rules.proofs.ItemTexts.{TextOf, Texts, item-text}
 use Rattle.rules.proofs.Walks.{isDone, usedOf, piecesOf, walk-step, walk-first}
 use Rattle.rules.proofs.Progress.{pieceAt, cons-inverse}
@@ -71,20 +71,20 @@ Short s t = length (t .textBytes) ≤ 3 * length s + 258
 abbrev pub Scaled : Db2Type → Type 0
 Scaled t = (precision scale : ℕ) → t ≡ type.Decimal precision scale → scale < 256
 
-module _ (s : List ℕ) (h : AreBytes s) where
+module _ (release : ℕ) (s : List ℕ) (h : AreBytes s) where
   -- what a conversion makes of the bytes from a place on
   by-short : (p : Conversion) (n : ℕ) {t : Converted} → convertedIn p (drop n s) ≡ t → Short s t
   by-short p n e =
       let b = text-bound p (drop n s) (bytes-drop n s h) in
       subst (Short s) e (omega (arith, b, length-drop n s))
 
-  texts-short : (t : Db2Type) → Scaled t → Texts ported t s (Short s)
+  texts-short : (t : Db2Type) → Scaled t → Texts (conversionsOf release) t s (Short s)
   texts-short t f =
       record {
         ofNone = omega arith;
         ofPacked = λ precision scale e. decimal-bound scale s (f precision scale e);
-        ofCharacters = λ ccsid n. by-short (characterConversion ccsid (drop n s)) n (characters-by ccsid (drop n s) refl);
-        ofGraphics = λ ccsid n. by-short (graphicConversion ccsid (drop n s)) n (graphics-by ccsid (drop n s) refl);
+        ofCharacters = λ ccsid n. by-short (characterConversion release ccsid (drop n s)) n (characters-by release ccsid (drop n s) refl);
+        ofGraphics = λ ccsid n. by-short (graphicConversion release ccsid (drop n s)) n (graphics-by release ccsid (drop n s) refl);
         ofInline = λ n. by-short by.Utf8 n (utf8-picked (drop n s));
         ofLocator = λ n. by-short by.Locator n (locator-picked (drop n s));
         ofRowId = by-short by.RowId 0 (row-id-picked s);
@@ -98,24 +98,24 @@ module _ (s : List ℕ) (h : AreBytes s) where
   item-short (part j from n) k = omega arith
   item-short (text j t) k = k
 
-  value-short : (c : ColumnDescriptor) → Scaled (c .«db2_type») → length (itemText (itemIn ported c s)) ≤ 3 * length s + 258
-  value-short c f = item-short (itemIn ported c s) (item-text ported (Short s) c s (texts-short (c .«db2_type») f))
+  value-short : (c : ColumnDescriptor) → Scaled (c .«db2_type») → length (itemText (itemIn (conversionsOf release) c s)) ≤ 3 * length s + 258
+  value-short c f = item-short (itemIn (conversionsOf release) c s) (item-text (conversionsOf release) (Short s) c s (texts-short (c .«db2_type») f))
 
 -- ---- a column's piece of the rest r
 
-cell-short : (b : Bool) (c : ColumnDescriptor) (at : ℕ) (t : List ℕ) → Scaled (c .«db2_type») → AreBytes t → length (itemText (cellItem ported (cellOf b c at t))) ≤ 3 * length t + 258
+cell-short : (release : ℕ) (b : Bool) (c : ColumnDescriptor) (at : ℕ) (t : List ℕ) → Scaled (c .«db2_type») → AreBytes t → length (itemText (cellItem (conversionsOf release) (cellOf b c at t))) ≤ 3 * length t + 258
 unfolding cellOf cellItem itemText
-cell-short true c at [] f h = omega arith
-cell-short true c at (x ∷ t) f h = go (eqb x 0xFF)
+cell-short release true c at [] f h = omega arith
+cell-short release true c at (x ∷ t) f h = go (eqb x 0xFF)
   where
-    go : (b : Bool) → length (itemText (cellItem ported (cond b absent (present c (at + 1) t)))) ≤ 3 * suc (length t) + 258
+    go : (b : Bool) → length (itemText (cellItem (conversionsOf release) (cond b absent (present c (at + 1) t)))) ≤ 3 * suc (length t) + 258
     go true = omega arith
-    go false = omega (arith, value-short t (bytes-drop 1 (x ∷ t) h) c f)
-cell-short false c at t f h = value-short t h c f
+    go false = omega (arith, value-short release t (bytes-drop 1 (x ∷ t) h) c f)
+cell-short release false c at t f h = value-short release t h c f
 
-piece-bound : (c : ColumnDescriptor) (at : ℕ) (r : List ℕ) → Scaled (c .«db2_type») → AreBytes r → length (itemText (cellItem ported (pieceAt c at r))) ≤ 3 * columnNeed c r + 258
-piece-bound c at r f h =
-    omega (arith, cell-short (c .nullable) c at (take (columnNeed c r) r) f (bytes-take (columnNeed c r) r h), length-take (columnNeed c r) r)
+piece-bound : (release : ℕ) (c : ColumnDescriptor) (at : ℕ) (r : List ℕ) → Scaled (c .«db2_type») → AreBytes r → length (itemText (cellItem (conversionsOf release) (pieceAt c at r))) ≤ 3 * columnNeed c r + 258
+piece-bound release c at r f h =
+    omega (arith, cell-short release (c .nullable) c at (take (columnNeed c r) r) f (bytes-take (columnNeed c r) r h), length-take (columnNeed c r) r)
 
 -- ---- a row
 
@@ -124,23 +124,23 @@ abbrev pub AllScaled : List ColumnDescriptor → Type 0
 AllScaled [] = Unit
 AllScaled (c ∷ cs) = Scaled (c .«db2_type») × AllScaled cs
 
-walk-bound : (start : ℕ) (cs : List ColumnDescriptor) (at : ℕ) (r : List ℕ) (ps : List Cell) (end : ℕ) → AllScaled cs → AreBytes r → walk start cs at r ≡ done ps end
-    → 3 * at + length (rowTexts ported ps) ≤ 3 * end + 258 * length cs
+walk-bound : (release start : ℕ) (cs : List ColumnDescriptor) (at : ℕ) (r : List ℕ) (ps : List Cell) (end : ℕ) → AllScaled cs → AreBytes r → walk start cs at r ≡ done ps end
+    → 3 * at + length (rowTexts (conversionsOf release) ps) ≤ 3 * end + 258 * length cs
 unfolding walk rowTexts
-walk-bound start [] at r ps end f h d =
-    let n : rowTexts ported ps ≡ [] = ap (rowTexts ported) (sym (ap piecesOf d)) in
+walk-bound release start [] at r ps end f h d =
+    let n : rowTexts (conversionsOf release) ps ≡ [] = ap (rowTexts (conversionsOf release)) (sym (ap piecesOf d)) in
     omega (arith, ap usedOf d, ap length n)
-walk-bound start (c ∷ cs) at r ps end f h d =
+walk-bound release start (c ∷ cs) at r ps end f h d =
     let k = columnNeed c r in
     let w = walk start cs (at + k) (drop k r) in
     let there = walk-first start c cs at r (ap isDone d) in
     let turn = cons-inverse (pieceAt c at r) w ps end (sym (walk-step start c cs at r k refl there) ∙ d) in
-    let ih = walk-bound start cs (at + k) (drop k r) (piecesOf w) end (f .1) (bytes-drop k r h) (turn .0) in
-    let e = ap (λ (l : List Cell). length (rowTexts ported l)) (turn .1) in
-    omega (arith, e, ih, piece-bound c at r (f .0) h, length-append (itemText (cellItem ported (pieceAt c at r))) (rowTexts ported (piecesOf w)))
+    let ih = walk-bound release start cs (at + k) (drop k r) (piecesOf w) end (f .1) (bytes-drop k r h) (turn .0) in
+    let e = ap (λ (l : List Cell). length (rowTexts (conversionsOf release) l)) (turn .1) in
+    omega (arith, e, ih, piece-bound release c at r (f .0) h, length-append (itemText (cellItem (conversionsOf release) (pieceAt c at r))) (rowTexts (conversionsOf release) (piecesOf w)))
 
 -- the texts of a row together
-pub texts-bound : (cs : List ColumnDescriptor) (start : ℕ) (s : List ℕ) (ps : List Cell) (end : ℕ) → AllScaled cs → AreBytes s → start ≤ end
-    → walkBody cs start s ≡ done ps end → length (rowTexts ported ps) ≤ 3 * (end - start) + 258 * length cs
+pub texts-bound : (release : ℕ) (cs : List ColumnDescriptor) (start : ℕ) (s : List ℕ) (ps : List Cell) (end : ℕ) → AllScaled cs → AreBytes s → start ≤ end
+    → walkBody cs start s ≡ done ps end → length (rowTexts (conversionsOf release) ps) ≤ 3 * (end - start) + 258 * length cs
 unfolding walkBody
-texts-bound cs start s ps end f h k d = omega (arith, walk-bound start cs start (drop start s) ps end f (bytes-drop start s h) d)
+texts-bound release cs start s ps end f h k d = omega (arith, walk-bound release start cs start (drop start s) ps end f (bytes-drop start s h) d)

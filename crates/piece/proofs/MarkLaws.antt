@@ -116,9 +116,9 @@ none-set k l h =
     let e = eqb-true (getD (replicate 12 (2 ^ 64 - 1)) (k / 64) 0 / 2 ^ (k % 64) % 2) 0 h in
     omega (arith, e, ap (λ (x : ℕ). x / 2 ^ (k % 64) % 2) w, ones-bit (k % 64) (omega arith))
 
-pub plain-none : (w : Walk) → PlainMarks (replicate 12 (2 ^ 64 - 1)) w
-plain-none (done ps end) = λ k l h. absurd (none-set k l h)
-plain-none (short e a) = tt
+pub plain-none : (release : ℕ) (w : Walk) → PlainMarks release (replicate 12 (2 ^ 64 - 1)) w
+plain-none release (done ps end) = λ k l h. absurd (none-set k l h)
+plain-none release (short e a) = tt
 
 -- ---- the marks of a row
 
@@ -133,13 +133,13 @@ walk-length start (c ∷ cs) at r ps end d =
     let turn = cons-inverse (pieceAt c at r) w ps end (sym (walk-step start c cs at r k refl there) ∙ d) in
     ap length (turn .1) ∙ ap suc (walk-length start cs (at + k) (drop k r) (piecesOf w) end (turn .0))
 
-module _ (cs : List ColumnDescriptor) (start : ℕ) (s : List ℕ) (ps : List Cell) (end : ℕ) (d : walkBody cs start s ≡ done ps end) where
+module _ (release : ℕ) (cs : List ColumnDescriptor) (start : ℕ) (s : List ℕ) (ps : List Cell) (end : ℕ) (d : walkBody cs start s ≡ done ps end) where
   -- of the marks m, those of the walk
-  pub of-pieces : (m : List ℕ) → PlainMarks m (walkBody cs start s) → PlainMarks m (done ps end)
-  of-pieces m h = subst (PlainMarks m) d h
+  pub of-pieces : (m : List ℕ) → PlainMarks release m (walkBody cs start s) → PlainMarks release m (done ps end)
+  of-pieces m h = subst (PlainMarks release m) d h
 
-  pub of-walk : (m : List ℕ) → PlainMarks m (done ps end) → PlainMarks m (walkBody cs start s)
-  of-walk m h = subst (PlainMarks m) (sym d) h
+  pub of-walk : (m : List ℕ) → PlainMarks release m (done ps end) → PlainMarks release m (walkBody cs start s)
+  of-walk m h = subst (PlainMarks release m) (sym d) h
 
   module _ {i at : ℕ} {passed : List Cell} (g : Going cs start s ps end i at passed) (c : ColumnDescriptor) (e : drop i cs ≡ c ∷ drop (i + 1) cs) (r : List ℕ) (q : r ≡ drop at s) (h : i ≤ length cs) where
     passed-count : length passed ≡ i
@@ -153,10 +153,10 @@ module _ (cs : List ColumnDescriptor) (start : ℕ) (s : List ℕ) (ps : List Ce
         ∙ getD-at passed (pieceAt c at r) (piecesOf (following cs start s ps end g c e r q)) absent i passed-count
 
     -- what the mark of this column says
-    pub plain-here : (m : List ℕ) → PlainMarks m (walkBody cs start s) → i < 768 → (b : Bool) → b ≡ markAt m i → b ≡ true → PlainCell (pieceAt c at r)
-    plain-here m p l b f t = subst PlainCell piece-here (of-pieces m p i l (sym f ∙ t))
+    pub plain-here : (m : List ℕ) → PlainMarks release m (walkBody cs start s) → i < 768 → (b : Bool) → b ≡ markAt m i → b ≡ true → PlainCell release (pieceAt c at r)
+    plain-here m p l b f t = subst (PlainCell release) piece-here (of-pieces m p i l (sym f ∙ t))
 
     -- this column is marked, or it is not
-    pub plain-more : (m n : List ℕ) → PlainMarks m (walkBody cs start s) → (b : Bool) → Marks m i b n → (b ≡ true → PlainCell (pieceAt c at r)) → PlainMarks n (walkBody cs start s)
+    pub plain-more : (m n : List ℕ) → PlainMarks release m (walkBody cs start s) → (b : Bool) → Marks m i b n → (b ≡ true → PlainCell release (pieceAt c at r)) → PlainMarks release n (walkBody cs start s)
     plain-more m n p b f t =
-        of-walk n (λ k l x. ⊎-elim (λ y. of-pieces m p k l y) (λ y. subst (λ (j : ℕ). PlainCell (getD ps j absent)) (sym (y .0)) (subst PlainCell (sym piece-here) (t (y .1)))) (f k x))
+        of-walk n (λ k l x. ⊎-elim (λ y. of-pieces m p k l y) (λ y. subst (λ (j : ℕ). PlainCell release (getD ps j absent)) (sym (y .0)) (subst (PlainCell release) (sym piece-here) (t (y .1)))) (f k x))

@@ -13,7 +13,7 @@ use Rattle.types.specs.declared.ColumnDescriptor.{ColumnDescriptor}
 use Rattle.rules.specs.Extent.{need, extentOf}
 use Rattle.rules.specs.Walk.{nullableNeed, cellNeed, columnNeed, Cell, absent, present, cellOf, short, cellShort}
 use Rattle.rules.specs.Row.{itemText, itemReplaced, cellItem}
-use Rattle.rules.specs.Conversions.{ported}
+use Rattle.rules.specs.Conversions.{conversionsOf}
 use Rattle.piece.specs.Piece.{isNull, valueIn, valueText, valueReplaced, cellIn, cellText, cellReplaced}
 
 -- all bytes from a place on
@@ -148,13 +148,13 @@ module _ (c : ColumnDescriptor) (s : List ℕ) where
         go true e (x ∷ t) q k = null-piece c (ap not e) s (ap (λ (l : List ℕ). getD l 0 0) q ∙ eqb-true x 0xFF k) at
         go false e t q k = absurd (true≢false (sym k))
 
-    pub absent-text : 0 < length s → cellText c s ≡ []
+    pub absent-text : (release : ℕ) → 0 < length s → cellText release c s ≡ []
     unfolding cellItem itemText
-    absent-text m = ap (λ (p : Cell). itemText (cellItem ported p)) (null-absent m 0)
+    absent-text release m = ap (λ (p : Cell). itemText (cellItem (conversionsOf release) p)) (null-absent m 0)
 
-    pub absent-replaced : 0 < length s → cellReplaced c s ≡ 0
+    pub absent-replaced : (release : ℕ) → 0 < length s → cellReplaced release c s ≡ 0
     unfolding cellItem itemReplaced
-    absent-replaced m = ap (λ (p : Cell). itemReplaced (cellItem ported p)) (null-absent m 0)
+    absent-replaced release m = ap (λ (p : Cell). itemReplaced (cellItem (conversionsOf release) p)) (null-absent m 0)
 
   module _ (h : isNull (c .nullable) s ≡ false) where
     pub lead-within : leadOf c ≤ length s
@@ -184,10 +184,10 @@ module _ (c : ColumnDescriptor) (s : List ℕ) where
         go true e k = value-piece c (ap not e) s (some s k .0) (some s k .1) at
         go false e k = let z : at ≡ at + 0 = omega arith in plain-piece c (ap not e) s at ∙ ap (λ (n : ℕ). valueIn c n s) z
 
-    pub value-reads : cellText c s ≡ valueText c (drop (leadOf c) s)
+    pub value-reads : (release : ℕ) → cellText release c s ≡ valueText release c (drop (leadOf c) s)
     unfolding cellItem
-    value-reads = ap (λ (p : Cell). itemText (cellItem ported p)) (value-stands 0)
+    value-reads release = ap (λ (p : Cell). itemText (cellItem (conversionsOf release) p)) (value-stands 0)
 
-    pub value-counts : cellReplaced c s ≡ valueReplaced c (drop (leadOf c) s)
+    pub value-counts : (release : ℕ) → cellReplaced release c s ≡ valueReplaced release c (drop (leadOf c) s)
     unfolding cellItem
-    value-counts = ap (λ (p : Cell). itemReplaced (cellItem ported p)) (value-stands 0)
+    value-counts release = ap (λ (p : Cell). itemReplaced (cellItem (conversionsOf release) p)) (value-stands 0)

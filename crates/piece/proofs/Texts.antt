@@ -9,19 +9,19 @@ use lib.Dec.{ltb}
 use borrow.Author.Tests.{lt-ltb, le-ltb, ltb-true, ltb-false}
 use Rattle.rules.specs.Walk.{Walk, done, short}
 use Rattle.rules.specs.Row.{rowTexts, rowReplaced}
-use Rattle.rules.specs.Conversions.{ported}
+use Rattle.rules.specs.Conversions.{conversionsOf}
 use Rattle.rules.proofs.Walks.{piecesOf}
 use Rattle.piece.specs.Texts.{textsOf, replacedOf, neededBeyond}
 
-pub texts-are : (w : Walk) → textsOf w ≡ rowTexts ported (piecesOf w)
+pub texts-are : (release : ℕ) (w : Walk) → textsOf release w ≡ rowTexts (conversionsOf release) (piecesOf w)
 unfolding rowTexts
-texts-are (done ps n) = refl
-texts-are (short e a) = refl
+texts-are release (done ps n) = refl
+texts-are release (short e a) = refl
 
-pub replaced-are : (w : Walk) → replacedOf w ≡ rowReplaced ported (piecesOf w)
+pub replaced-are : (release : ℕ) (w : Walk) → replacedOf release w ≡ rowReplaced (conversionsOf release) (piecesOf w)
 unfolding rowReplaced
-replaced-are (done ps n) = refl
-replaced-are (short e a) = refl
+replaced-are release (done ps n) = refl
+replaced-are release (short e a) = refl
 
 -- the texts t and a buffer of n bytes
 pub needed-none : (n k : ℕ) (t : List ℕ) → k ≡ length t → k ≤ n → 0 ≡ neededBeyond n t

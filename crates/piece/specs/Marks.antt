@@ -18,6 +18,6 @@ abbrev pub Marks : List ℕ → ℕ → Bool → List ℕ → Type 0
 Marks m k plain n = (j : ℕ) → markAt n j ≡ true → (markAt m j ≡ true) ⊎ ((j ≡ k) × (plain ≡ true))
 
 -- every marked column of a walk has a text that is copied
-abbrev pub PlainMarks : List ℕ → Walk → Type 0
-PlainMarks m (done ps n) = (k : ℕ) → k < 768 → markAt m k ≡ true → PlainCell (getD ps k absent)
-PlainMarks m (short e a) = Unit {0}
+abbrev pub PlainMarks : ℕ → List ℕ → Walk → Type 0
+PlainMarks release m (done ps n) = (k : ℕ) → k < 768 → markAt m k ≡ true → PlainCell release (getD ps k absent)
+PlainMarks release m (short e a) = Unit {0}

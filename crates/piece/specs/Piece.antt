@@ -16,7 +16,7 @@ use Rattle.rules.specs.Extent.{need, extentOf, typeExtent}
 use Rattle.rules.specs.Meaning.{typeItem, itemIn}
 use Rattle.rules.specs.Walk.{Cell, absent, present, columnNeed, cellOf}
 use Rattle.rules.specs.Row.{place, partValue, textValue, startOf, itemText, itemReplaced, cellItem}
-use Rattle.rules.specs.Conversions.{ported}
+use Rattle.rules.specs.Conversions.{conversionsOf}
 use Rattle.buffer.specs.Buffer.{Converted, unreplaced}
 use Rattle.cell.specs.declared.CellItem.{CellItem}
 use Rattle.cell.specs.declared.CellItem.the-variants.{Nothing, Boolean, Part, Text}
@@ -40,18 +40,18 @@ cellIn c at s = cellOf (c .nullable) c at (take (columnNeed c s) s)
 abbrev pub valueIn : ColumnDescriptor → ℕ → List ℕ → Cell
 valueIn c at s = present c at (take (need (extentOf c) s) s)
 
-abbrev pub valueText : ColumnDescriptor → List ℕ → List ℕ
-valueText c s = itemText (cellItem ported (valueIn c 0 s))
+abbrev pub valueText : ℕ → ColumnDescriptor → List ℕ → List ℕ
+valueText release c s = itemText (cellItem (conversionsOf release) (valueIn c 0 s))
 
-abbrev pub valueReplaced : ColumnDescriptor → List ℕ → ℕ
-valueReplaced c s = itemReplaced (cellItem ported (valueIn c 0 s))
+abbrev pub valueReplaced : ℕ → ColumnDescriptor → List ℕ → ℕ
+valueReplaced release c s = itemReplaced (cellItem (conversionsOf release) (valueIn c 0 s))
 
 -- a cell's text, and how many U+FFFD were put in, do not depend on where the cell is
-abbrev pub cellText : ColumnDescriptor → List ℕ → List ℕ
-cellText c s = itemText (cellItem ported (cellIn c 0 s))
+abbrev pub cellText : ℕ → ColumnDescriptor → List ℕ → List ℕ
+cellText release c s = itemText (cellItem (conversionsOf release) (cellIn c 0 s))
 
-abbrev pub cellReplaced : ColumnDescriptor → List ℕ → ℕ
-cellReplaced c s = itemReplaced (cellItem ported (cellIn c 0 s))
+abbrev pub cellReplaced : ℕ → ColumnDescriptor → List ℕ → ℕ
+cellReplaced release c s = itemReplaced (cellItem (conversionsOf release) (cellIn c 0 s))
 
 -- where the text of a value within the row begins among the value's bytes: behind the two or four bytes that say its length
 abbrev pub textStart : Db2Type → ℕ
@@ -59,9 +59,9 @@ textStart t =
     cond (namedIn (type.VarChar 0 ∷ type.LongVarChar ∷ type.VarGraphic 0 ∷ []) t) 2 (cond (namedIn (type.Clob ∷ type.DbClob ∷ type.Xml ∷ []) t) 4 0)
 
 -- the text is the value's bytes from there on, and none was replaced: writing it is copying them
-abbrev pub PlainCell : Cell → Type 0
-PlainCell absent = Unit {0}
-PlainCell (present c at s) = (itemText (itemIn ported c s) ≡ drop (textStart (c .«db2_type»)) s) × (itemReplaced (itemIn ported c s) ≡ 0)
+abbrev pub PlainCell : ℕ → Cell → Type 0
+PlainCell release absent = Unit {0}
+PlainCell release (present c at s) = (itemText (itemIn (conversionsOf release) c s) ≡ drop (textStart (c .«db2_type»)) s) × (itemReplaced (itemIn (conversionsOf release) c s) ≡ 0)
 
 -- an item as the column decoder holds it, of the value's bytes s: it lies within them, what is made of them, and its value where s begins at place `at`
 abbrev pub LiesWithin : CellItem → List ℕ → Type 0
@@ -70,24 +70,24 @@ LiesWithin (Boolean b) s = Unit {0}
 LiesWithin (Part k from len) s = from + len ≤ length s
 LiesWithin (Text k reading from len) s = (from + len ≤ length s) × Readable reading len
 
-abbrev pub madeOf : CellItem → List ℕ → Converted
-madeOf Nothing s = unreplaced []
-madeOf (Boolean b) s = unreplaced []
-madeOf (Part k from len) s = unreplaced []
-madeOf (Text k reading from len) s = readBy reading (take len (drop from s))
+abbrev pub madeOf : ℕ → CellItem → List ℕ → Converted
+madeOf release Nothing s = unreplaced []
+madeOf release (Boolean b) s = unreplaced []
+madeOf release (Part k from len) s = unreplaced []
+madeOf release (Text k reading from len) s = readBy release reading (take len (drop from s))
 
-abbrev pub textHeld : CellItem → List ℕ → List ℕ
-textHeld x s = madeOf x s .textBytes
+abbrev pub textHeld : ℕ → CellItem → List ℕ → List ℕ
+textHeld release x s = madeOf release x s .textBytes
 
-abbrev pub replacedHeld : CellItem → List ℕ → ℕ
-replacedHeld x s = madeOf x s .replaced
+abbrev pub replacedHeld : ℕ → CellItem → List ℕ → ℕ
+replacedHeld release x s = madeOf release x s .replaced
 
-abbrev pub itemValue : CellItem → List ℕ → ℕ → ℕ → Db2Value
-itemValue Nothing s at next = Db2Value.Null
-itemValue (Boolean b) s at next = Db2Value.Boolean b
-itemValue (Part k from len) s at next = partValue (byteSort k) (place (startOf len (at + from)) len)
-itemValue (Text k reading from len) s at next = textValue (textSort k) (place next (length (textHeld (Text k reading from len) s)))
+abbrev pub itemValue : ℕ → CellItem → List ℕ → ℕ → ℕ → Db2Value
+itemValue release Nothing s at next = Db2Value.Null
+itemValue release (Boolean b) s at next = Db2Value.Boolean b
+itemValue release (Part k from len) s at next = partValue (byteSort k) (place (startOf len (at + from)) len)
+itemValue release (Text k reading from len) s at next = textValue (textSort k) (place next (length (textHeld release (Text k reading from len) s)))
 
 -- the value and whether it is external, of what the column decoder found in the rest s of the row
-abbrev pub placeOf : OtherValue → ℕ → ℕ → List ℕ → ValuePlace
-placeOf d at next s = record { value = itemValue (d .item) (take (d .used) s) at next; external = d .external }
+abbrev pub placeOf : ℕ → OtherValue → ℕ → ℕ → List ℕ → ValuePlace
+placeOf release d at next s = record { value = itemValue release (d .item) (take (d .used) s) at next; external = d .external }

@@ -7,15 +7,15 @@ use lib.ListN.{length}
 use lib.Dec.{ltb}
 use Rattle.rules.specs.Walk.{Walk, done, short}
 use Rattle.rules.specs.Row.{rowTexts, rowReplaced}
-use Rattle.rules.specs.Conversions.{ported}
+use Rattle.rules.specs.Conversions.{conversionsOf}
 
-abbrev pub textsOf : Walk → List ℕ
-textsOf (done ps n) = rowTexts ported ps
-textsOf (short e a) = []
+abbrev pub textsOf : ℕ → Walk → List ℕ
+textsOf release (done ps n) = rowTexts (conversionsOf release) ps
+textsOf release (short e a) = []
 
-abbrev pub replacedOf : Walk → ℕ
-replacedOf (done ps n) = rowReplaced ported ps
-replacedOf (short e a) = 0
+abbrev pub replacedOf : ℕ → Walk → ℕ
+replacedOf release (done ps n) = rowReplaced (conversionsOf release) ps
+replacedOf release (short e a) = 0
 
 -- the length of the texts t where a buffer of n bytes is too short for them, else 0
 abbrev pub neededBeyond : ℕ → List ℕ → ℕ

@@ -52,17 +52,17 @@ fn is_plain(conversion: Conversion) -> bool
     }
 }
 
-// The conversion that an encoding asks for. `plain` says that the text is the bytes themselves: then nothing is asked of them.
-fn conversion_of(encoding: Encoding, plain: bool, s: &[u8]) -> Conversion
-    requires { ⌜ (plain ≡ true → decoded encoding (now s) ≡ unreplaced (now s)) ⌝ }
-    ensures { λ r. ⌜ convertedIn r (now (s .entry)) ≡ decoded encoding (now (s .entry)) ⌝ }
+// The conversion that an encoding asks for at a host release. `plain` says that the text is the bytes themselves: then nothing is asked of them.
+fn conversion_of(encoding: Encoding, release: u32, plain: bool, s: &[u8]) -> Conversion
+    requires { ⌜ (plain ≡ true → decoded release encoding (now s) ≡ unreplaced (now s)) ⌝ }
+    ensures { λ r. ⌜ convertedIn r (now (s .entry)) ≡ decoded release encoding (now (s .entry)) ⌝ }
 {
     if plain {
         return Conversion::Plain;
     }
     match encoding {
-        Encoding::Characters(ccsid) => character_conversion(ccsid, s),
-        Encoding::Graphics(ccsid) => graphic_conversion(ccsid, s),
+        Encoding::Characters(ccsid) => character_conversion(ccsid, release, s),
+        Encoding::Graphics(ccsid) => graphic_conversion(ccsid, release, s),
         Encoding::Utf8 => Conversion::Utf8,
         Encoding::Locator => Conversion::Locator,
         Encoding::RowId => Conversion::RowId,
@@ -70,14 +70,14 @@ fn conversion_of(encoding: Encoding, plain: bool, s: &[u8]) -> Conversion
 }
 
 // The length of a text, and its writing into out from its first byte.
-fn reading_len(reading: Reading, s: &[u8]) -> TextLength
+fn reading_len(reading: Reading, release: u32, s: &[u8]) -> TextLength
     requires { ⌜ (length (now s) ≤ inputLimit) × Readable reading (length (now s)) ⌝ }
-    ensures len { λ r. ⌜ r .len ≡ length (readBy reading (now (s .entry)) .textBytes) ⌝ }
-    ensures plain { λ r. ⌜ (r .plain ≡ true → readBy reading (now (s .entry)) ≡ unreplaced (now (s .entry))) ⌝ }
+    ensures len { λ r. ⌜ r .len ≡ length (readBy release reading (now (s .entry)) .textBytes) ⌝ }
+    ensures plain { λ r. ⌜ (r .plain ≡ true → readBy release reading (now (s .entry)) ≡ unreplaced (now (s .entry))) ⌝ }
 {
     match reading {
         Reading::By(encoding) => {
-            let conversion = conversion_of(encoding, false, s);
+            let conversion = conversion_of(encoding, release, false, s);
             let m = text_measure(conversion, s);
             let same = m.conversion;
             let plain = is_plain(same);
@@ -90,15 +90,15 @@ fn reading_len(reading: Reading, s: &[u8]) -> TextLength
     }
 }
 
-fn reading_write(reading: Reading, plain: bool, s: &[u8], out: &mut [u8]) -> Written
-    requires { ⌜ Readable reading (length (now s)) × ((plain ≡ true → readBy reading (now s) ≡ unreplaced (now s)) × (length (readBy reading (now s) .textBytes) ≤ length (now out))) ⌝ }
-    ensures count { λ r. ⌜ r .len ≡ length (readBy reading (now (s .entry)) .textBytes) ⌝ }
-    ensures bytes { λ _. ⌜ now (out .exit) ≡ overwritten (readBy reading (now (s .entry)) .textBytes) (now (out .entry)) ⌝ }
-    ensures replaced { λ r. ⌜ r .replaced ≡ readBy reading (now (s .entry)) .replaced ⌝ }
+fn reading_write(reading: Reading, release: u32, plain: bool, s: &[u8], out: &mut [u8]) -> Written
+    requires { ⌜ Readable reading (length (now s)) × ((plain ≡ true → readBy release reading (now s) ≡ unreplaced (now s)) × (length (readBy release reading (now s) .textBytes) ≤ length (now out))) ⌝ }
+    ensures count { λ r. ⌜ r .len ≡ length (readBy release reading (now (s .entry)) .textBytes) ⌝ }
+    ensures bytes { λ _. ⌜ now (out .exit) ≡ overwritten (readBy release reading (now (s .entry)) .textBytes) (now (out .entry)) ⌝ }
+    ensures replaced { λ r. ⌜ r .replaced ≡ readBy release reading (now (s .entry)) .replaced ⌝ }
 {
     match reading {
         Reading::By(encoding) => {
-            let conversion = conversion_of(encoding, plain, s);
+            let conversion = conversion_of(encoding, release, plain, s);
             text_write(conversion, s, out)
         }
         Reading::Packed(scale) => {
@@ -133,10 +133,10 @@ pub fn text_start(t: Db2Type) -> usize
 }
 
 // The length of an item's text, and whether the text is the bytes themselves, all from byte `from` on.
-pub fn item_len(item: CellItem, bytes: &[u8], from: usize) -> TextLength
+pub fn item_len(item: CellItem, release: u32, bytes: &[u8], from: usize) -> TextLength
     requires { ⌜ (length (now bytes) ≤ inputLimit) × LiesWithin item (now bytes) ⌝ }
-    ensures len { λ r. ⌜ r .len ≡ length (textHeld item (now (bytes .entry))) ⌝ }
-    ensures plain { λ r. ⌜ (r .plain ≡ true → madeOf item (now (bytes .entry)) ≡ unreplaced (drop from (now (bytes .entry)))) ⌝ }
+    ensures len { λ r. ⌜ r .len ≡ length (textHeld release item (now (bytes .entry))) ⌝ }
+    ensures plain { λ r. ⌜ (r .plain ≡ true → madeOf release item (now (bytes .entry)) ≡ unreplaced (drop from (now (bytes .entry)))) ⌝ }
 {
     match item {
         CellItem::Text {
@@ -145,7 +145,7 @@ pub fn item_len(item: CellItem, bytes: &[u8], from: usize) -> TextLength
             from: start,
             len,
         } => {
-            let l = reading_len(reading, &bytes[start..start + len]);
+            let l = reading_len(reading, release, &bytes[start..start + len]);
             if is_all_from(start, len, from, bytes.len()) {
                 return l;
             }
@@ -217,6 +217,7 @@ fn part_value(sort: ByteSort, at: usize, len: usize) -> Db2Value
 // column k is marked: then the text is the bytes themselves, all from byte `from` on.
 pub fn item_write(
     item: CellItem,
+    release: u32,
     from: usize,
     marks: &[u64; WORDS],
     k: usize,
@@ -225,12 +226,12 @@ pub fn item_write(
     next: usize,
     out: &mut [u8],
 ) -> ItemWritten
-    requires { ⌜ (at + length (now bytes) ≤ inputLimit) × (LiesWithin item (now bytes) × (length (textHeld item (now bytes)) ≤ length (now out))) ⌝ }
-    requires plain { ⌜ (k < 768) × (markAt (now marks) k ≡ true → madeOf item (now bytes) ≡ unreplaced (drop from (now bytes))) ⌝ }
-    ensures value { λ r. ⌜ r .value ≡ itemValue item (now (bytes .entry)) at next ⌝ }
-    ensures count { λ r. ⌜ r .written ≡ length (textHeld item (now (bytes .entry))) ⌝ }
-    ensures bytes { λ _. ⌜ now (out .exit) ≡ overwritten (textHeld item (now (bytes .entry))) (now (out .entry)) ⌝ }
-    ensures replaced { λ r. ⌜ r .replaced ≡ replacedHeld item (now (bytes .entry)) ⌝ }
+    requires { ⌜ (at + length (now bytes) ≤ inputLimit) × (LiesWithin item (now bytes) × (length (textHeld release item (now bytes)) ≤ length (now out))) ⌝ }
+    requires plain { ⌜ (k < 768) × (markAt (now marks) k ≡ true → madeOf release item (now bytes) ≡ unreplaced (drop from (now bytes))) ⌝ }
+    ensures value { λ r. ⌜ r .value ≡ itemValue release item (now (bytes .entry)) at next ⌝ }
+    ensures count { λ r. ⌜ r .written ≡ length (textHeld release item (now (bytes .entry))) ⌝ }
+    ensures bytes { λ _. ⌜ now (out .exit) ≡ overwritten (textHeld release item (now (bytes .entry))) (now (out .entry)) ⌝ }
+    ensures replaced { λ r. ⌜ r .replaced ≡ replacedHeld release item (now (bytes .entry)) ⌝ }
 {
     match item {
         CellItem::Nothing => ItemWritten {
@@ -262,7 +263,7 @@ pub fn item_write(
             len,
         } => {
             let plain = is_copied(marks, k, start, len, from, bytes.len());
-            let w = reading_write(reading, plain, &bytes[start..start + len], out);
+            let w = reading_write(reading, release, plain, &bytes[start..start + len], out);
             let v = text_value(
                 sort,
                 Place {

@@ -28,7 +28,7 @@ ghost use Rattle.buffer.specs.Buffer.{unreplaced, overwritten};
 ghost use Rattle.rules.specs.Extent.{need, extentOf};
 ghost use Rattle.rules.specs.Walk.{short, skipOf, columnNeed, cellShort};
 ghost use Rattle.rules.specs.Row.{cellValue};
-ghost use Rattle.rules.specs.Conversions.{ported};
+ghost use Rattle.rules.specs.Conversions.{conversionsOf};
 ghost use Rattle.cell.specs.Cell.{isNumber};
 ghost use Rattle.piece.specs.Piece.{isNull, numberPlace, placeOf, valueIn, valueText, valueReplaced, cellIn, cellText, cellReplaced, textStart, madeOf, textHeld, replacedHeld, LiesWithin, PlainCell};
 ghost use Rattle.piece.specs.Marks.{markAt};
@@ -142,19 +142,19 @@ fn null_piece() -> PieceWritten
 }
 
 // The text of a value that is no number.
-fn other_length(rest: &[u8], column: ColumnDescriptor) -> PieceLength
+fn other_length(rest: &[u8], column: ColumnDescriptor, release: u32) -> PieceLength
     requires there { ⌜ need (extentOf column) (now rest) ≤ length (now rest) ⌝ }
     requires limit { ⌜ length (now rest) ≤ inputLimit ⌝ }
     requires other { ⌜ isNumber (column .«db2_type») ≡ false ⌝ }
     ensures used { λ r. ⌜ r .used ≡ need (extentOf column) (now (rest .entry)) ⌝ }
-    ensures len { λ r. ⌜ r .len ≡ length (valueText column (now (rest .entry))) ⌝ }
-    ensures plain { λ r. ⌜ (r .plain ≡ true → PlainCell (valueIn column 0 (now (rest .entry)))) ⌝ }
+    ensures len { λ r. ⌜ r .len ≡ length (valueText release column (now (rest .entry))) ⌝ }
+    ensures plain { λ r. ⌜ (r .plain ≡ true → PlainCell release (valueIn column 0 (now (rest .entry)))) ⌝ }
 {
     let d = decode_other_value(rest, column);
     let item = d.item;
     let used = d.used;
     let t = column.db2_type;
-    let l = item_len(item, &rest[..used], text_start(t));
+    let l = item_len(item, release, &rest[..used], text_start(t));
     PieceLength {
         used,
         len: l.len,
@@ -163,12 +163,12 @@ fn other_length(rest: &[u8], column: ColumnDescriptor) -> PieceLength
 }
 
 // A column's text where a value is there, which begins with the first byte. A number has none, and is not decoded for that.
-fn value_length(rest: &[u8], column: ColumnDescriptor) -> PieceLength
+fn value_length(rest: &[u8], column: ColumnDescriptor, release: u32) -> PieceLength
     requires there { ⌜ need (extentOf column) (now rest) ≤ length (now rest) ⌝ }
     requires limit { ⌜ length (now rest) ≤ inputLimit ⌝ }
     ensures used { λ r. ⌜ r .used ≡ need (extentOf column) (now (rest .entry)) ⌝ }
-    ensures len { λ r. ⌜ r .len ≡ length (valueText column (now (rest .entry))) ⌝ }
-    ensures plain { λ r. ⌜ (r .plain ≡ true → PlainCell (valueIn column 0 (now (rest .entry)))) ⌝ }
+    ensures len { λ r. ⌜ r .len ≡ length (valueText release column (now (rest .entry))) ⌝ }
+    ensures plain { λ r. ⌜ (r .plain ≡ true → PlainCell release (valueIn column 0 (now (rest .entry)))) ⌝ }
 {
     let t = column.db2_type;
     match number_width(t) {
@@ -177,17 +177,17 @@ fn value_length(rest: &[u8], column: ColumnDescriptor) -> PieceLength
             len: 0,
             plain: false,
         },
-        NumberWidth::NoNumber => other_length(rest, column),
+        NumberWidth::NoNumber => other_length(rest, column, release),
     }
 }
 
-// The length of the column's text.
-pub fn piece_length(rest: &[u8], column: ColumnDescriptor) -> PieceLength
+// The length of the column's text at a host release.
+pub fn piece_length(rest: &[u8], column: ColumnDescriptor, release: u32) -> PieceLength
     requires there { ⌜ columnNeed column (now rest) ≤ length (now rest) ⌝ }
     requires limit { ⌜ length (now rest) ≤ inputLimit ⌝ }
     ensures used { λ r. ⌜ r .used ≡ columnNeed column (now (rest .entry)) ⌝ }
-    ensures len { λ r. ⌜ r .len ≡ length (cellText column (now (rest .entry))) ⌝ }
-    ensures plain { λ r. ⌜ ((at : ℕ) → r .plain ≡ true → PlainCell (cellIn column at (now (rest .entry)))) ⌝ }
+    ensures len { λ r. ⌜ r .len ≡ length (cellText release column (now (rest .entry))) ⌝ }
+    ensures plain { λ r. ⌜ ((at : ℕ) → r .plain ≡ true → PlainCell release (cellIn column at (now (rest .entry)))) ⌝ }
 {
     if is_null(rest, column.nullable) {
         return PieceLength {
@@ -197,7 +197,7 @@ pub fn piece_length(rest: &[u8], column: ColumnDescriptor) -> PieceLength
         };
     }
     let from = lead(column.nullable);
-    let v = value_length(&rest[from..], column);
+    let v = value_length(&rest[from..], column, release);
     let used = from + v.used;
     PieceLength {
         used,
@@ -225,6 +225,7 @@ fn number_piece(value: Db2Value, used: usize) -> PieceWritten
 // bytes, all from byte `from` on, as measuring found.
 pub fn other_write(
     d: OtherValue,
+    release: u32,
     from: usize,
     rest: &[u8],
     at: usize,
@@ -236,17 +237,17 @@ pub fn other_write(
     requires there { ⌜ d .used ≤ length (now rest) ⌝ }
     requires limit { ⌜ at + length (now rest) ≤ inputLimit ⌝ }
     requires within { ⌜ LiesWithin (d .item) (take (d .used) (now rest)) ⌝ }
-    requires room { ⌜ length (textHeld (d .item) (take (d .used) (now rest))) ≤ length (now out) ⌝ }
-    requires plain { ⌜ (k < 768) × (markAt (now marks) k ≡ true → madeOf (d .item) (take (d .used) (now rest)) ≡ unreplaced (drop from (take (d .used) (now rest)))) ⌝ }
-    ensures place { λ r. ⌜ r .place ≡ placeOf d at next (now (rest .entry)) ⌝ }
+    requires room { ⌜ length (textHeld release (d .item) (take (d .used) (now rest))) ≤ length (now out) ⌝ }
+    requires plain { ⌜ (k < 768) × (markAt (now marks) k ≡ true → madeOf release (d .item) (take (d .used) (now rest)) ≡ unreplaced (drop from (take (d .used) (now rest)))) ⌝ }
+    ensures place { λ r. ⌜ r .place ≡ placeOf release d at next (now (rest .entry)) ⌝ }
     ensures used { λ r. ⌜ r .used ≡ d .used ⌝ }
-    ensures count { λ r. ⌜ r .written ≡ length (textHeld (d .item) (take (d .used) (now (rest .entry)))) ⌝ }
-    ensures bytes { λ _. ⌜ now (out .exit) ≡ overwritten (textHeld (d .item) (take (d .used) (now (rest .entry)))) (now (out .entry)) ⌝ }
-    ensures replaced { λ r. ⌜ r .replaced ≡ replacedHeld (d .item) (take (d .used) (now (rest .entry))) ⌝ }
+    ensures count { λ r. ⌜ r .written ≡ length (textHeld release (d .item) (take (d .used) (now (rest .entry)))) ⌝ }
+    ensures bytes { λ _. ⌜ now (out .exit) ≡ overwritten (textHeld release (d .item) (take (d .used) (now (rest .entry)))) (now (out .entry)) ⌝ }
+    ensures replaced { λ r. ⌜ r .replaced ≡ replacedHeld release (d .item) (take (d .used) (now (rest .entry))) ⌝ }
 {
     let item = d.item;
     let used = d.used;
-    let w = item_write(item, from, marks, k, &rest[..used], at, next, out);
+    let w = item_write(item, release, from, marks, k, &rest[..used], at, next, out);
     let found = w.value;
     PieceWritten {
         place: ValuePlace {
@@ -264,6 +265,7 @@ fn value_write(
     rest: &[u8],
     at: usize,
     column: ColumnDescriptor,
+    release: u32,
     marks: &[u64; WORDS],
     k: usize,
     next: usize,
@@ -271,27 +273,30 @@ fn value_write(
 ) -> PieceWritten
     requires there { ⌜ need (extentOf column) (now rest) ≤ length (now rest) ⌝ }
     requires limit { ⌜ at + length (now rest) ≤ inputLimit ⌝ }
-    requires room { ⌜ length (valueText column (now rest)) ≤ length (now out) ⌝ }
-    requires plain { ⌜ (k < 768) × (markAt (now marks) k ≡ true → PlainCell (valueIn column at (now rest))) ⌝ }
-    ensures place { λ r. ⌜ r .place ≡ cellValue ported (valueIn column at (now (rest .entry))) next ⌝ }
+    requires room { ⌜ length (valueText release column (now rest)) ≤ length (now out) ⌝ }
+    requires plain { ⌜ (k < 768) × (markAt (now marks) k ≡ true → PlainCell release (valueIn column at (now rest))) ⌝ }
+    ensures place { λ r. ⌜ r .place ≡ cellValue (conversionsOf release) (valueIn column at (now (rest .entry))) next ⌝ }
     ensures used { λ r. ⌜ r .used ≡ need (extentOf column) (now (rest .entry)) ⌝ }
-    ensures count { λ r. ⌜ r .written ≡ length (valueText column (now (rest .entry))) ⌝ }
-    ensures bytes { λ _. ⌜ now (out .exit) ≡ overwritten (valueText column (now (rest .entry))) (now (out .entry)) ⌝ }
-    ensures replaced { λ r. ⌜ r .replaced ≡ valueReplaced column (now (rest .entry)) ⌝ }
+    ensures count { λ r. ⌜ r .written ≡ length (valueText release column (now (rest .entry))) ⌝ }
+    ensures bytes { λ _. ⌜ now (out .exit) ≡ overwritten (valueText release column (now (rest .entry))) (now (out .entry)) ⌝ }
+    ensures replaced { λ r. ⌜ r .replaced ≡ valueReplaced release column (now (rest .entry)) ⌝ }
 {
     let t = column.db2_type;
     match decode_column_value(rest, column) {
         ColumnValue::Number { value, used } => number_piece(value, used),
-        ColumnValue::Other(d) => { other_write(d, text_start(t), rest, at, marks, k, next, out) }
+        ColumnValue::Other(d) => {
+            other_write(d, release, text_start(t), rest, at, marks, k, next, out)
+        }
     }
 }
 
-// The column's value, where the rest of the row begins at place `at` of the input; its text is written into out, whose first byte is the next unwritten
+// The column's value at a host release, where the rest of the row begins at place `at` of the input; its text is written into out, whose first byte is the next unwritten
 // one of the text buffer, at place `next` of it. The marks are looked at only for a value that is no number.
 pub fn piece_write(
     rest: &[u8],
     at: usize,
     column: ColumnDescriptor,
+    release: u32,
     marks: &[u64; WORDS],
     k: usize,
     next: usize,
@@ -299,19 +304,28 @@ pub fn piece_write(
 ) -> PieceWritten
     requires there { ⌜ columnNeed column (now rest) ≤ length (now rest) ⌝ }
     requires limit { ⌜ at + length (now rest) ≤ inputLimit ⌝ }
-    requires room { ⌜ length (cellText column (now rest)) ≤ length (now out) ⌝ }
-    requires plain { ⌜ (k < 768) × (markAt (now marks) k ≡ true → PlainCell (cellIn column at (now rest))) ⌝ }
-    ensures place { λ r. ⌜ r .place ≡ cellValue ported (cellIn column at (now (rest .entry))) next ⌝ }
+    requires room { ⌜ length (cellText release column (now rest)) ≤ length (now out) ⌝ }
+    requires plain { ⌜ (k < 768) × (markAt (now marks) k ≡ true → PlainCell release (cellIn column at (now rest))) ⌝ }
+    ensures place { λ r. ⌜ r .place ≡ cellValue (conversionsOf release) (cellIn column at (now (rest .entry))) next ⌝ }
     ensures used { λ r. ⌜ r .used ≡ columnNeed column (now (rest .entry)) ⌝ }
-    ensures count { λ r. ⌜ r .written ≡ length (cellText column (now (rest .entry))) ⌝ }
-    ensures bytes { λ _. ⌜ now (out .exit) ≡ overwritten (cellText column (now (rest .entry))) (now (out .entry)) ⌝ }
-    ensures replaced { λ r. ⌜ r .replaced ≡ cellReplaced column (now (rest .entry)) ⌝ }
+    ensures count { λ r. ⌜ r .written ≡ length (cellText release column (now (rest .entry))) ⌝ }
+    ensures bytes { λ _. ⌜ now (out .exit) ≡ overwritten (cellText release column (now (rest .entry))) (now (out .entry)) ⌝ }
+    ensures replaced { λ r. ⌜ r .replaced ≡ cellReplaced release column (now (rest .entry)) ⌝ }
 {
     if is_null(rest, column.nullable) {
         return null_piece();
     }
     let from = lead(column.nullable);
-    let v = value_write(&rest[from..], at + from, column, marks, k, next, out);
+    let v = value_write(
+        &rest[from..],
+        at + from,
+        column,
+        release,
+        marks,
+        k,
+        next,
+        out,
+    );
     let place = v.place;
     let used = from + v.used;
     PieceWritten {

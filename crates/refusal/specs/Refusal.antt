@@ -3,7 +3,7 @@ use Prim.Native.Nat.{ℕ}
 use mathlib.Core.List.{List, [], _∷_}
 use lib.ListN.{getD}
 use Rattle.refusal.specs.declared.Refusal.{Refusal}
-use Rattle.refusal.specs.declared.Refusal.the-variants.{QrydscTooLong, TooManyColumns, CountTooLarge, InputTooLong, DecFloatColumn, DecimalEmpty, DecimalTooLong, BufferTooShort, TextBufferTooShort, DecimalDigit, DecimalSign, DecimalOutOfRange, QrydscBrokenOff}
+use Rattle.refusal.specs.declared.Refusal.the-variants.{QrydscTooLong, TooManyColumns, CountTooLarge, InputTooLong, DecFloatColumn, DecimalEmpty, DecimalTooLong, BufferTooShort, TextBufferTooShort, DecimalDigit, DecimalSign, DecimalOutOfRange, QrydscBrokenOff, UnknownRelease}
 use Rattle.refusal.specs.declared.Outcome.{Outcome}
 use Rattle.refusal.specs.declared.Outcome.the-variants.{Accepted, Refused}
 
@@ -22,6 +22,7 @@ refusalNumber DecimalDigit = 12
 refusalNumber DecimalSign = 13
 refusalNumber DecimalOutOfRange = 14
 refusalNumber QrydscBrokenOff = 15
+refusalNumber UnknownRelease = 22
 
 -- the numbers that come with it: `expected` and `actual` with 8, the length needed with 9
 abbrev pub refusalValues : Refusal → List ℕ
@@ -38,6 +39,7 @@ refusalValues DecimalDigit = []
 refusalValues DecimalSign = []
 refusalValues DecimalOutOfRange = []
 refusalValues QrydscBrokenOff = []
+refusalValues UnknownRelease = []
 
 -- what a call says of its input: that it accepted, or a refusal by number and values
 pub data Told : Type 0 where

@@ -34,7 +34,9 @@ pub const DECIMAL_OUT_OF_RANGE: u32 = 14;
 
 pub const QRYDSC_BROKEN_OFF: u32 = 15;
 
-// The refusals, by their numbers: a call tests them in this order, save that 15 comes behind 1.
+pub const UNKNOWN_RELEASE: u32 = 22;
+
+// The refusals, by their numbers: a call tests them in this order, save that 15 comes behind 1 and 22 comes first.
 pub enum Refusal {
     // 1: a description of more than 65,536 bytes.
     QrydscTooLong,
@@ -62,6 +64,8 @@ pub enum Refusal {
     DecimalOutOfRange,
     // 15: a description that breaks off, where only a whole one is taken.
     QrydscBrokenOff,
+    // 22: a host release that is neither 2 nor 3.
+    UnknownRelease,
 }
 
 impl Refusal {
@@ -85,6 +89,7 @@ impl Refusal {
             Refusal::DecimalSign => DECIMAL_SIGN,
             Refusal::DecimalOutOfRange => DECIMAL_OUT_OF_RANGE,
             Refusal::QrydscBrokenOff => QRYDSC_BROKEN_OFF,
+            Refusal::UnknownRelease => UNKNOWN_RELEASE,
         }
     }
 
@@ -108,6 +113,7 @@ impl Refusal {
             Refusal::DecimalSign => 0,
             Refusal::DecimalOutOfRange => 0,
             Refusal::QrydscBrokenOff => 0,
+            Refusal::UnknownRelease => 0,
         }
     }
 
@@ -131,6 +137,7 @@ impl Refusal {
             Refusal::DecimalSign => 0,
             Refusal::DecimalOutOfRange => 0,
             Refusal::QrydscBrokenOff => 0,
+            Refusal::UnknownRelease => 0,
         }
     }
 }

@@ -1,9 +1,9 @@
 // Program. Replays stored answers of the Rust: for each line of standard input, a request and the Rust's answer behind ` A `, it makes the
 // call and compares. It writes a line for each line that differs or is no request, and at the end how many lines there were and how many were
 // the same. The kinds of line: T decode_character_bytes, G decode_graphic_bytes, L bytes_are_likely_text, P decode_packed_decimal, F fixed_length,
-// Q parse_qrydsc and decode_row with its columns, H decode_row with columns of the line's own. T, G, Q and H also come in lower case, with the host release
-// behind the letter: such a line is full, and has what the Rust lacks too, the characters replaced, the columns' origins, and whether a description breaks
-// off. n is parse_whole_qrydsc and w decode_packed_whole, which the Rust lacks, both without a release.
+// Q parse_qrydsc and decode_row with its columns, H decode_row with columns of the line's own. These ask by host release 2. T, G, Q and H also come in lower
+// case, with a release behind the letter, any number that 32 bits hold: such a line is full, and has what the Rust lacks too, the characters replaced, the
+// columns' origins, and whether a description breaks off. n is parse_whole_qrydsc and w decode_packed_whole, which the Rust lacks, both without a release.
 use answers::columns::columns_at;
 use answers::columns::columns_of;
 use answers::columns::ending_at;
@@ -58,6 +58,23 @@ const FILL: u8 = 0xFF;
 // The precision that a P line passes. It has no part in the text.
 const PRECISION: u8 = 31;
 
+// The largest number that a call takes for a host release, if only to refuse it.
+const MOST_RELEASE: usize = 4294967295;
+
+// How a line asks: by which host release, and whether it is full.
+struct Form {
+    release: u32,
+    full: bool,
+}
+
+// A line in upper case.
+fn plain() -> Form {
+    Form {
+        release: 2,
+        full: false,
+    }
+}
+
 // What is said of a line.
 enum Verdict {
     Same,
@@ -74,9 +91,9 @@ fn judged(is_same: bool) -> Verdict {
 
 // A call that writes one text.
 enum Call {
-    // By CCSID.
-    Character(u16),
-    Graphic(u16),
+    // By CCSID and host release.
+    Character { ccsid: u16, release: u32 },
+    Graphic { ccsid: u16, release: u32 },
     // By scale.
     Decimal(u8),
 }
@@ -87,17 +104,23 @@ enum Asked {
 }
 
 // What a line of kind T, G or else P asks for, by the number in its field 1.
-fn asks_for(kind: u8, request: &[u8]) -> Asked {
+fn asks_for(kind: u8, request: &[u8], release: u32) -> Asked {
     let r = number(field(request, 1), 65535);
     let n = r.value;
     if !r.valid {
         return Asked::Nothing;
     }
     if kind == b'T' {
-        return Asked::For(Call::Character(n as u16));
+        return Asked::For(Call::Character {
+            ccsid: n as u16,
+            release,
+        });
     }
     if kind == b'G' {
-        return Asked::For(Call::Graphic(n as u16));
+        return Asked::For(Call::Graphic {
+            ccsid: n as u16,
+            release,
+        });
     }
     if n > 255 {
         return Asked::Nothing;
@@ -107,8 +130,12 @@ fn asks_for(kind: u8, request: &[u8]) -> Asked {
 
 fn make(call: Call, data: &[u8], text: &mut [u8]) -> TextAnswer {
     match call {
-        Call::Character(ccsid) => text::decode_character_bytes(data, ccsid, text),
-        Call::Graphic(ccsid) => text::decode_graphic_bytes(data, ccsid, text),
+        Call::Character { ccsid, release } => {
+            text::decode_character_bytes(data, ccsid, release, text)
+        }
+        Call::Graphic { ccsid, release } => {
+            text::decode_graphic_bytes(data, ccsid, release, text)
+        }
         Call::Decimal(scale) => decimal::decode_packed_decimal(data, PRECISION, scale, text),
     }
 }
@@ -245,7 +272,7 @@ fn answers(
 fn text_line(
     kind: u8,
     request: &[u8],
-    full: bool,
+    form: Form,
     answer: &[u8],
     data: &mut [u8],
     want: &mut [u8],
@@ -254,7 +281,7 @@ fn text_line(
     if field_count(request) != 3 {
         return Verdict::NoRequest;
     }
-    let Asked::For(call) = asks_for(kind, request) else {
+    let Asked::For(call) = asks_for(kind, request, form.release) else {
         return Verdict::NoRequest;
     };
     let d = bytes_or_repeated(field(request, 2), data);
@@ -262,7 +289,7 @@ fn text_line(
     if !d.valid {
         return Verdict::NoRequest;
     }
-    judged(answers(call, &data[0..n], full, answer, want, text))
+    judged(answers(call, &data[0..n], form.full, answer, want, text))
 }
 
 fn likely_line(request: &[u8], answer: &[u8], data: &mut [u8]) -> Verdict {
@@ -297,16 +324,16 @@ fn length_line(request: &[u8], answer: &[u8]) -> Verdict {
 fn decodes(
     columns: Columns,
     row: &[u8],
-    full: bool,
+    form: Form,
     answer: &[u8],
     want: &mut [u8],
     text: &mut [u8],
 ) -> bool {
     fill(text, FILL);
     let count = columns.count;
-    let a = decode_row(row, columns, text);
+    let a = decode_row(row, columns, form.release, text);
     let outcome = a.outcome;
-    if !is_answer(answer, full, a, count, row, text, want) {
+    if !is_answer(answer, form.full, a, count, row, text, want) {
         return false;
     }
     if outcome.number() == 0 {
@@ -316,9 +343,9 @@ fn decodes(
 }
 
 // Whether the row call refuses for want of text space, with this length, and writes and counts nothing.
-fn lacks_space(columns: Columns, row: &[u8], needed: usize, text: &mut [u8]) -> bool {
+fn lacks_space(columns: Columns, row: &[u8], release: u32, needed: usize, text: &mut [u8]) -> bool {
     fill(text, FILL);
-    let a = decode_row(row, columns, text);
+    let a = decode_row(row, columns, release, text);
     let outcome = a.outcome;
     if outcome.number() != TEXT_BUFFER_TOO_SHORT {
         return false;
@@ -333,12 +360,18 @@ fn lacks_space(columns: Columns, row: &[u8], needed: usize, text: &mut [u8]) -> 
 }
 
 // Whether the row call leaves alone what lies behind the texts in a larger buffer.
-fn leaves_rest(columns: Columns, row: &[u8], written: usize, text: &mut [u8]) -> bool {
+fn leaves_rest(
+    columns: Columns,
+    row: &[u8],
+    release: u32,
+    written: usize,
+    text: &mut [u8],
+) -> bool {
     if text.len() < written {
         return false;
     }
     fill(text, FILL);
-    let a = decode_row(row, columns, text);
+    let a = decode_row(row, columns, release, text);
     let outcome = a.outcome;
     if outcome.number() == 0 {
         return is_filled(&text[written..]);
@@ -351,7 +384,7 @@ fn leaves_rest(columns: Columns, row: &[u8], written: usize, text: &mut [u8]) ->
 fn row_answers(
     columns: Columns,
     row: &[u8],
-    full: bool,
+    form: Form,
     answer: &[u8],
     want: &mut [u8],
     text: &mut [u8],
@@ -361,16 +394,16 @@ fn row_answers(
     if text.len() <= n {
         return false;
     }
-    if !decodes(columns, row, full, answer, want, &mut text[0..n]) {
+    if !decodes(columns, row, form, answer, want, &mut text[0..n]) {
         return false;
     }
-    if !leaves_rest(columns, row, n, text) {
+    if !leaves_rest(columns, row, form.release, n, text) {
         return false;
     }
     if n == 0 {
         return true;
     }
-    lacks_space(columns, row, n, &mut text[0..n - 1])
+    lacks_space(columns, row, form.release, n, &mut text[0..n - 1])
 }
 
 // The row of a Q or H line, whose columns are known, from a place of the request on.
@@ -378,7 +411,7 @@ fn row_line(
     columns: Columns,
     request: &[u8],
     at: usize,
-    full: bool,
+    form: Form,
     answer: &[u8],
     data: &mut [u8],
     want: &mut [u8],
@@ -392,7 +425,7 @@ fn row_line(
     if !d.valid {
         return Verdict::NoRequest;
     }
-    judged(row_answers(columns, &data[0..n], full, answer, want, text))
+    judged(row_answers(columns, &data[0..n], form, answer, want, text))
 }
 
 // Whether an accepted description is told: `C`, the number of columns, and each of them; in a full line with their origins, and with its ending.
@@ -420,7 +453,7 @@ fn is_refused(described: Description, answer: &[u8]) -> bool {
 fn described_line(
     described: Description,
     request: &[u8],
-    full: bool,
+    form: Form,
     answer: &[u8],
     data: &mut [u8],
     want: &mut [u8],
@@ -428,17 +461,17 @@ fn described_line(
 ) -> Verdict {
     let columns = described.columns;
     let told = part_start(request, 4, b' ');
-    if !is_told(described, full, &request[told..]) {
+    if !is_told(described, form.full, &request[told..]) {
         return Verdict::Differs;
     }
     let row = part_start(request, 3, b' ');
-    row_line(columns, request, row, full, answer, data, want, text)
+    row_line(columns, request, row, form, answer, data, want, text)
 }
 
-// A line of kind Q: `Q <description> R <row> C <columns>`, or `C -` where the description is refused.
+// A line of kind Q: `Q <description> R <row> C <columns>`, or `C -` where the description is refused, whatever the release.
 fn description_line(
     request: &[u8],
-    full: bool,
+    form: Form,
     answer: &[u8],
     data: &mut [u8],
     want: &mut [u8],
@@ -455,7 +488,7 @@ fn description_line(
     let described = parse_qrydsc(&data[0..n]);
     let outcome = described.outcome;
     if outcome.number() == 0 {
-        return described_line(described, request, full, answer, data, want, text);
+        return described_line(described, request, form, answer, data, want, text);
     }
     let told = part_start(request, 4, b' ');
     if !same(&request[told..], b"C -") {
@@ -528,20 +561,20 @@ fn whole_number_line(request: &[u8], answer: &[u8], data: &mut [u8]) -> Verdict 
 // A line of kind H: `H <columns> R <row>`.
 fn own_line(
     request: &[u8],
-    full: bool,
+    form: Form,
     answer: &[u8],
     data: &mut [u8],
     want: &mut [u8],
     text: &mut [u8],
 ) -> Verdict {
     let columns = columns_of(request);
-    let told = columns_at(request, 2, full, columns);
+    let count = part_start(request, 1, b' ');
+    let told = columns_at(request, count, form.full, columns);
     let row = text_at(request, told, b" R ");
-    row_line(columns, request, row, full, answer, data, want, text)
+    row_line(columns, request, row, form, answer, data, want, text)
 }
 
-// A line in lower case, which is full: the host release, of which there is only 2, and what the same kind in upper case has. Without its letter it has
-// each field where that has it.
+// A line in lower case, which is full: a host release, and what the same kind in upper case has. Without its letter it has each field where that has it.
 fn full_line(
     kind: u8,
     request: &[u8],
@@ -550,16 +583,22 @@ fn full_line(
     want: &mut [u8],
     text: &mut [u8],
 ) -> Verdict {
-    let release = part_start(request, 1, b' ');
-    let asked = &request[release..];
-    if !same(field(asked, 0), b"2") {
+    let start = part_start(request, 1, b' ');
+    let asked = &request[start..];
+    let r = number(field(asked, 0), MOST_RELEASE);
+    let release = r.value;
+    if !r.valid {
         return Verdict::NoRequest;
     }
+    let form = Form {
+        release: release as u32,
+        full: true,
+    };
     match kind {
-        b'h' => own_line(asked, true, answer, data, want, text),
-        b'q' => description_line(asked, true, answer, data, want, text),
-        b't' => text_line(b'T', asked, true, answer, data, want, text),
-        b'g' => text_line(b'G', asked, true, answer, data, want, text),
+        b'h' => own_line(asked, form, answer, data, want, text),
+        b'q' => description_line(asked, form, answer, data, want, text),
+        b't' => text_line(b'T', asked, form, answer, data, want, text),
+        b'g' => text_line(b'G', asked, form, answer, data, want, text),
         _ => Verdict::NoRequest,
     }
 }
@@ -579,11 +618,11 @@ fn replay_line(line: &[u8], data: &mut [u8], want: &mut [u8], text: &mut [u8]) -
     match kind[0] {
         b'F' => length_line(request, answer),
         b'L' => likely_line(request, answer, data),
-        b'H' => own_line(request, false, answer, data, want, text),
-        b'Q' => description_line(request, false, answer, data, want, text),
+        b'H' => own_line(request, plain(), answer, data, want, text),
+        b'Q' => description_line(request, plain(), answer, data, want, text),
         b'n' => whole_description_line(request, answer, data),
         b'w' => whole_number_line(request, answer, data),
-        b'T' | b'G' | b'P' => text_line(kind[0], request, false, answer, data, want, text),
+        b'T' | b'G' | b'P' => text_line(kind[0], request, plain(), answer, data, want, text),
         _ => full_line(kind[0], request, answer, data, want, text),
     }
 }

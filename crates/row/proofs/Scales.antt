@@ -14,7 +14,7 @@ use Rattle.types.proofs.ColumnDescriptor as column
 use Rattle.types.proofs.Db2Type as db2
 use Rattle.rules.specs.Walk.{walkBody}
 use Rattle.rules.specs.Row.{covered, rowTexts}
-use Rattle.rules.specs.Conversions.{ported}
+use Rattle.rules.specs.Conversions.{conversionsOf}
 use Rattle.rules.proofs.Walks.{piecesOf}
 use Rattle.rules.proofs.Progress.{end-within}
 use Rattle.piece.proofs.Bound.{Scaled, AllScaled, AreBytes, texts-bound}
@@ -38,8 +38,8 @@ covered-scaled (suc n) [] h = tt
 covered-scaled (suc n) (c ∷ cs) h = (h .0, covered-scaled n cs (h .1))
 
 -- the texts of a row of the columns l, all of which have their bytes
-pub covered-bound : (l : Columns) → l .count ≤ length (l .columns) → AllScaled (l .columns) → (start end : ℕ) (s : List ℕ) → AreBytes s → start ≤ length s
-    → Whole (walkBody (covered l) start s) end → length (rowTexts ported (piecesOf (walkBody (covered l) start s))) ≤ 3 * (end - start) + 258 * l .count
-covered-bound l enough scaled start end s bytes h w =
+pub covered-bound : (release : ℕ) (l : Columns) → l .count ≤ length (l .columns) → AllScaled (l .columns) → (start end : ℕ) (s : List ℕ) → AreBytes s → start ≤ length s
+    → Whole (walkBody (covered l) start s) end → length (rowTexts (conversionsOf release) (piecesOf (walkBody (covered l) start s))) ≤ 3 * (end - start) + 258 * l .count
+covered-bound release l enough scaled start end s bytes h w =
     let within = end-within (covered l) start s _ end h (whole-is w) in
-    rw (length-take-le (l .count) (l .columns) enough) at (texts-bound (covered l) start s _ end (covered-scaled (l .count) (l .columns) scaled) bytes (within .0) (whole-is w))
+    rw (length-take-le (l .count) (l .columns) enough) at (texts-bound release (covered l) start s _ end (covered-scaled (l .count) (l .columns) scaled) bytes (within .0) (whole-is w))

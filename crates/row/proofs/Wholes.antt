@@ -7,7 +7,7 @@ use borrow.Author.Tests.{lt-ltb, le-ltb}
 use Rattle.types.specs.declared.ColumnDescriptor.{ColumnDescriptor}
 use Rattle.rules.specs.Walk.{Cell, Walk, done, short, walkBody}
 use Rattle.rules.specs.Row.{rowTexts, refuse, accept, walkDecision, bodyDecision}
-use Rattle.rules.specs.Conversions.{ported}
+use Rattle.rules.specs.Conversions.{conversionsOf}
 use Rattle.rules.proofs.Walks.{piecesOf}
 use Rattle.row.specs.Whole.{Whole}
 
@@ -24,16 +24,16 @@ whole-ends w h = record { cells = piecesOf w; is = whole-is (h .1) ∙ ap (done 
 
 -- ---- what is decided for the text buffer d
 
-module _ (cs : List ColumnDescriptor) (start : ℕ) (s d : List ℕ) where
-  pub decided-short : {x y : ℕ} → walkBody cs start s ≡ short x y → bodyDecision ported cs start s d ≡ refuse 8 (x ∷ y ∷ [])
+module _ (release : ℕ) (cs : List ColumnDescriptor) (start : ℕ) (s d : List ℕ) where
+  pub decided-short : {x y : ℕ} → walkBody cs start s ≡ short x y → bodyDecision (conversionsOf release) cs start s d ≡ refuse 8 (x ∷ y ∷ [])
   unfolding bodyDecision walkDecision
   decided-short e = rw e
 
   module _ {ps : List Cell} {end : ℕ} (e : walkBody cs start s ≡ done ps end) where
-    pub decided-lacking : {n : ℕ} → n ≡ length (rowTexts ported ps) → length d < n → bodyDecision ported cs start s d ≡ refuse 9 (n ∷ [])
+    pub decided-lacking : {n : ℕ} → n ≡ length (rowTexts (conversionsOf release) ps) → length d < n → bodyDecision (conversionsOf release) cs start s d ≡ refuse 9 (n ∷ [])
     unfolding bodyDecision walkDecision
     decided-lacking {n} q h = rw (e, ← q, lt-ltb (length d) n h)
 
-    pub decided-accepted : length (rowTexts ported ps) ≤ length d → bodyDecision ported cs start s d ≡ accept ps end
+    pub decided-accepted : length (rowTexts (conversionsOf release) ps) ≤ length d → bodyDecision (conversionsOf release) cs start s d ≡ accept ps end
     unfolding bodyDecision walkDecision
-    decided-accepted h = rw (e, le-ltb (length d) (length (rowTexts ported ps)) h)
+    decided-accepted h = rw (e, le-ltb (length d) (length (rowTexts (conversionsOf release) ps)) h)

@@ -1,5 +1,6 @@
-// Face. decode_row: the values of a row, by its columns, with their texts in a lent buffer; and value_bytes, which shows a value's bytes. It reads no
+// Face. decode_row: the values of a row, by its columns and the host's release, with their texts in a lent buffer; and value_bytes, which shows a value's bytes. It reads no
 // description.
+use conversion::is_release;
 use piece::marks::NONE;
 use piece::marks::WORDS;
 use piece::marks::mark;
@@ -24,7 +25,7 @@ ghost use Rattle.refusal.specs.Refusal.{inputLimit, refusalNumber, refusalValue
 ghost use Rattle.types.specs.Places.{maxColumns, blankValue};
 ghost use Rattle.rules.specs.Walk.{walkBody};
 ghost use Rattle.rules.specs.Row.{toldRow, covered, bodyDecision, answerOf, textAfter, refusedRow};
-ghost use Rattle.rules.specs.Conversions.{ported, rowAnswer, rowText};
+ghost use Rattle.rules.specs.Conversions.{conversionsOf, rowAnswer, rowText};
 ghost use Rattle.rules.specs.Value.{bytesAt, valueBytes};
 ghost use Rattle.piece.specs.Marks.{PlainMarks};
 ghost use Rattle.piece.specs.Texts.{textsOf, neededBeyond};
@@ -58,6 +59,7 @@ fn text_needed(
     data: &[u8],
     start: usize,
     columns: Columns,
+    release: u32,
     room: usize,
     marks: &mut [u64; WORDS],
 ) -> usize
@@ -65,9 +67,9 @@ fn text_needed(
     requires start { ⌜ start ≤ length (now «data») ⌝ }
     requires limit { ⌜ length (now «data») ≤ inputLimit ⌝ }
     requires whole { ⌜ ((end : ℕ) × Whole (walkBody (covered columns) start (now «data»)) end) ⌝ }
-    requires marks { ⌜ PlainMarks (now marks) (walkBody (covered columns) start (now «data»)) ⌝ }
-    ensures needed { λ r. ⌜ r ≡ neededBeyond room (textsOf (walkBody (covered columns) start (now («data» .entry)))) ⌝ }
-    ensures marks { λ _. ⌜ PlainMarks (now (marks .exit)) (walkBody (covered columns) start (now («data» .entry))) ⌝ }
+    requires marks { ⌜ PlainMarks release (now marks) (walkBody (covered columns) start (now «data»)) ⌝ }
+    ensures needed { λ r. ⌜ r ≡ neededBeyond room (textsOf release (walkBody (covered columns) start (now («data» .entry)))) ⌝ }
+    ensures marks { λ _. ⌜ PlainMarks release (now (marks .exit)) (walkBody (covered columns) start (now («data» .entry))) ⌝ }
 {
     let count = columns.count;
     let mut at = start;
@@ -75,7 +77,7 @@ fn text_needed(
     let mut i: usize = 0;
     while i < count {
         let column = columns.columns[i];
-        let p = piece_length(&data[at..], column);
+        let p = piece_length(&data[at..], column, release);
         mark(marks, i, p.plain);
         at += p.used;
         total += p.len;
@@ -90,12 +92,18 @@ fn text_needed(
 // The body of a row that begins at a place of the input. Nothing is written before it is known that every column has its bytes and that the texts
 // fit. A column list handed on is a list copied: both loops stand here, and only for a text buffer that may be too short is the list handed on, to have
 // the texts measured.
-fn decode_row_body(data: &[u8], start: usize, columns: Columns, text: &mut [u8]) -> RowAnswer
+fn decode_row_body(
+    data: &[u8],
+    start: usize,
+    columns: Columns,
+    release: u32,
+    text: &mut [u8],
+) -> RowAnswer
     requires count { ⌜ columns .count ≤ maxColumns ⌝ }
     requires start { ⌜ start ≤ length (now «data») ⌝ }
     requires limit { ⌜ length (now «data») ≤ inputLimit ⌝ }
-    ensures answer { λ r. ⌜ toldRow r ≡ answerOf ported (bodyDecision ported (covered columns) start (now («data» .entry)) (now (text .entry))) ⌝ }
-    ensures text { λ _. ⌜ now (text .exit) ≡ textAfter ported (bodyDecision ported (covered columns) start (now («data» .entry)) (now (text .entry))) (now (text .entry)) ⌝ }
+    ensures answer { λ r. ⌜ toldRow r ≡ answerOf (conversionsOf release) (bodyDecision (conversionsOf release) (covered columns) start (now («data» .entry)) (now (text .entry))) ⌝ }
+    ensures text { λ _. ⌜ now (text .exit) ≡ textAfter (conversionsOf release) (bodyDecision (conversionsOf release) (covered columns) start (now («data» .entry)) (now (text .entry))) (now (text .entry)) ⌝ }
 {
     let count = columns.count;
     let mut end = start;
@@ -118,7 +126,7 @@ fn decode_row_body(data: &[u8], start: usize, columns: Columns, text: &mut [u8])
     let room = text.len();
     let mut marks: [u64; WORDS] = [NONE; WORDS];
     if room < 3 * (end - start) + 258 * count {
-        let needed = text_needed(data, start, columns, room, &mut marks);
+        let needed = text_needed(data, start, columns, release, room, &mut marks);
         if 0 < needed {
             return refused(Refusal::TextBufferTooShort { needed });
         }
@@ -131,7 +139,16 @@ fn decode_row_body(data: &[u8], start: usize, columns: Columns, text: &mut [u8])
     let mut k: usize = 0;
     while k < count {
         let column = columns.columns[k];
-        let p = piece_write(&data[at..], at, column, &marks, k, next, &mut text[next..]);
+        let p = piece_write(
+            &data[at..],
+            at,
+            column,
+            release,
+            &marks,
+            k,
+            next,
+            &mut text[next..],
+        );
         let place = p.place;
         places[k] = place;
         at += p.used;
@@ -148,10 +165,13 @@ fn decode_row_body(data: &[u8], start: usize, columns: Columns, text: &mut [u8])
 }
 
 // The row's values, its external columns, the bytes used, and how many U+FFFD its texts' conversions put in.
-pub fn decode_row(data: &[u8], columns: Columns, text: &mut [u8]) -> RowAnswer
-    ensures answer { λ r. ⌜ toldRow r ≡ rowAnswer columns (now («data» .entry)) (now (text .entry)) ⌝ }
-    ensures text { λ _. ⌜ now (text .exit) ≡ rowText columns (now («data» .entry)) (now (text .entry)) ⌝ }
+pub fn decode_row(data: &[u8], columns: Columns, release: u32, text: &mut [u8]) -> RowAnswer
+    ensures answer { λ r. ⌜ toldRow r ≡ rowAnswer release columns (now («data» .entry)) (now (text .entry)) ⌝ }
+    ensures text { λ _. ⌜ now (text .exit) ≡ rowText release columns (now («data» .entry)) (now (text .entry)) ⌝ }
 {
+    if !is_release(release) {
+        return refused(Refusal::UnknownRelease);
+    }
     let count = columns.count;
     if MAX_COLUMNS < count {
         return refused(Refusal::CountTooLarge);
@@ -168,7 +188,7 @@ pub fn decode_row(data: &[u8], columns: Columns, text: &mut [u8]) -> RowAnswer
         i += 1;
     }
     let start = skip_of(data);
-    decode_row_body(data, start, columns, text)
+    decode_row_body(data, start, columns, release, text)
 }
 
 // The part of s at a place, and none where the place doesn't fit.

@@ -8,7 +8,7 @@ use Rattle.types.specs.declared.Db2Type.{Db2Type}
 use Rattle.types.specs.declared.Db2Type.the-variants as type
 use Rattle.rules.specs.Walk.{Cell, done, walkBody}
 use Rattle.rules.specs.Row.{rowTexts}
-use Rattle.rules.specs.Conversions.{ported}
+use Rattle.rules.specs.Conversions.{conversionsOf}
 use Rattle.piece.proofs.Bound.{AreBytes, Scaled, AllScaled, texts-bound}
 use Rattle.words.specs.Words.{packType}
 use Rattle.words.specs.Reading.{columnNamed}
@@ -25,6 +25,6 @@ all-scaled [] = tt
 all-scaled (a ∷ []) = tt
 all-scaled (a ∷ (b ∷ ws)) = (scaled (columnNamed a b .«db2_type») (type-fits a b), all-scaled ws)
 
-pub named-bound : (ws : List ℕ) (start : ℕ) (s : List ℕ) (ps : List Cell) (end : ℕ) → AreBytes s → start ≤ end → walkBody (columnsNamed ws) start s ≡ done ps end
-    → length (rowTexts ported ps) ≤ 3 * (end - start) + 258 * length (columnsNamed ws)
-named-bound ws start s ps end h k d = texts-bound (columnsNamed ws) start s ps end (all-scaled ws) h k d
+pub named-bound : (release : ℕ) (ws : List ℕ) (start : ℕ) (s : List ℕ) (ps : List Cell) (end : ℕ) → AreBytes s → start ≤ end → walkBody (columnsNamed ws) start s ≡ done ps end
+    → length (rowTexts (conversionsOf release) ps) ≤ 3 * (end - start) + 258 * length (columnsNamed ws)
+named-bound release ws start s ps end h k d = texts-bound release (columnsNamed ws) start s ps end (all-scaled ws) h k d

@@ -7,7 +7,7 @@ use Rattle.types.specs.Places.{blankValue}
 use Rattle.rules.specs.Extent.{need, extentOf}
 use Rattle.rules.specs.Walk.{Cell, absent, columnNeed, cellOf}
 use Rattle.rules.specs.Row.{itemText, cellItem, cellValue}
-use Rattle.rules.specs.Conversions.{ported}
+use Rattle.rules.specs.Conversions.{conversionsOf}
 use Rattle.piece.specs.Piece.{isNull, cellIn, valueIn, cellText, valueText}
 use Rattle.piece.proofs.PieceLaws.{leadOf}
 use Rattle.words.specs.Reading.{columnNamed}
@@ -17,9 +17,9 @@ pub at-most : {n m k : ℕ} → n ≡ m → m ≤ k → n ≤ k
 at-most e h = rw e h
 
 -- Null is three zeros
-pub absent-words : (v : List ℕ) (q next : ℕ) → wordsSet v q 0 0 0 ≡ threeSet v q (cellValue ported absent next)
+pub absent-words : (release : ℕ) (v : List ℕ) (q next : ℕ) → wordsSet v q 0 0 0 ≡ threeSet v q (cellValue (conversionsOf release) absent next)
 unfolding cellValue blankValue
-absent-words v q next = refl
+absent-words release v q next = refl
 
 module _ (a b : ℕ) where
   named-nullable : columnNamed a b .nullable ≡ isNullable a
@@ -48,5 +48,5 @@ module _ (a b : ℕ) where
     unfolding columnNeed cellOf
     plain-stands at = rw plain
 
-    pub plain-reads : valueText (columnNamed a b) s ≡ cellText (columnNamed a b) s
-    plain-reads = ap (λ (p : Cell). itemText (cellItem ported p)) (plain-stands 0)
+    pub plain-reads : (release : ℕ) → valueText release (columnNamed a b) s ≡ cellText release (columnNamed a b) s
+    plain-reads release = ap (λ (p : Cell). itemText (cellItem (conversionsOf release) p)) (plain-stands 0)

@@ -8,7 +8,7 @@ use lib.ListN.{length}
 use Rattle.types.specs.declared.ColumnDescriptor.{ColumnDescriptor}
 use Rattle.rules.specs.Walk.{Cell, Walk, done, short, walkBody}
 use Rattle.rules.specs.Row.{Decision, refuse, accept, rowTexts, walkDecision, bodyDecision}
-use Rattle.rules.specs.Conversions.{ported}
+use Rattle.rules.specs.Conversions.{conversionsOf}
 use Rattle.rules.proofs.Walks.{piecesOf}
 use Rattle.row_words.specs.declared.Walked.{Walked}
 use Rattle.row_words.specs.declared.Walked.the-variants.{Done, Short}
@@ -34,23 +34,23 @@ is-short x y (done ps m) h = let z : _≡_ {A = ℕ} 0 1 = cc in absurd (omega a
 is-short x y (short p q) h = cc
 
 -- ---- what is decided
-module _ (cs : List ColumnDescriptor) (start : ℕ) (s d : List ℕ) where
-  pub decided-short : (x y : ℕ) → Short x y ≡ outline (walkBody cs start s) → bodyDecision ported cs start s d ≡ refuse 8 (x ∷ y ∷ [])
+module _ (release : ℕ) (cs : List ColumnDescriptor) (start : ℕ) (s d : List ℕ) where
+  pub decided-short : (x y : ℕ) → Short x y ≡ outline (walkBody cs start s) → bodyDecision (conversionsOf release) cs start s d ≡ refuse 8 (x ∷ y ∷ [])
   unfolding bodyDecision walkDecision
   decided-short x y h = rw (is-short x y (walkBody cs start s) h)
 
   module _ (n : ℕ) (h : Done n ≡ outline (walkBody cs start s)) where
-    by-texts : bodyDecision ported cs start s d ≡ walkDecision ported (done (piecesOf (walkBody cs start s)) n) d
+    by-texts : bodyDecision (conversionsOf release) cs start s d ≡ walkDecision (conversionsOf release) (done (piecesOf (walkBody cs start s)) n) d
     unfolding bodyDecision
-    by-texts = ap (λ (w : Walk). walkDecision ported w d) (is-done n (walkBody cs start s) h)
+    by-texts = ap (λ (w : Walk). walkDecision (conversionsOf release) w d) (is-done n (walkBody cs start s) h)
 
-    pub decided-text : (k : ℕ) → length d < k → k ≡ length (textsOf (walkBody cs start s)) → bodyDecision ported cs start s d ≡ refuse 9 (k ∷ [])
+    pub decided-text : (k : ℕ) → length d < k → k ≡ length (textsOf release (walkBody cs start s)) → bodyDecision (conversionsOf release) cs start s d ≡ refuse 9 (k ∷ [])
     unfolding walkDecision
     decided-text k l e =
-        let q : k ≡ length (rowTexts ported (piecesOf (walkBody cs start s))) = e ∙ ap length (texts-are (walkBody cs start s)) in
+        let q : k ≡ length (rowTexts (conversionsOf release) (piecesOf (walkBody cs start s))) = e ∙ ap length (texts-are release (walkBody cs start s)) in
         by-texts ∙ rw (← q, lt-ltb (length d) k l)
 
-    pub decided-accepted : length (textsOf (walkBody cs start s)) ≤ length d → bodyDecision ported cs start s d ≡ accept (piecesOf (walkBody cs start s)) n
+    pub decided-accepted : length (textsOf release (walkBody cs start s)) ≤ length d → bodyDecision (conversionsOf release) cs start s d ≡ accept (piecesOf (walkBody cs start s)) n
     unfolding walkDecision
     decided-accepted l =
-        by-texts ∙ rw (le-ltb (length d) (length (rowTexts ported (piecesOf (walkBody cs start s)))) (rw (texts-are (walkBody cs start s)) at l))
+        by-texts ∙ rw (le-ltb (length d) (length (rowTexts (conversionsOf release) (piecesOf (walkBody cs start s)))) (rw (texts-are release (walkBody cs start s)) at l))

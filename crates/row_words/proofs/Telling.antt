@@ -6,7 +6,7 @@ use lib.ListN.{length}
 use Rattle.types.specs.declared.ColumnDescriptor.{ColumnDescriptor}
 use Rattle.rules.specs.Walk.{Walk, skipOf, walkBody}
 use Rattle.rules.specs.Row.{bodyDecision, textAfter}
-use Rattle.rules.specs.Conversions.{ported}
+use Rattle.rules.specs.Conversions.{conversionsOf}
 use Rattle.rules.proofs.Walks.{piecesOf}
 use Rattle.row_words.specs.declared.Walked.the-variants.{Done, Short}
 use Rattle.row_words.specs.declared.RowOutcome.{RowOutcome}
@@ -17,26 +17,26 @@ use Rattle.piece.specs.Texts.{textsOf, replacedOf, neededBeyond}
 use Rattle.piece.proofs.Texts.{texts-are, replaced-are, needed-more, needed-fits}
 use Rattle.row_words.proofs.Outlines.{decided-short, decided-text, decided-accepted}
 
-module _ (cs : List ColumnDescriptor) (s d v : List ℕ) where
+module _ (release : ℕ) (cs : List ColumnDescriptor) (s d v : List ℕ) where
   abbrev pub Told : RowOutcome → List ℕ → List ℕ → Type 0
   Told o words out =
-      Says o (bodyDecision ported cs (skipOf s) s d)
-      × ((words ≡ valuesAfter (bodyDecision ported cs (skipOf s) s d) v) × (out ≡ textAfter ported (bodyDecision ported cs (skipOf s) s d) d))
+      Says release o (bodyDecision (conversionsOf release) cs (skipOf s) s d)
+      × ((words ≡ valuesAfter release (bodyDecision (conversionsOf release) cs (skipOf s) s d) v) × (out ≡ textAfter (conversionsOf release) (bodyDecision (conversionsOf release) cs (skipOf s) s d) d))
 
   module _ (start : ℕ) (q : start ≡ skipOf s) where
     pub told-short : (x y : ℕ) → Short x y ≡ outline (walkBody cs start s) → Told (TooShort x y) v d
     unfolding textAfter
-    told-short x y h = rw (← q, decided-short cs start s d x y h) (refl, (refl, refl))
+    told-short x y h = rw (← q, decided-short release cs start s d x y h) (refl, (refl, refl))
 
     module _ (n : ℕ) (h : Done n ≡ outline (walkBody cs start s)) where
-      pub told-text : (k : ℕ) → k ≡ neededBeyond (length d) (textsOf (walkBody cs start s)) → 0 < k → Told (TextTooShort k) v d
+      pub told-text : (k : ℕ) → k ≡ neededBeyond (length d) (textsOf release (walkBody cs start s)) → 0 < k → Told (TextTooShort k) v d
       unfolding textAfter
       told-text k e l =
-          let b = needed-more (length d) k (textsOf (walkBody cs start s)) e l in
-          rw (← q, decided-text cs start s d n h k (rw (← (b .1)) at (b .0)) (b .1)) (refl, (refl, refl))
+          let b = needed-more (length d) k (textsOf release (walkBody cs start s)) e l in
+          rw (← q, decided-text release cs start s d n h k (rw (← (b .1)) at (b .0)) (b .1)) (refl, (refl, refl))
 
-      pub told-accepted : (k : ℕ) → k ≡ neededBeyond (length d) (textsOf (walkBody cs start s)) → k ≤ 0 → (m : ℕ) → m ≡ length (textsOf (walkBody cs start s)) → (r : ℕ) → r ≡ replacedOf (walkBody cs start s)
-          → (words out : List ℕ) → words ≡ valuesAfter (bodyDecision ported cs start s d) v → out ≡ textAfter ported (bodyDecision ported cs start s d) d → Told (Accepted n m r) words out
+      pub told-accepted : (k : ℕ) → k ≡ neededBeyond (length d) (textsOf release (walkBody cs start s)) → k ≤ 0 → (m : ℕ) → m ≡ length (textsOf release (walkBody cs start s)) → (r : ℕ) → r ≡ replacedOf release (walkBody cs start s)
+          → (words out : List ℕ) → words ≡ valuesAfter release (bodyDecision (conversionsOf release) cs start s d) v → out ≡ textAfter (conversionsOf release) (bodyDecision (conversionsOf release) cs start s d) d → Told (Accepted n m r) words out
       told-accepted k e l m w r x words out f g =
-          let a = decided-accepted cs start s d n h (needed-fits (length d) k (textsOf (walkBody cs start s)) e l) in
-          rw (← q) ((piecesOf (walkBody cs start s), (a, (w ∙ ap length (texts-are (walkBody cs start s)), x ∙ replaced-are (walkBody cs start s)))), (f, g))
+          let a = decided-accepted release cs start s d n h (needed-fits (length d) k (textsOf release (walkBody cs start s)) e l) in
+          rw (← q) ((piecesOf (walkBody cs start s), (a, (w ∙ ap length (texts-are release (walkBody cs start s)), x ∙ replaced-are release (walkBody cs start s)))), (f, g))

@@ -15,7 +15,7 @@ use Rattle.rules.specs.declared.Extent.{Extent}
 use Rattle.rules.specs.declared.Extent.the-variants.{Fixed, Counted}
 use Rattle.rules.specs.Extent.{need, extentOf, typeExtent}
 use Rattle.rules.specs.Meaning.{typeItem, typeRefers}
-use Rattle.rules.specs.Conversions.{ported}
+use Rattle.rules.specs.Conversions.{conversionsOf}
 use Rattle.cell.specs.declared.CellItem.{CellItem}
 use Rattle.cell.specs.Cell.{isNumber, Holds, taken, OtherIs}
 use Rattle.cell.proofs.ItemLaws.{holds-by}
@@ -154,10 +154,11 @@ module _ (c : ColumnDescriptor) {t : Db2Type} (e : c .«db2_type» ≡ t) (x : E
   pub typed-need : need x s ≡ need (extentOf c) s
   typed-need = ap (λ (y : Extent). need y s) (sym f) ∙ ap (λ (u : Db2Type). need (typeExtent u c) s) (sym e)
 
-  -- a value within the row
-  pub within-row : (n : ℕ) → n ≡ need x s → need (extentOf c) s ≤ length s → (r : CellItem) → ((l : List ℕ) → length l ≡ n → Holds r l (typeItem ported t c l))
-      → ((l : List ℕ) → typeRefers t c l ≡ false) → OtherIs (record { item = r; used = n; external = false }) c s
+-- a value within the row, at a release
+module _ (release : ℕ) (c : ColumnDescriptor) {t : Db2Type} (e : c .«db2_type» ≡ t) (x : Extent) (f : typeExtent t c ≡ x) (s : List ℕ) where
+  pub within-row : (n : ℕ) → n ≡ need x s → need (extentOf c) s ≤ length s → (r : CellItem) → ((l : List ℕ) → length l ≡ n → Holds release r l (typeItem (conversionsOf release) t c l))
+      → ((l : List ℕ) → typeRefers t c l ≡ false) → OtherIs release (record { item = r; used = n; external = false }) c s
   within-row n k h r m z =
-      let q = k ∙ typed-need in
+      let q = k ∙ typed-need c e x f s in
       let l : length (taken c s) ≡ n = length-take-le (need (extentOf c) s) s h ∙ sym q in
-      (holds-by c (taken c s) e r (m (taken c s) l), (q, plain-in c (taken c s) (ap (λ (u : Db2Type). typeRefers u c (taken c s)) e ∙ z (taken c s))))
+      (holds-by release c (taken c s) e r (m (taken c s) l), (q, plain-in release c (taken c s) (ap (λ (u : Db2Type). typeRefers u c (taken c s)) e ∙ z (taken c s))))

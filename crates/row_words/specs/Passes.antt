@@ -12,8 +12,7 @@ use Rattle.types.specs.declared.ValuePlace.{ValuePlace}
 use Rattle.types.specs.Names.{namedIn}
 use Rattle.rules.specs.Walk.{Cell, Walk, done, short}
 use Rattle.rules.specs.Row.{anyDecFloat, Decision, refuse, accept, rowTexts, rowReplaced}
-use Rattle.rules.specs.Conversions.{ported}
-use Rattle.conversion.specs.Conversion.{characterText}
+use Rattle.rules.specs.Conversions.{conversionsOf}
 use Rattle.cell.specs.Cell.{isNumber}
 use Rattle.words.specs.Words.{typeNamed}
 use Rattle.words.specs.Reading.{columnNamed}
@@ -64,9 +63,9 @@ abbrev pub outline : Walk → Walked
 outline (done ps n) = Done n
 outline (short expected actual) = Short expected actual
 
--- what an outcome says of a decision
-abbrev pub Says : RowOutcome → Decision → Type 0
-Says (Accepted used written replaced) d =
-    (ps : List Cell) × ((d ≡ accept ps used) × ((written ≡ length (rowTexts ported ps)) × (replaced ≡ rowReplaced ported ps)))
-Says (TooShort expected actual) d = d ≡ refuse 8 (expected ∷ actual ∷ [])
-Says (TextTooShort needed) d = d ≡ refuse 9 (needed ∷ [])
+-- what an outcome says of a decision, at a release
+abbrev pub Says : ℕ → RowOutcome → Decision → Type 0
+Says release (Accepted used written replaced) d =
+    (ps : List Cell) × ((d ≡ accept ps used) × ((written ≡ length (rowTexts (conversionsOf release) ps)) × (replaced ≡ rowReplaced (conversionsOf release) ps)))
+Says release (TooShort expected actual) d = d ≡ refuse 8 (expected ∷ actual ∷ [])
+Says release (TextTooShort needed) d = d ≡ refuse 9 (needed ∷ [])

@@ -26,7 +26,7 @@ ghost use Rattle.refusal.specs.Refusal.{inputLimit};
 ghost use Rattle.types.specs.Places.{maxColumns};
 ghost use Rattle.rules.specs.Walk.{skipOf, walkBody};
 ghost use Rattle.rules.specs.Row.{bodyDecision, textAfter};
-ghost use Rattle.rules.specs.Conversions.{ported};
+ghost use Rattle.rules.specs.Conversions.{conversionsOf};
 ghost use Rattle.words.specs.Reading.{readColumns};
 ghost use Rattle.row_words.specs.Rows.{valuesAfter};
 ghost use Rattle.row_words.specs.Passes.{checkedOf, columnsNamed, outline, Says};
@@ -139,6 +139,7 @@ fn walk_columns(columns: &[u64], data: &[u8], start: usize) -> Walked
 fn text_needed(
     columns: &[u64],
     data: &[u8],
+    release: u32,
     start: usize,
     end: usize,
     room: usize,
@@ -148,9 +149,9 @@ fn text_needed(
     requires start { ⌜ start ≤ length (now «data») ⌝ }
     requires limit { ⌜ length (now «data») ≤ inputLimit ⌝ }
     requires whole { ⌜ Walked.Done end ≡ outline (walkBody (columnsNamed (now columns)) start (now «data»)) ⌝ }
-    requires marks { ⌜ PlainMarks (now marks) (walkBody (columnsNamed (now columns)) start (now «data»)) ⌝ }
-    ensures needed { λ r. ⌜ r ≡ neededBeyond room (textsOf (walkBody (columnsNamed (now (columns .entry))) start (now («data» .entry)))) ⌝ }
-    ensures marks { λ _. ⌜ PlainMarks (now (marks .exit)) (walkBody (columnsNamed (now (columns .entry))) start (now («data» .entry))) ⌝ }
+    requires marks { ⌜ PlainMarks release (now marks) (walkBody (columnsNamed (now columns)) start (now «data»)) ⌝ }
+    ensures needed { λ r. ⌜ r ≡ neededBeyond room (textsOf release (walkBody (columnsNamed (now (columns .entry))) start (now («data» .entry)))) ⌝ }
+    ensures marks { λ _. ⌜ PlainMarks release (now (marks .exit)) (walkBody (columnsNamed (now (columns .entry))) start (now («data» .entry))) ⌝ }
 {
     let count = columns.len() / 2;
     // no text of n bytes is longer than 3 n + 258
@@ -163,7 +164,7 @@ fn text_needed(
     while i < count {
         let k = 2 * i;
         let column = column_named(columns[k], columns[k + 1]);
-        let p = piece_length(&data[at..], column);
+        let p = piece_length(&data[at..], column, release);
         mark(marks, i, p.plain);
         at += p.used;
         total += p.len;
@@ -179,6 +180,7 @@ fn text_needed(
 fn write_columns(
     columns: &[u64],
     data: &[u8],
+    release: u32,
     start: usize,
     marks: &[u64; WORDS],
     values: &mut [u64],
@@ -188,13 +190,13 @@ fn write_columns(
     requires limit { ⌜ length (now «data») ≤ inputLimit ⌝ }
     requires whole { ⌜ ((end : ℕ) × (Walked.Done end ≡ outline (walkBody (columnsNamed (now columns)) start (now «data»)))) ⌝ }
     requires words { ⌜ 3 * (length (now columns) / 2) ≤ length (now values) ⌝ }
-    requires room { ⌜ length (textsOf (walkBody (columnsNamed (now columns)) start (now «data»))) ≤ length (now text) ⌝ }
+    requires room { ⌜ length (textsOf release (walkBody (columnsNamed (now columns)) start (now «data»))) ≤ length (now text) ⌝ }
     requires count { ⌜ length (now columns) / 2 ≤ maxColumns ⌝ }
-    requires marks { ⌜ PlainMarks (now marks) (walkBody (columnsNamed (now columns)) start (now «data»)) ⌝ }
-    ensures count { λ r. ⌜ r .len ≡ length (textsOf (walkBody (columnsNamed (now (columns .entry))) start (now («data» .entry)))) ⌝ }
-    ensures values { λ _. ⌜ now (values .exit) ≡ valuesAfter (bodyDecision ported (columnsNamed (now (columns .entry))) start (now («data» .entry)) (now (text .entry))) (now (values .entry)) ⌝ }
-    ensures text { λ _. ⌜ now (text .exit) ≡ textAfter ported (bodyDecision ported (columnsNamed (now (columns .entry))) start (now («data» .entry)) (now (text .entry))) (now (text .entry)) ⌝ }
-    ensures replaced { λ r. ⌜ r .replaced ≡ replacedOf (walkBody (columnsNamed (now (columns .entry))) start (now («data» .entry))) ⌝ }
+    requires marks { ⌜ PlainMarks release (now marks) (walkBody (columnsNamed (now columns)) start (now «data»)) ⌝ }
+    ensures count { λ r. ⌜ r .len ≡ length (textsOf release (walkBody (columnsNamed (now (columns .entry))) start (now («data» .entry)))) ⌝ }
+    ensures values { λ _. ⌜ now (values .exit) ≡ valuesAfter release (bodyDecision (conversionsOf release) (columnsNamed (now (columns .entry))) start (now («data» .entry)) (now (text .entry))) (now (values .entry)) ⌝ }
+    ensures text { λ _. ⌜ now (text .exit) ≡ textAfter (conversionsOf release) (bodyDecision (conversionsOf release) (columnsNamed (now (columns .entry))) start (now («data» .entry)) (now (text .entry))) (now (text .entry)) ⌝ }
+    ensures replaced { λ r. ⌜ r .replaced ≡ replacedOf release (walkBody (columnsNamed (now (columns .entry))) start (now («data» .entry))) ⌝ }
 {
     let count = columns.len() / 2;
     let mut at = start;
@@ -208,6 +210,7 @@ fn write_columns(
             at,
             columns[k],
             columns[k + 1],
+            release,
             marks,
             i,
             next,
@@ -227,24 +230,30 @@ fn write_columns(
 }
 
 // The row after the tests of its columns and its length: an FF is skipped, and the body decoded.
-pub fn decode_row(columns: &[u64], data: &[u8], values: &mut [u64], text: &mut [u8]) -> RowOutcome
+pub fn decode_row(
+    columns: &[u64],
+    data: &[u8],
+    release: u32,
+    values: &mut [u64],
+    text: &mut [u8],
+) -> RowOutcome
     requires count { ⌜ length (now columns) / 2 ≤ maxColumns ⌝ }
     requires limit { ⌜ length (now «data») ≤ inputLimit ⌝ }
     requires words { ⌜ 3 * (length (now columns) / 2) ≤ length (now values) ⌝ }
-    ensures outcome { λ r. ⌜ Says r (bodyDecision ported (columnsNamed (now (columns .entry))) (skipOf (now («data» .entry))) (now («data» .entry)) (now (text .entry))) ⌝ }
-    ensures values { λ _. ⌜ now (values .exit) ≡ valuesAfter (bodyDecision ported (columnsNamed (now (columns .entry))) (skipOf (now («data» .entry))) (now («data» .entry)) (now (text .entry))) (now (values .entry)) ⌝ }
-    ensures text { λ _. ⌜ now (text .exit) ≡ textAfter ported (bodyDecision ported (columnsNamed (now (columns .entry))) (skipOf (now («data» .entry))) (now («data» .entry)) (now (text .entry))) (now (text .entry)) ⌝ }
+    ensures outcome { λ r. ⌜ Says release r (bodyDecision (conversionsOf release) (columnsNamed (now (columns .entry))) (skipOf (now («data» .entry))) (now («data» .entry)) (now (text .entry))) ⌝ }
+    ensures values { λ _. ⌜ now (values .exit) ≡ valuesAfter release (bodyDecision (conversionsOf release) (columnsNamed (now (columns .entry))) (skipOf (now («data» .entry))) (now («data» .entry)) (now (text .entry))) (now (values .entry)) ⌝ }
+    ensures text { λ _. ⌜ now (text .exit) ≡ textAfter (conversionsOf release) (bodyDecision (conversionsOf release) (columnsNamed (now (columns .entry))) (skipOf (now («data» .entry))) (now («data» .entry)) (now (text .entry))) (now (text .entry)) ⌝ }
 {
     let start = skip_of(data);
     match walk_columns(columns, data, start) {
         Walked::Short { expected, actual } => RowOutcome::TooShort { expected, actual },
         Walked::Done { end } => {
             let mut marks: [u64; WORDS] = [NONE; WORDS];
-            let needed = text_needed(columns, data, start, end, text.len(), &mut marks);
+            let needed = text_needed(columns, data, release, start, end, text.len(), &mut marks);
             if 0 < needed {
                 return RowOutcome::TextTooShort { needed };
             }
-            let w = write_columns(columns, data, start, &marks, values, text);
+            let w = write_columns(columns, data, release, start, &marks, values, text);
             RowOutcome::Accepted {
                 used: end,
                 written: w.len,

@@ -20,7 +20,7 @@ ghost use Rattle.buffer.specs.Buffer.{overwritten};
 ghost use Rattle.rules.specs.Extent.{need, extentOf};
 ghost use Rattle.rules.specs.Walk.{columnNeed};
 ghost use Rattle.rules.specs.Row.{cellValue};
-ghost use Rattle.rules.specs.Conversions.{ported};
+ghost use Rattle.rules.specs.Conversions.{conversionsOf};
 ghost use Rattle.piece.specs.Marks.{markAt};
 ghost use Rattle.piece.specs.Piece.{valueIn, valueText, valueReplaced, cellIn, cellText, cellReplaced, PlainCell};
 ghost use Rattle.words.specs.Reading.{columnNamed};
@@ -50,6 +50,7 @@ fn put_there(
     at: usize,
     first: u64,
     second: u64,
+    release: u32,
     marks: &[u64; WORDS],
     k: usize,
     next: usize,
@@ -59,14 +60,14 @@ fn put_there(
 ) -> Taken
     requires there { ⌜ need (extentOf (columnNamed first second)) (now rest) ≤ length (now rest) ⌝ }
     requires limit { ⌜ at + length (now rest) ≤ inputLimit ⌝ }
-    requires room { ⌜ length (valueText (columnNamed first second) (now rest)) ≤ length (now out) ⌝ }
+    requires room { ⌜ length (valueText release (columnNamed first second) (now rest)) ≤ length (now out) ⌝ }
     requires words { ⌜ place + 2 < length (now values) ⌝ }
-    requires plain { ⌜ (k < 768) × (markAt (now marks) k ≡ true → PlainCell (valueIn (columnNamed first second) at (now rest))) ⌝ }
+    requires plain { ⌜ (k < 768) × (markAt (now marks) k ≡ true → PlainCell release (valueIn (columnNamed first second) at (now rest))) ⌝ }
     ensures used { λ r. ⌜ r .used ≡ need (extentOf (columnNamed first second)) (now (rest .entry)) ⌝ }
-    ensures count { λ r. ⌜ r .written ≡ length (valueText (columnNamed first second) (now (rest .entry))) ⌝ }
-    ensures bytes { λ _. ⌜ now (out .exit) ≡ overwritten (valueText (columnNamed first second) (now (rest .entry))) (now (out .entry)) ⌝ }
-    ensures values { λ _. ⌜ now (values .exit) ≡ threeSet (now (values .entry)) place (cellValue ported (valueIn (columnNamed first second) at (now (rest .entry))) next) ⌝ }
-    ensures replaced { λ r. ⌜ r .replaced ≡ valueReplaced (columnNamed first second) (now (rest .entry)) ⌝ }
+    ensures count { λ r. ⌜ r .written ≡ length (valueText release (columnNamed first second) (now (rest .entry))) ⌝ }
+    ensures bytes { λ _. ⌜ now (out .exit) ≡ overwritten (valueText release (columnNamed first second) (now (rest .entry))) (now (out .entry)) ⌝ }
+    ensures values { λ _. ⌜ now (values .exit) ≡ threeSet (now (values .entry)) place (cellValue (conversionsOf release) (valueIn (columnNamed first second) at (now (rest .entry))) next) ⌝ }
+    ensures replaced { λ r. ⌜ r .replaced ≡ valueReplaced release (columnNamed first second) (now (rest .entry)) ⌝ }
 {
     if first % 0x100 < 5 {
         let v = decode_number(rest, first);
@@ -87,7 +88,7 @@ fn put_there(
     }
     let from = text_start(type_of(first));
     let d = decode_other(rest, first, second);
-    let p = other_write(d, from, rest, at, marks, k, next, out);
+    let p = other_write(d, release, from, rest, at, marks, k, next, out);
     let found = p.place;
     put_value(values, place, found);
     Taken {
@@ -105,6 +106,7 @@ pub fn put_column(
     at: usize,
     first: u64,
     second: u64,
+    release: u32,
     marks: &[u64; WORDS],
     k: usize,
     next: usize,
@@ -114,14 +116,14 @@ pub fn put_column(
 ) -> Taken
     requires there { ⌜ columnNeed (columnNamed first second) (now rest) ≤ length (now rest) ⌝ }
     requires limit { ⌜ at + length (now rest) ≤ inputLimit ⌝ }
-    requires room { ⌜ length (cellText (columnNamed first second) (now rest)) ≤ length (now out) ⌝ }
+    requires room { ⌜ length (cellText release (columnNamed first second) (now rest)) ≤ length (now out) ⌝ }
     requires words { ⌜ place + 2 < length (now values) ⌝ }
-    requires plain { ⌜ (k < 768) × (markAt (now marks) k ≡ true → PlainCell (cellIn (columnNamed first second) at (now rest))) ⌝ }
+    requires plain { ⌜ (k < 768) × (markAt (now marks) k ≡ true → PlainCell release (cellIn (columnNamed first second) at (now rest))) ⌝ }
     ensures used { λ r. ⌜ r .used ≡ columnNeed (columnNamed first second) (now (rest .entry)) ⌝ }
-    ensures count { λ r. ⌜ r .written ≡ length (cellText (columnNamed first second) (now (rest .entry))) ⌝ }
-    ensures bytes { λ _. ⌜ now (out .exit) ≡ overwritten (cellText (columnNamed first second) (now (rest .entry))) (now (out .entry)) ⌝ }
-    ensures values { λ _. ⌜ now (values .exit) ≡ threeSet (now (values .entry)) place (cellValue ported (cellIn (columnNamed first second) at (now (rest .entry))) next) ⌝ }
-    ensures replaced { λ r. ⌜ r .replaced ≡ cellReplaced (columnNamed first second) (now (rest .entry)) ⌝ }
+    ensures count { λ r. ⌜ r .written ≡ length (cellText release (columnNamed first second) (now (rest .entry))) ⌝ }
+    ensures bytes { λ _. ⌜ now (out .exit) ≡ overwritten (cellText release (columnNamed first second) (now (rest .entry))) (now (out .entry)) ⌝ }
+    ensures values { λ _. ⌜ now (values .exit) ≡ threeSet (now (values .entry)) place (cellValue (conversionsOf release) (cellIn (columnNamed first second) at (now (rest .entry))) next) ⌝ }
+    ensures replaced { λ r. ⌜ r .replaced ≡ cellReplaced release (columnNamed first second) (now (rest .entry)) ⌝ }
 {
     let nullable = is_nullable(first);
     if is_null(rest, nullable) {
@@ -138,6 +140,7 @@ pub fn put_column(
         at + from,
         first,
         second,
+        release,
         marks,
         k,
         next,

@@ -61,7 +61,7 @@ fn within_row(item: CellItem, used: usize) -> OtherValue
 fn decode_made(rest: &[u8], first: u64, second: u64) -> OtherValue
     requires there { ⌜ need (extentOf (columnNamed first second)) (now rest) ≤ length (now rest) ⌝ }
     requires other { ⌜ NoNumber first ⌝ }
-    ensures { λ r. ⌜ OtherIs r (columnNamed first second) (now (rest .entry)) ⌝ }
+    ensures { λ r. ⌜ ((release : ℕ) → OtherIs release r (columnNamed first second) (now (rest .entry))) ⌝ }
 {
     let column = column_named(first, second);
     decode_other_value(rest, column)
@@ -82,7 +82,7 @@ fn same_value(d: OtherValue) -> OtherValue
 fn decode_var_char(rest: &[u8], first: u64, second: u64) -> OtherValue
     requires tag { ⌜ first % 2 ^ 8 ≡ 8 ⌝ }
     requires there { ⌜ need (extentOf (columnNamed first second)) (now rest) ≤ length (now rest) ⌝ }
-    ensures { λ r. ⌜ OtherIs r (columnNamed first second) (now (rest .entry)) ⌝ }
+    ensures { λ r. ⌜ ((release : ℕ) → OtherIs release r (columnNamed first second) (now (rest .entry))) ⌝ }
 {
     if is_header(first) {
         return same_value(decode_made(rest, first, second));
@@ -95,7 +95,7 @@ fn decode_var_char(rest: &[u8], first: u64, second: u64) -> OtherValue
 pub fn decode_number(rest: &[u8], first: u64) -> NumberValue
     requires tag { ⌜ first % 2 ^ 8 < 5 ⌝ }
     requires there { ⌜ ((second : ℕ) → need (extentOf (columnNamed first second)) (now rest) ≤ length (now rest)) ⌝ }
-    ensures { λ r. ⌜ ((second : ℕ) → NumberIs (r .value) (columnNamed first second) (now (rest .entry)) × (r .used ≡ need (extentOf (columnNamed first second)) (now (rest .entry)))) ⌝ }
+    ensures { λ r. ⌜ ((release second : ℕ) → NumberIs release (r .value) (columnNamed first second) (now (rest .entry)) × (r .used ≡ need (extentOf (columnNamed first second)) (now (rest .entry)))) ⌝ }
 {
     let order = order_of(first);
     match first % 0x100 {
@@ -125,7 +125,7 @@ pub fn decode_number(rest: &[u8], first: u64) -> NumberValue
 pub fn decode_other(rest: &[u8], first: u64, second: u64) -> OtherValue
     requires there { ⌜ need (extentOf (columnNamed first second)) (now rest) ≤ length (now rest) ⌝ }
     requires other { ⌜ NoNumber first ⌝ }
-    ensures { λ r. ⌜ OtherIs r (columnNamed first second) (now (rest .entry)) ⌝ }
+    ensures { λ r. ⌜ ((release : ℕ) → OtherIs release r (columnNamed first second) (now (rest .entry))) ⌝ }
 {
     match first % 0x100 {
         tags::DECIMAL => {

@@ -27,8 +27,10 @@ use Rattle.rules.specs.declared.Extent.{Extent}
 use Rattle.rules.specs.Extent.{extentOf}
 use Rattle.rules.specs.Meaning.{ByteSort, TextSort, Item, nothing, numeric, boolean, part, text, Conversions, itemIn}
 use Rattle.rules.specs.Walk.{columnNeed, Cell, absent, present, cellOf, Walk, done, short, consCell, cellShort, walk, walkBody, walkRow, skipOf}
-use Rattle.rules.specs.Row.{Decision, refuse, accept, covered, partValue, textValue, valueOf, itemText, cellItem, cellValue, rowValues, rowTexts, anyDecFloat, rowDecision, answerOf, textAfter, answerWith, textWith}
-use Rattle.rules.specs.Conversions.{ported, rowAnswer, rowText}
+use Rattle.rules.specs.Row.{Decision, refuse, accept, covered, partValue, textValue, valueOf, itemText, cellItem, cellValue, rowValues, rowTexts, anyDecFloat, rowDecision, answerOf, textAfter, answerWith, textWith, refusedRow}
+use Rattle.refusal.specs.Refusal.{accepted}
+use Rattle.conversion.specs.Conversion.{isRelease}
+use Rattle.rules.specs.Conversions.{conversionsOf, rowAnswer, rowText}
 use Rattle.rules.specs.Sorts.{Sort, sortOf, sortsOf, Among, AllowsSort, Allows}
 use Rattle.rules.specs.Accepted.{Fits, AllPlaces, SameLength, UsedFits, PlacesFit, SortsAllowed}
 use Rattle.rules.proofs.Tests.{or-left, or-right}
@@ -36,7 +38,8 @@ use Rattle.rules.proofs.Walks.{isDone, usedOf, piecesOf, walk-step, wal
 use Rattle.rules.proofs.Rows.{row-used}
 use Rattle.rules.proofs.Items.{partSort, textSort, Item-of, Nothing, Numbers, item-of}
 use Rattle.rules.proofs.Answers.{Within, row-placed, places-within}
-use Rattle.rules.proofs.Demand3.{facts}
+use Rattle.rules.proofs.Releases.{at-release}
+use Rattle.rules.proofs.Demand3.{refused-not, facts}
 
 -- ---- all places, and the buffer's length
 
@@ -164,8 +167,8 @@ double-sort n = go (nanBits binary64 n)
     go true = inl refl
     go false = inl refl
 
-number-sorts : Numbers ported NumberSort
-number-sorts =
+number-sorts : (release : ℕ) → Numbers (conversionsOf release) NumberSort
+number-sorts release =
     record { ofSmallInt = λ c s. inl refl; ofInteger = λ c s. inl refl; ofBigInt = λ c s. inl refl; ofReal = λ c s. real-sort _; ofDouble = λ c s. double-sort _ }
 
 -- for every choice of conversions whose numbers are of their type's sort
@@ -255,22 +258,30 @@ used-fit L columns s d (accept ps n) e =
     omega (arith, same, b .1)
 
 -- of the row call
-pub used-fits : UsedFits rowAnswer rowText
-unfolding rowAnswer
-used-fits columns s d = used-fit ported columns s d (rowDecision ported columns s d) refl
+module _ (release : ℕ) where
+  abbrev L : Conversions
+  L = conversionsOf release
 
-pub all-places : AllPlaces rowAnswer rowText
-unfolding rowAnswer
-all-places columns s d = places-count ported columns s d (rowDecision ported columns s d) refl
+  pub used-fits : UsedFits (rowAnswer release) (rowText release)
+  used-fits = at-release release UsedFits (λ columns s d. used-fit L columns s d (rowDecision L columns s d) refl) (λ columns s d. omega arith)
 
-pub same-length : SameLength rowAnswer rowText
-unfolding rowText
-same-length columns s d = text-length ported columns s d (rowDecision ported columns s d) refl
+  pub all-places : AllPlaces (rowAnswer release) (rowText release)
+  all-places = at-release release AllPlaces (λ columns s d. places-count L columns s d (rowDecision L columns s d) refl) (λ columns s d. filled-count [] (omega arith))
 
-pub places-fit : PlacesFit rowAnswer rowText
-unfolding rowAnswer rowText
-places-fit = places-fit-with ported
+  pub same-length : SameLength (rowAnswer release) (rowText release)
+  same-length = at-release release SameLength (λ columns s d. text-length L columns s d (rowDecision L columns s d) refl) (λ columns s d. refl)
 
-pub sorts-allowed : SortsAllowed rowAnswer rowText
-unfolding rowAnswer rowText
-sorts-allowed = sorts-allowed-with ported number-sorts
+  pub places-fit : PlacesFit (rowAnswer release) (rowText release)
+  places-fit = at-release release PlacesFit (places-fit-with L) (λ columns s d e. absurd (refused-not 22 [] e))
+
+  pub sorts-allowed : SortsAllowed (rowAnswer release) (rowText release)
+  sorts-allowed = at-release release SortsAllowed (sorts-allowed-with L (number-sorts release)) (λ columns s d e. absurd (refused-not 22 [] e))
+
+  -- an accepted answer is that at the release's conversions
+  pub at-accepted : (columns : Columns) (s d : List ℕ) → rowAnswer release columns s d .outcome ≡ accepted → answerWith L columns s d ≡ rowAnswer release columns s d
+  unfolding rowAnswer
+  at-accepted columns s d = go (isRelease release)
+    where
+      go : (x : Bool) → cond x (answerWith L columns s d) (refusedRow 22 []) .outcome ≡ accepted → answerWith L columns s d ≡ cond x (answerWith L columns s d) (refusedRow 22 [])
+      go true e = refl
+      go false e = absurd (refused-not 22 [] e)

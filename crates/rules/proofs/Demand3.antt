@@ -18,15 +18,16 @@ use Rattle.rules.specs.Meaning.{Conversions}
 use Rattle.rules.specs.Walk.{Cell, Walk, done, short, walkRow}
 use Rattle.rules.specs.Value.{textsTogether}
 use Rattle.rules.specs.Row.{Decision, refuse, accept, covered, anyDecFloat, rowValues, rowTexts, walkDecision, bodyDecision, rowDecision, answerOf, textAfter, answerWith, textWith}
-use Rattle.rules.specs.Conversions.{ported, rowAnswer, rowText}
+use Rattle.rules.specs.Conversions.{conversionsOf, rowAnswer, rowText}
 use Rattle.rules.specs.Demand3.{SameAnswer, AcceptedRow, Longer, Shorter, Alone, Demand3}
 use Rattle.rules.proofs.Walks.{isDone, usedOf, piecesOf}
 use Rattle.rules.proofs.Rows.{row-used, row-cuts, row-begins, row-shorter}
 use Rattle.rules.proofs.Answers.{AllPlaced, row-placed, places-within, filled-together, value-same}
+use Rattle.rules.proofs.Releases.{at-release}
 
 -- ---- what an outcome shows
 
-refused-not : (n : ℕ) (vs : List ℕ) → refused n vs ≡ accepted → ⊥
+pub refused-not : (n : ℕ) (vs : List ℕ) → refused n vs ≡ accepted → ⊥
 refused-not n vs e = let o : _≡_ {A = ℕ} 0 1 = cc in omega arith
 
 module _ (L : Conversions) where
@@ -176,7 +177,12 @@ module _ (L : Conversions) (columns : Columns) where
 pub demand3-with : (L : Conversions) → Demand3 (answerWith L) (textWith L)
 demand3-with L = record { longer = longer L; shorter = shorter L; alone = alone L }
 
--- Demand 3 of the row call
-pub demand3 : Demand3 rowAnswer rowText
-unfolding rowAnswer rowText
-demand3 = demand3-with ported
+-- Demand 3 of the row call, at every release
+pub demand3 : (release : ℕ) → Demand3 (rowAnswer release) (rowText release)
+demand3 release =
+    at-release release Demand3 (demand3-with (conversionsOf release))
+    (record {
+      longer = λ columns own s d a. absurd (refused-not 22 [] (a .accepts));
+      shorter = λ columns own s d a. absurd (refused-not 22 [] (a .accepts));
+      alone = λ columns s d e. absurd (refused-not 22 [] e);
+    })

@@ -44,22 +44,22 @@ unfolding columnsB columnList filled allCarryOwnEnd carriesOwnEnd
 own = refl
 
 -- what case B answers, as far as the hypotheses ask: accepted, seven bytes used, six bytes of text
-answers : (rowAnswer columnsB rowB bufferB .outcome ≡ accepted) × (rowAnswer columnsB rowB bufferB .used ≡ 7) × (textsTogether (rowAnswer columnsB rowB bufferB .places) ≡ 6)
+answers : (rowAnswer 2 columnsB rowB bufferB .outcome ≡ accepted) × (rowAnswer 2 columnsB rowB bufferB .used ≡ 7) × (textsTogether (rowAnswer 2 columnsB rowB bufferB .places) ≡ 6)
 unfolding columnsB columnList filled blankValue rowAnswer answerOf rowDecision bodyDecision walkDecision walkBody walk skipOf columnNeed nullableNeed need cellOf consCell anyDecFloat rowValues rowTexts cellValue cellItem itemIn valueOf itemText textsTogether decimalText signText digitText nibbles trimmed fraction
 answers = (refl, refl, refl)
 
-accepted-row : AcceptedRow rowAnswer rowText columnsB rowB bufferB
+accepted-row : AcceptedRow (rowAnswer 2) (rowText 2) columnsB rowB bufferB
 accepted-row = record { two = omega arith; accepts = answers .0; one = omega (arith, answers .1) }
 
-large : LargeEnough (rowAnswer columnsB rowB bufferB) otherB
+large : LargeEnough (rowAnswer 2 columnsB rowB bufferB) otherB
 large = omega (arith, answers .2)
 
 -- the longer input, the first six bytes, and the seven bytes alone, each with the other buffer
-pub longer : Same rowAnswer rowText columnsB longB otherB rowB bufferB
-longer = demand3 .longer columnsB own rowB bufferB accepted-row longB otherB (omega arith) (rw (answers .1)) large
+pub longer : Same (rowAnswer 2) (rowText 2) columnsB longB otherB rowB bufferB
+longer = demand3 2 .longer columnsB own rowB bufferB accepted-row longB otherB (omega arith) (rw (answers .1)) large
 
-pub shorter : (expected : ℕ) × (actual : ℕ) × (rowAnswer columnsB (take 6 rowB) otherB ≡ refusedRow 8 (expected ∷ actual ∷ [])) × (rowText columnsB (take 6 rowB) otherB ≡ otherB)
-shorter = demand3 .shorter columnsB own rowB bufferB accepted-row 6 otherB (omega arith) (omega (arith, answers .1))
+pub shorter : (expected : ℕ) × (actual : ℕ) × (rowAnswer 2 columnsB (take 6 rowB) otherB ≡ refusedRow 8 (expected ∷ actual ∷ [])) × (rowText 2 columnsB (take 6 rowB) otherB ≡ otherB)
+shorter = demand3 2 .shorter columnsB own rowB bufferB accepted-row 6 otherB (omega arith) (omega (arith, answers .1))
 
-pub alone : Same rowAnswer rowText columnsB (take (rowAnswer columnsB rowB bufferB .used) rowB) otherB rowB bufferB
-alone = demand3 .alone columnsB rowB bufferB (answers .0) otherB large
+pub alone : Same (rowAnswer 2) (rowText 2) columnsB (take (rowAnswer 2 columnsB rowB bufferB .used) rowB) otherB rowB bufferB
+alone = demand3 2 .alone columnsB rowB bufferB (answers .0) otherB large

@@ -52,12 +52,12 @@ record Both (a b : Bool) : Type 0 where
 split : (a b : Bool) → (a && b) ≡ true → Both a b
 split a b e = record { first = and-left a b e; rest = and-right a b e }
 
-module _ (x : Exception) where
+module _ (release : ℕ) (x : Exception) where
   abbrev one : RowTold
-  one = rowAnswer (columnsIn x) (x .input) room
+  one = rowAnswer release (columnsIn x) (x .input) room
 
   abbrev other : RowTold
-  other = rowAnswer (columnsIn x) (x .longerInput) room
+  other = rowAnswer release (columnsIn x) (x .longerInput) room
 
   -- the test's parts, from the last
   abbrev part₇ : Bool
@@ -87,7 +87,7 @@ module _ (x : Exception) where
   abbrev breaks : Bool
   breaks = not (carriesOwnEnd (x .last)) && part₀
 
-  all-parts : breaks ≡ true → Breaks x
+  all-parts : breaks ≡ true → Breaks release x
   all-parts e =
       let p = split (not (carriesOwnEnd (x .last))) part₀ e in
       let p₀ = split (allCarryOwnEnd (x .before)) part₁ (p .rest) in
@@ -112,17 +112,19 @@ module _ (x : Exception) where
         differs = λ same. true≢false (sym (eq-eqb (other .used) (one .used) (same .used)) ∙ not-true (eqb (other .used) (one .used)) (p₆ .rest));
       }
 
-abbrev allOf : List Exception → Bool
-allOf [] = true
-allOf (x ∷ xs) = breaks x && allOf xs
+abbrev allOf : ℕ → List Exception → Bool
+allOf release [] = true
+allOf release (x ∷ xs) = breaks release x && allOf release xs
 
-from-test : (xs : List Exception) → allOf xs ≡ true → AllBreak xs
-from-test [] e = tt
-from-test (x ∷ xs) e = (all-parts x (and-left (breaks x) (allOf xs) e), from-test xs (and-right (breaks x) (allOf xs) e))
+from-test : (release : ℕ) (xs : List Exception) → allOf release xs ≡ true → AllBreak release xs
+from-test release [] e = tt
+from-test release (x ∷ xs) e =
+    (all-parts release x (and-left (breaks release x) (allOf release xs) e), from-test release xs (and-right (breaks release x) (allOf release xs) e))
 
-computed : allOf exceptions ≡ true
+computed : (allOf 2 exceptions && allOf 3 exceptions) ≡ true
 unfolding exceptions carriesOwnEnd allCarryOwnEnd rowAnswer answerOf rowDecision bodyDecision walkDecision walkBody walk skipOf columnNeed cellOf consCell need lobNeed isReference saysHeader isShortReference hexDigits isHexDigit unsigned anyDecFloat columnList filled blankValue rowValues rowTexts cellValue cellItem itemIn startOf valueOf itemText textsTogether varyingItem headerItem lobItem lobEmpty lobReference lobBytesItem lobCharItem allZero locatorText hexText
 computed = refl
 
-pub exceptions-break : AllBreak exceptions
-exceptions-break = from-test exceptions computed
+pub exceptions-break : AllBreak 2 exceptions × AllBreak 3 exceptions
+exceptions-break =
+    (from-test 2 exceptions (and-left (allOf 2 exceptions) (allOf 3 exceptions) computed), from-test 3 exceptions (and-right (allOf 2 exceptions) (allOf 3 exceptions) computed))

@@ -6,6 +6,8 @@ pub mod Rows
 pub mod Items
 pub mod ItemTexts
 pub mod Answers
+pub mod SameAnswers
+pub mod Releases
 pub mod Demand3
 pub mod Accepted
 pub mod Exceptions
@@ -14,6 +16,7 @@ pub mod Utf8Texts
 pub mod FixedLengths
 pub mod Shown
 pub mod ShortColumn
+pub mod TextsAlone
 pub mod LooksAt
 pub mod Replaced
 pub mod ReplacedShown

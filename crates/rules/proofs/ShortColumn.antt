@@ -17,9 +17,10 @@ use Rattle.rules.specs.Extent.{extentOf}
 use Rattle.rules.specs.Meaning.{Conversions}
 use Rattle.rules.specs.Walk.{columnNeed, Cell, cellOf, Walk, done, short, consCell, cellShort, walk, walkBody, walkRow, skipOf}
 use Rattle.rules.specs.Row.{RowTold, Decision, refuse, accept, covered, anyDecFloat, rowTexts, walkDecision, rowDecision, answerOf, refusedRow, answerWith}
-use Rattle.rules.specs.Conversions.{ported, rowAnswer}
+use Rattle.rules.specs.Conversions.{conversionsOf, rowAnswer}
 use Rattle.rules.specs.ShortColumn.{firstColumns, Lacking, ShortColumn}
 use Rattle.rules.proofs.Walks.{isDone, cons-done}
+use Rattle.rules.proofs.Releases.{at-release}
 use Rattle.rules.proofs.Demand3.{Tested, tested, call-walked}
 
 -- ---- the walk
@@ -106,7 +107,7 @@ module _ (L : Conversions) where
   valuesOf (refused n vs) = vs
 
   -- and one that is not done is too short by its own numbers
-  is-short : (w : Walk) (d vs : List ℕ) → answerOf L (walkDecision L w d) .outcome ≡ refused 8 vs → (x : ℕ) × (y : ℕ) × (w ≡ short x y) × (x ∷ y ∷ [] ≡ vs)
+  pub is-short : (w : Walk) (d vs : List ℕ) → answerOf L (walkDecision L w d) .outcome ≡ refused 8 vs → (x : ℕ) × (y : ℕ) × (w ≡ short x y) × (x ∷ y ∷ [] ≡ vs)
   unfolding walkDecision answerOf
   is-short (done ps n) d vs e = absurd (not-short (done ps n) d vs refl e)
   is-short (short x y) d vs e = (x, y, refl, ap valuesOf e)
@@ -150,6 +151,6 @@ pub short-column-with : (L : Conversions) → ShortColumn (answerWith L)
 short-column-with L = short-column-at L
 
 -- of the row call
-pub short-column : ShortColumn rowAnswer
-unfolding rowAnswer
-short-column = short-column-with ported
+pub short-column : (release : ℕ) → ShortColumn (rowAnswer release)
+short-column release =
+    at-release release (λ answer after. ShortColumn answer) (short-column-with (conversionsOf release)) (λ columns s d vs o. absurd (omega (arith, ap toldNumber o)))

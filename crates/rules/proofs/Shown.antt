@@ -15,7 +15,7 @@ use Rattle.rules.specs.Meaning.{Item, nothing, numeric, boolean, part, t
 use Rattle.rules.specs.Walk.{columnNeed, Cell, absent, present, cellOf, Walk, done, short, consCell, walk, walkBody, walkRow, skipOf}
 use Rattle.rules.specs.Value.{bytesAt, valueBytes}
 use Rattle.rules.specs.Row.{Decision, accept, covered, place, startOf, valueOf, itemText, cellItem, cellValue, rowValues, rowTexts, rowDecision, answerOf, textAfter}
-use Rattle.rules.specs.Conversions.{ported}
+use Rattle.rules.specs.Conversions.{conversionsOf}
 use Rattle.rules.specs.Shown.{shownOf, cellShown, ValuesShown}
 use Rattle.rules.proofs.Walks.{isDone, piecesOf, walk-step, walk-first, walk-rest}
 use Rattle.rules.proofs.Rows.{skip-fits}
@@ -139,5 +139,5 @@ values-shown-with L columns s d ps n e i =
     rw (e, blanks-after vs (maxColumns - length vs) i) (all-shown L s ps stand [] (drop (length (rowTexts L ps)) d) i)
 
 -- of the row call
-pub values-shown : ValuesShown ported
-values-shown = values-shown-with ported
+pub values-shown : (release : ℕ) → ValuesShown (conversionsOf release)
+values-shown release = values-shown-with (conversionsOf release)

@@ -25,13 +25,14 @@ use Rattle.buffer.specs.Buffer.{Converted, overwritten}
 use Rattle.rules.specs.Meaning.{Item, nothing, numeric, boolean, part, text, itemIn}
 use Rattle.rules.specs.Walk.{columnNeed, Cell, absent, present, cellOf, Walk, done, short, consCell, walk, walkBody, walkRow, skipOf}
 use Rattle.rules.specs.Value.{bytesAt}
-use Rattle.rules.specs.Row.{place, valueOf, itemText, cellItem, cellValue, rowValues, rowTexts, covered, answerOf, textAfter}
-use Rattle.rules.specs.Conversions.{ported, rowAnswer, rowText}
+use Rattle.rules.specs.Row.{place, valueOf, itemText, cellItem, cellValue, rowValues, rowTexts, covered, answerOf, textAfter, answerWith, textWith}
+use Rattle.rules.specs.Conversions.{conversionsOf, rowAnswer, rowText}
 use Rattle.rules.specs.Accepted.{HoldsUtf8, TextsUtf8}
 use Rattle.rules.proofs.Walks.{isDone, piecesOf, walk-step, walk-first, walk-rest}
 use Rattle.rules.proofs.ItemTexts.{TextOf, Texts, item-text}
 use Rattle.rules.proofs.Answers.{number-held, part-held, text-held}
-use Rattle.rules.proofs.Demand3.{facts}
+use Rattle.rules.proofs.Releases.{at-release}
+use Rattle.rules.proofs.Demand3.{refused-not, facts}
 
 -- ---- the text of a packed decimal is ASCII
 
@@ -112,25 +113,25 @@ pub nothing-written : WellFormed utf8 []
 unfolding allAscii
 nothing-written = ascii-well-formed [] refl
 
-module _ (s : List ℕ) (h : AreBytes s) where
-  inline-fine : (n : ℕ) → Fine (ported .inlineText (drop n s))
+module _ (release : ℕ) (s : List ℕ) (h : AreBytes s) where
+  inline-fine : (n : ℕ) → Fine (conversionsOf release .inlineText (drop n s))
   inline-fine n = texts .utf8-text (drop n s) (bytes-drop n s h)
 
-  pub all-fine : (t : Db2Type) → Texts ported t s Fine
+  pub all-fine : (t : Db2Type) → Texts (conversionsOf release) t s Fine
   all-fine t =
       record {
         ofNone = nothing-written;
         ofPacked = λ precision scale e. decimal-well-formed scale s h;
-        ofCharacters = λ ccsid n. characters-well-formed (drop n s) (bytes-drop n s h) ccsid;
-        ofGraphics = λ ccsid n. graphics-well-formed (drop n s) (bytes-drop n s h) ccsid;
+        ofCharacters = λ ccsid n. characters-well-formed (drop n s) (bytes-drop n s h) release ccsid;
+        ofGraphics = λ ccsid n. graphics-well-formed (drop n s) (bytes-drop n s h) release ccsid;
         ofInline = inline-fine;
         ofLocator = λ n. locator-well-formed (drop n s) (bytes-drop n s h);
         ofRowId = row-id-well-formed s h;
       }
 
   -- the text of a column's value is well-formed, whatever its bytes
-  pub item-well-formed : (c : ColumnDescriptor) → TextOf Fine (itemIn ported c s)
-  item-well-formed c = item-text ported Fine c s (all-fine (c .«db2_type»))
+  pub item-well-formed : (c : ColumnDescriptor) → TextOf Fine (itemIn (conversionsOf release) c s)
+  item-well-formed c = item-text (conversionsOf release) Fine c s (all-fine (c .«db2_type»))
 
 -- ---- the texts of a row
 
@@ -182,25 +183,25 @@ item-utf8 (boolean x) at a b f = tt
 item-utf8 (part k from l) at a b f = rw part-held tt
 item-utf8 (text k t) at a b f = rw (text-held, text-there a (t .textBytes) b) f
 
-piece-utf8 : (p : Cell) → PieceBytes p → (a b : List ℕ) → HoldsUtf8 (held (cellValue ported p (length a) .value)) (a ++ (itemText (cellItem ported p) ++ b))
+piece-utf8 : (release : ℕ) (p : Cell) → PieceBytes p → (a b : List ℕ) → HoldsUtf8 (held (cellValue (conversionsOf release) p (length a) .value)) (a ++ (itemText (cellItem (conversionsOf release) p) ++ b))
 unfolding cellItem cellValue blankValue
-piece-utf8 absent h a b = tt
-piece-utf8 (present c at s) h a b = item-utf8 (itemIn ported c s) at a b (item-well-formed s h c)
+piece-utf8 release absent h a b = tt
+piece-utf8 release (present c at s) h a b = item-utf8 (itemIn (conversionsOf release) c s) at a b (item-well-formed release s h c)
 
 abbrev AllUtf8 : List ValuePlace → List ℕ → Type 0
 AllUtf8 [] d = Unit {0}
 AllUtf8 (v ∷ vs) d = HoldsUtf8 (held (v .value)) d × AllUtf8 vs d
 
-values-utf8 : (ps : List Cell) → AllBytes ps → (a b : List ℕ) → AllUtf8 (rowValues ported ps (length a)) (a ++ (rowTexts ported ps ++ b))
+values-utf8 : (release : ℕ) (ps : List Cell) → AllBytes ps → (a b : List ℕ) → AllUtf8 (rowValues (conversionsOf release) ps (length a)) (a ++ (rowTexts (conversionsOf release) ps ++ b))
 unfolding rowValues rowTexts
-values-utf8 [] h a b = tt
-values-utf8 (p ∷ ps) h a b =
-    let t = itemText (cellItem ported p) in
-    let r = rowTexts ported ps in
+values-utf8 release [] h a b = tt
+values-utf8 release (p ∷ ps) h a b =
+    let t = itemText (cellItem (conversionsOf release) p) in
+    let r = rowTexts (conversionsOf release) ps in
     let e : a ++ ((t ++ r) ++ b) ≡ a ++ (t ++ (r ++ b)) = ap (λ (l : List ℕ). a ++ l) (append-assoc t r b) in
     let n : length (a ++ t) ≡ length a + length t = length-append a t in
-    let rest : AllUtf8 (rowValues ported ps (length a + length t)) (a ++ (t ++ (r ++ b))) = rw (append-assoc a t (r ++ b), n) at (values-utf8 ps (h .1) (a ++ t) b) in
-    rw e (piece-utf8 p (h .0) a (r ++ b), rest)
+    let rest : AllUtf8 (rowValues (conversionsOf release) ps (length a + length t)) (a ++ (t ++ (r ++ b))) = rw (append-assoc a t (r ++ b), n) at (values-utf8 release ps (h .1) (a ++ t) b) in
+    rw e (piece-utf8 release p (h .0) a (r ++ b), rest)
 
 blanks-utf8 : (k : ℕ) (d : List ℕ) → AllUtf8 (replicate k blankValue) d
 unfolding blankValue
@@ -217,17 +218,20 @@ at-utf8 [] d i h = tt
 at-utf8 (v ∷ vs) d zero h = h .0
 at-utf8 (v ∷ vs) d (suc i) h = at-utf8 vs d i (h .1)
 
--- of the row call
-pub texts-utf8 : TextsUtf8 rowAnswer rowText
-unfolding rowAnswer rowText answerOf textAfter filled walkBody
-texts-utf8 columns s d h e i =
-    let f = facts ported columns s d e in
+texts-utf8-with : (release : ℕ) → TextsUtf8 (answerWith (conversionsOf release)) (textWith (conversionsOf release))
+unfolding answerOf textAfter filled walkBody
+texts-utf8-with release columns s d h e i =
+    let f = facts (conversionsOf release) columns s d e in
     let cs = covered columns in
     let ps = piecesOf (walkRow cs s) in
-    let vs = rowValues ported ps 0 in
+    let vs = rowValues (conversionsOf release) ps 0 in
     let k = maxColumns - length vs in
-    let ts = rowTexts ported ps in
+    let ts = rowTexts (conversionsOf release) ps in
     let b = walk-bytes (skipOf s) cs (skipOf s) (drop (skipOf s) s) (bytes-drop (skipOf s) s h) (f .over) in
     rw (f .decided)
     (at-utf8 (vs ++ replicate k blankValue) (overwritten ts d) i
-    (append-utf8 vs (replicate k blankValue) (overwritten ts d) (values-utf8 ps b [] (drop (length ts) d)) (blanks-utf8 k (overwritten ts d))))
+    (append-utf8 vs (replicate k blankValue) (overwritten ts d) (values-utf8 release ps b [] (drop (length ts) d)) (blanks-utf8 k (overwritten ts d))))
+
+-- of the row call
+pub texts-utf8 : (release : ℕ) → TextsUtf8 (rowAnswer release) (rowText release)
+texts-utf8 release = at-release release TextsUtf8 (texts-utf8-with release) (λ columns s d h e i. absurd (refused-not 22 [] e))

@@ -1,17 +1,19 @@
--- The conversions of the row call (T1 to T9, N4a, P1 to P5, W5), and the row call with them: what its promise names. Assumes nothing.
+-- The conversions of the row call (T1 to T9, N4a, N10b, P1 to P5, W5), and the row call with them: what its promise names. Assumes nothing.
 use Prim.Native.Nat.{ℕ}
-use mathlib.Core.List.{List}
+use mathlib.Core.Bool.{cond}
+use mathlib.Core.List.{List, []}
 use Rattle.types.specs.declared.Columns.{Columns}
 use Rattle.numbers.specs.Number.{smallIntIn, integerIn, bigIntIn, realIn, doubleIn}
 use Rattle.packed.specs.Packed.{decimalText}
-use Rattle.buffer.specs.Buffer.{unreplaced}
-use Rattle.conversion.specs.Conversion.{fromCharacters, fromGraphics, fromUtf8, locatorText, rowIdText}
+use Rattle.buffer.specs.Buffer.{Converted, unreplaced}
+use Rattle.conversion.specs.Conversion.{fromCharacters, fromGraphics, fromUtf8, locatorText, rowIdText, isRelease, charactersBy, graphicsBy}
 use Rattle.unicode.specs.Likely.{likelyText}
 use Rattle.rules.specs.Meaning.{Conversions}
-use Rattle.rules.specs.Row.{RowTold, answerWith, textWith}
+use Rattle.rules.specs.Row.{RowTold, refusedRow, answerWith, textWith}
 
-abbrev pub ported : Conversions
-ported =
+-- given those by CCSID, of characters and of graphics
+abbrev pub conversionsBy : (ℕ → List ℕ → Converted) → (ℕ → List ℕ → Converted) → Conversions
+conversionsBy byCharacters byGraphics =
     record {
       readSmallInt = smallIntIn;
       readInteger = integerIn;
@@ -19,17 +21,24 @@ ported =
       readReal = realIn;
       readDouble = doubleIn;
       packed = λ scale s. unreplaced (decimalText scale s);
-      characters = fromCharacters;
-      graphics = fromGraphics;
+      characters = byCharacters;
+      graphics = byGraphics;
       inlineText = fromUtf8;
       isLikely = likelyText;
       locator = λ s. unreplaced (locatorText s);
       rowIdentifier = λ s. unreplaced (rowIdText s);
     }
 
--- what the row call answers for columns, an input s and a text buffer d, and what the text buffer then holds
-unfoldable pub rowAnswer : Columns → List ℕ → List ℕ → RowTold
-rowAnswer columns s d = answerWith ported columns s d
+-- the Rust's, and those of a host release; release 2's are the Rust's
+abbrev pub ported : Conversions
+ported = conversionsBy fromCharacters fromGraphics
 
-unfoldable pub rowText : Columns → List ℕ → List ℕ → List ℕ
-rowText columns s d = textWith ported columns s d
+abbrev pub conversionsOf : ℕ → Conversions
+conversionsOf release = conversionsBy (charactersBy release) (graphicsBy release)
+
+-- what the row call answers for a release, columns, an input s and a text buffer d, and what the text buffer then holds. Refusal 22 comes first (N10a)
+unfoldable pub rowAnswer : ℕ → Columns → List ℕ → List ℕ → RowTold
+rowAnswer release columns s d = cond (isRelease release) (answerWith (conversionsOf release) columns s d) (refusedRow 22 [])
+
+unfoldable pub rowText : ℕ → Columns → List ℕ → List ℕ → List ℕ
+rowText release columns s d = cond (isRelease release) (textWith (conversionsOf release) columns s d) d

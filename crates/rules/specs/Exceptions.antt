@@ -79,17 +79,17 @@ exceptions =
     ∷ headerOf1 (type.VarGraphic 0x8001)
     ∷ []
 
--- The row is accepted, as demand 3 asks, and only its last column lacks an end. The longer input is within the limit of refusal 4 and begins with the bytes used,
+-- At a release the row is accepted, as demand 3 asks, and only its last column lacks an end. The longer input is within the limit of refusal 4 and begins with the bytes used,
 -- and the text buffer is large enough; yet its answer is another
-pub record Breaks (x : Exception) : Type 0 where
+pub record Breaks (release : ℕ) (x : Exception) : Type 0 where
   pub lacksEnd : carriesOwnEnd (x .last) ≡ false
   pub othersCarry : allCarryOwnEnd (x .before) ≡ true
-  pub acceptedRow : AcceptedRow rowAnswer rowText (columnsIn x) (x .input) room
+  pub acceptedRow : AcceptedRow (rowAnswer release) (rowText release) (columnsIn x) (x .input) room
   pub limit : length (x .longerInput) ≤ inputLimit
-  pub beginsAlike : take (rowAnswer (columnsIn x) (x .input) room .used) (x .longerInput) ≡ take (rowAnswer (columnsIn x) (x .input) room .used) (x .input)
-  pub enough : LargeEnough (rowAnswer (columnsIn x) (x .input) room) room
-  pub differs : Same rowAnswer rowText (columnsIn x) (x .longerInput) room (x .input) room → ⊥
+  pub beginsAlike : take (rowAnswer release (columnsIn x) (x .input) room .used) (x .longerInput) ≡ take (rowAnswer release (columnsIn x) (x .input) room .used) (x .input)
+  pub enough : LargeEnough (rowAnswer release (columnsIn x) (x .input) room) room
+  pub differs : Same (rowAnswer release) (rowText release) (columnsIn x) (x .longerInput) room (x .input) room → ⊥
 
-abbrev pub AllBreak : List Exception → Type 0
-AllBreak [] = Unit {0}
-AllBreak (x ∷ xs) = Breaks x × AllBreak xs
+abbrev pub AllBreak : ℕ → List Exception → Type 0
+AllBreak release [] = Unit {0}
+AllBreak release (x ∷ xs) = Breaks release x × AllBreak release xs

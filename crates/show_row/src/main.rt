@@ -1,7 +1,7 @@
-// Program. Shows what a host's description and row hold: `show_row [-x] DESCRIPTION [ROW]` reads one or two files of raw bytes (with -x, of
-// hexadecimal text; `-` is standard input) and prints a table of the columns, with a row also their values, or the refusal. It decides nothing itself:
-// parse_qrydsc, decode_row and value_bytes do. A description that breaks off is shown too, since whoever looks for the fault wants to see it: with a
-// warning. What is printed is in tables; the command at the root, show-row, reads the other options.
+// Program. Shows what a host's description and row hold: `show_row [-x] [-r RELEASE] DESCRIPTION [ROW]` reads one or two files of raw bytes (with -x, of
+// hexadecimal text; `-` is standard input) and prints a table of the columns, with a row also their values, or the refusal. The row is read by the host's
+// release, 2 where none is given. It decides nothing itself: parse_qrydsc, decode_row and value_bytes do. A description that breaks off is shown too, since
+// whoever looks for the fault wants to see it: with a warning. What is printed is in tables; the command at the root, show-row, reads the other options.
 mod hex;
 mod load;
 
@@ -28,17 +28,63 @@ const ROW: usize = 1048577;
 // No row's texts are longer: three bytes for each of the row's, and 258 for each of 128 columns.
 const TEXT: usize = 3178752;
 
-// Whether the first argument is -x.
-fn is_hex() -> bool {
+// Whether an argument is this word, of at most seven letters.
+fn is_word(argument: usize, want: &[u8]) -> bool {
     let mut word = [0u8; 8];
-    let n = os::arg(1, &mut word);
-    same(&word[..n], b"-x")
+    let n = os::arg(argument, &mut word);
+    same(&word[..n], want)
+}
+
+// The options: whether the files are hexadecimal text, the host's release, and which argument is the first file.
+struct Options {
+    is_hex: bool,
+    release: u32,
+    first: usize,
+}
+
+// The host's release that an argument says, 0 where it says none.
+fn release_of(argument: usize) -> u32 {
+    if is_word(argument, b"2") {
+        return 2;
+    }
+    if is_word(argument, b"3") {
+        return 3;
+    }
+    0
+}
+
+// The release, where an argument is -r; 2 where it is none.
+fn with_release(is_hex: bool, at: usize) -> Options
+    requires { ⌜ at ≤ 2 ⌝ }
+    ensures { λ r. ⌜ r .first ≤ 4 ⌝ }
+{
+    if is_word(at, b"-r") {
+        return Options {
+            is_hex,
+            release: release_of(at + 1),
+            first: at + 2,
+        };
+    }
+    Options {
+        is_hex,
+        release: 2,
+        first: at,
+    }
+}
+
+fn read_options() -> Options
+    ensures { λ r. ⌜ r .first ≤ 4 ⌝ }
+{
+    if is_word(1, b"-x") {
+        return with_release(true, 2);
+    }
+    with_release(false, 1)
 }
 
 fn usage() {
     io::write_all(
         libc::STDERR_FILENO,
-        b"show-row: a wrong call; the program's own is show_row [-x] DESCRIPTION [ROW]\n",
+        b"show-row: a wrong call; the program's own is show_row [-x] [-r RELEASE] DESCRIPTION [ROW], and the release is 2 or 3\n",
     );
 }
 
@@ -51,9 +97,9 @@ fn show_description(d: Description) {
     }
 }
 
-fn show_row<'a>(d: Description, row: &'a [u8], text: &'a mut [u8]) {
+fn show_row<'a>(d: Description, release: u32, row: &'a [u8], text: &'a mut [u8]) {
     let columns = d.columns;
-    let answer = row::decode_row(row, columns, text);
+    let answer = row::decode_row(row, columns, release, text);
     let outcome = answer.outcome;
     match outcome {
         Outcome::Accepted => show_values(columns, answer, row, text),
@@ -63,6 +109,7 @@ fn show_row<'a>(d: Description, row: &'a [u8], text: &'a mut [u8]) {
     warn_of_values(
         columns,
         row,
+        release,
         outcome.number(),
         answer.used,
         answer.replaced,
@@ -71,8 +118,8 @@ fn show_row<'a>(d: Description, row: &'a [u8], text: &'a mut [u8]) {
 }
 
 // Reads and parses the description; nothing where it can't be read.
-fn with_description(first: usize, is_hex: bool, description: &mut [u8]) {
-    let Loaded::Bytes(n) = load(first, is_hex, description) else {
+fn with_description(o: Options, description: &mut [u8]) {
+    let Loaded::Bytes(n) = load(o.first, o.is_hex, description) else {
         return;
     };
     // What load promises; asked again here, it needs no proof.
@@ -82,25 +129,18 @@ fn with_description(first: usize, is_hex: bool, description: &mut [u8]) {
     let d = qrydsc::parse_qrydsc(&description[0..n]);
     show_description(d);
     warn_of_description(d, &description[0..n]);
-    warn_of_rows(d);
+    warn_of_rows(d, o.release);
 }
 
-fn with_row(
-    first: usize,
-    second: usize,
-    is_hex: bool,
-    description: &mut [u8],
-    row: &mut [u8],
-    text: &mut [u8],
-) {
-    let Loaded::Bytes(n) = load(first, is_hex, description) else {
+fn with_row(o: Options, second: usize, description: &mut [u8], row: &mut [u8], text: &mut [u8]) {
+    let Loaded::Bytes(n) = load(o.first, o.is_hex, description) else {
         return;
     };
     if description.len() < n {
         return;
     }
     let d = qrydsc::parse_qrydsc(&description[0..n]);
-    let Loaded::Bytes(m) = load(second, is_hex, row) else {
+    let Loaded::Bytes(m) = load(second, o.is_hex, row) else {
         return;
     };
     if row.len() < m {
@@ -111,29 +151,24 @@ fn with_row(
         show_description(d);
         return;
     }
-    show_row(d, &row[0..m], text);
+    show_row(d, o.release, &row[0..m], text);
     warn_of_description(d, &description[0..n]);
 }
 
-fn first_argument(is_hex: bool) -> usize
-    ensures { λ r. ⌜ r ≤ 2 ⌝ }
-{
-    if is_hex {
-        return 2;
-    }
-    1
-}
-
 fn run(description: &mut [u8], row: &mut [u8], text: &mut [u8]) {
-    let is_hex = is_hex();
-    let first = first_argument(is_hex);
+    let o = read_options();
+    let second = o.first + 1;
     let count = os::arg_count();
-    if count == first + 1 {
-        with_description(first, is_hex, description);
+    if o.release == 0 {
+        usage();
         return;
     }
-    if count == first + 2 {
-        with_row(first, first + 1, is_hex, description, row, text);
+    if count == second {
+        with_description(o, description);
+        return;
+    }
+    if count == second + 1 {
+        with_row(o, second, description, row, text);
         return;
     }
     usage();

@@ -56,7 +56,8 @@ fn is_named_graphic(ccsid: u16) -> bool {
     is_named(ccsid)
 }
 
-pub fn is_guessed(column: ColumnDescriptor) -> bool {
+// Whether no conversion is known for the CCSID of the column's texts.
+pub fn is_unnamed(column: ColumnDescriptor) -> bool {
     let t = column.db2_type;
     match texts_of(t) {
         Texts::Characters => !is_named(column.ccsid),

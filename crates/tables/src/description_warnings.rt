@@ -111,10 +111,18 @@ pub fn warn_of_description(d: Description, description: &[u8]) {
     warn_columns(Concern::LobText, columns, &none);
 }
 
+// How a host's release has texts read whose CCSID no conversion is known for.
+fn unnamed(release: u32) -> Concern {
+    if release == 2 {
+        return Concern::WillBeGuessed;
+    }
+    Concern::WillBe037
+}
+
 // What it tells of the rows to come, where there is none yet.
-pub fn warn_of_rows(d: Description) {
+pub fn warn_of_rows(d: Description, release: u32) {
     let columns = d.columns;
     let none = [0u8; 0];
-    warn_columns(Concern::Guessed, columns, &none);
+    warn_columns(unnamed(release), columns, &none);
     warn_columns(Concern::DecFloat, columns, &none);
 }

@@ -18,6 +18,7 @@ use refusal::QRYDSC_BROKEN_OFF;
 use refusal::QRYDSC_TOO_LONG;
 use refusal::TEXT_BUFFER_TOO_SHORT;
 use refusal::TOO_MANY_COLUMNS;
+use refusal::UNKNOWN_RELEASE;
 use types::Columns;
 use types::Db2Type;
 use types::MAX_COLUMNS;
@@ -94,6 +95,7 @@ fn meaning(number: u32) -> Line {
         DECIMAL_SIGN => line.text(b"the packed decimal has a sign below A"),
         DECIMAL_OUT_OF_RANGE => line.text(b"the packed decimal is no signed 64-bit number"),
         QRYDSC_BROKEN_OFF => line.text(b"the description breaks off"),
+        UNKNOWN_RELEASE => line.text(b"the host's release is neither 2 nor 3"),
         _ => line.text(b"unknown"),
     }
 }

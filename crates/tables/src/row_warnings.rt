@@ -20,7 +20,7 @@ fn replaced_name(line: Line, replaced: usize) -> Line {
 }
 
 // How many characters were replaced, if any were, and in which columns: those with which the sum grows.
-fn warn_replaced(columns: Columns, row: &[u8], replaced: usize, text: &mut [u8]) {
+fn warn_replaced(columns: Columns, row: &[u8], release: u32, replaced: usize, text: &mut [u8]) {
     if replaced == 0 {
         return;
     }
@@ -32,7 +32,7 @@ fn warn_replaced(columns: Columns, row: &[u8], replaced: usize, text: &mut [u8])
     while i < count {
         let next = i + 1;
         some.count = next;
-        let a = row::decode_row(row, some, text);
+        let a = row::decode_row(row, some, release, text);
         line = with_grown(line, sum, a.replaced, i);
         sum = a.replaced;
         i = next;
@@ -153,10 +153,22 @@ pub fn warn_of_beginning(row: &[u8]) {
     warn_first(row);
 }
 
+// Texts of a CCSID that no conversion is known for. At release 2 a look at the bytes decides how they are read; at release 3 they are code page 037.
+fn warn_unnamed(columns: Columns, row: &[u8], release: u32) {
+    if release != 2 {
+        warn_columns(Concern::Unnamed, columns, row);
+        return;
+    }
+    warn_columns(Concern::ReadAs037, columns, row);
+    warn_columns(Concern::ReadAsAscii, columns, row);
+    warn_columns(Concern::GuessedAt, columns, row);
+}
+
 // What the values of a row tell, and what is left behind it. Of a row that is refused, only the indicators.
 pub fn warn_of_values(
     columns: Columns,
     row: &[u8],
+    release: u32,
     refused: u32,
     used: usize,
     replaced: usize,
@@ -167,9 +179,8 @@ pub fn warn_of_values(
         return;
     }
     warn_rest(row, used);
-    warn_replaced(columns, row, replaced, text);
-    warn_columns(Concern::ReadAs037, columns, row);
-    warn_columns(Concern::ReadAsAscii, columns, row);
+    warn_replaced(columns, row, release, replaced, text);
+    warn_unnamed(columns, row, release);
     warn_columns(Concern::AllAt, columns, row);
     warn_columns(Concern::Longer, columns, row);
     warn_columns(Concern::Packed, columns, row);

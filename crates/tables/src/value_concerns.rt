@@ -75,7 +75,7 @@ fn text_part<'a>(column: ColumnDescriptor, part: &'a [u8]) -> &'a [u8] {
 }
 
 // An odd number of bytes is no UTF-16.
-fn is_guessed_graphic(ccsid: u16, count: usize) -> bool {
+fn is_unnamed_graphic(ccsid: u16, count: usize) -> bool {
     if is_named(ccsid) {
         return false;
     }
@@ -85,32 +85,31 @@ fn is_guessed_graphic(ccsid: u16, count: usize) -> bool {
     count % 2 == 1
 }
 
-fn is_guessed_text(column: ColumnDescriptor, count: usize) -> bool {
+// Whether a text of so many bytes has a CCSID that no conversion is known for.
+fn is_unnamed_of(column: ColumnDescriptor, count: usize) -> bool {
     let t = column.db2_type;
     match texts_of(t) {
         Texts::Characters => !is_named(column.ccsid),
-        Texts::Graphics => is_guessed_graphic(column.ccsid, count),
+        Texts::Graphics => is_unnamed_graphic(column.ccsid, count),
         Texts::None => false,
     }
 }
 
-// Whether a text is guessed at, and has a byte from 80 on or has none.
-pub fn is_guessed_as(column: ColumnDescriptor, part: &[u8], is_high: bool) -> bool {
+// An empty text is the same in every code page.
+pub fn is_unnamed_text(column: ColumnDescriptor, part: &[u8]) -> bool {
     let s = text_part(column, part);
     if s.len() == 0 {
         return false;
     }
-    if !is_guessed_text(column, s.len()) {
-        return false;
-    }
-    has_high(s) == is_high
+    is_unnamed_of(column, s.len())
 }
 
-fn is_blank_page(ccsid: u16) -> bool {
-    match ccsid {
-        37 | 500 => true,
-        _ => false,
+// Whether a text is guessed at, and has a byte from 80 on or has none.
+pub fn is_guessed_as(column: ColumnDescriptor, part: &[u8], is_high: bool) -> bool {
+    if !is_unnamed_text(column, part) {
+        return false;
     }
+    has_high(text_part(column, part)) == is_high
 }
 
 fn is_all_40(s: &[u8]) -> bool {
@@ -124,9 +123,24 @@ fn is_all_40(s: &[u8]) -> bool {
     true
 }
 
-// 40 is a blank in EBCDIC, and else `@`.
+// Whether a text is guessed at, and is nothing but 40.
+pub fn is_guessed_at(column: ColumnDescriptor, part: &[u8]) -> bool {
+    if !is_unnamed_text(column, part) {
+        return false;
+    }
+    is_all_40(text_part(column, part))
+}
+
+// Those of the CCSIDs that a conversion is known for in which 40 is `@`. In EBCDIC it is a blank, and in UTF-16 half a character.
+fn has_at(ccsid: u16) -> bool {
+    match ccsid {
+        819 | 1208 => true,
+        _ => false,
+    }
+}
+
 pub fn is_all_at(column: ColumnDescriptor, part: &[u8]) -> bool {
-    if is_blank_page(column.ccsid) {
+    if !has_at(column.ccsid) {
         return false;
     }
     let s = text_part(column, part);

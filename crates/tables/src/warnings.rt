@@ -15,8 +15,11 @@ pub fn warning() -> Line {
 
 fn name(concern: Concern, line: Line) -> Line {
     match concern {
-        Concern::Guessed => line.text(
+        Concern::WillBeGuessed => line.text(
             b"no CCSID is declared, or none that is known, so that texts will be guessed at",
+        ),
+        Concern::WillBe037 => line.text(
+            b"no CCSID is declared, or none that is known, so that texts will be read as code page 037, at release 3",
         ),
         Concern::As037 => line.text(
             b"CCSID 500 is read as code page 037, which has other characters at 4A 4F 5A 5F B0 BA BB",
@@ -42,6 +45,12 @@ fn name(concern: Concern, line: Line) -> Line {
         ),
         Concern::ReadAs037 => line.text(
             b"no CCSID is declared, or none that is known, and the text is taken for code page 037, since it is no ASCII",
+        ),
+        Concern::GuessedAt => line.text(
+            b"the text is nothing but @, which is a blank in EBCDIC; with -r 3 it is read so",
+        ),
+        Concern::Unnamed => line.text(
+            b"no CCSID is declared, or none that is known, and the text is read as code page 037, at release 3",
         ),
         Concern::AllAt => line.text(b"the text is nothing but @, which is a blank in EBCDIC"),
         Concern::Longer => line.text(b"the value is longer than the description says"),

@@ -1,4 +1,4 @@
-// Face. The text conversions that can be called alone: characters and graphics by CCSID, locators and row ids in hexadecimal, and the test
+// Face. The text conversions that can be called alone: characters and graphics by CCSID and host release, locators and row ids in hexadecimal, and the test
 // for likely text. Each writes UTF-8 at the beginning of a lent buffer. It does not read rows or packed decimals.
 use buffer::TextAnswer;
 use buffer::refused;
@@ -7,6 +7,7 @@ use conversion::character_conversion;
 use conversion::graphic_conversion;
 use conversion::guess_write;
 use conversion::is_guessed;
+use conversion::is_release;
 use conversion::text_measure;
 use conversion::text_write;
 use refusal::INPUT_LIMIT;
@@ -19,10 +20,10 @@ ghost use lib.ListN.{length};
 ghost use Rattle.refusal.specs.Refusal.{inputLimit};
 ghost use Rattle.buffer.specs.Buffer.{unreplaced, toldText, textAnswer, textBuffer};
 ghost use Rattle.unicode.specs.Likely.{likelyText};
-ghost use Rattle.conversion.specs.Conversion.{characterText, graphicText, fromCharacters, fromGraphics, locatorText, rowIdText};
+ghost use Rattle.conversion.specs.Conversion.{charactersBy, graphicsBy, locatorText, rowIdText};
 ghost use Rattle.conversion.specs.Picked.{textIn, convertedIn};
 ghost use Rattle.conversion.specs.Guess.{guessText, Guessed};
-ghost use Rattle.text.specs.Text.{conversionAnswer, conversionBuffer};
+ghost use Rattle.text.specs.Text.{conversionAnswer, conversionBuffer, releaseAnswer, releaseBuffer};
 
 // The text of s at the beginning of a buffer. A buffer that holds any text of so many bytes is written without measuring.
 fn convert(conversion: Conversion, s: &[u8], text: &mut [u8]) -> TextAnswer
@@ -53,14 +54,14 @@ fn convert(conversion: Conversion, s: &[u8], text: &mut [u8]) -> TextAnswer
 }
 
 // The conversion is guessed, and any text of n bytes fits: it may be written before it is known.
-fn is_roomy_guess(n: usize, ccsid: u16, room: usize) -> bool
+fn is_roomy_guess(n: usize, ccsid: u16, release: u32, room: usize) -> bool
     requires { ⌜ n ≤ inputLimit ⌝ }
-    ensures { λ r. ⌜ (r ≡ true → (3 * n + 14 ≤ room) × Guessed ccsid) ⌝ }
+    ensures { λ r. ⌜ (r ≡ true → (3 * n + 14 ≤ room) × Guessed release ccsid) ⌝ }
 {
     if room < 3 * n + 14 {
         return false;
     }
-    is_guessed(ccsid)
+    is_guessed(ccsid, release)
 }
 
 // The text of s, whose conversion is guessed, at the beginning of such a buffer.
@@ -81,53 +82,59 @@ fn convert_guess(s: &[u8], text: &mut [u8]) -> TextAnswer
 const SHORT: usize = 1024;
 
 // The text of a long character value, by its CCSID.
-fn long_characters(s: &[u8], ccsid: u16, text: &mut [u8]) -> TextAnswer
-    ensures answer { λ r. ⌜ toldText r ≡ conversionAnswer (now (s .entry)) (fromCharacters ccsid (now (s .entry))) (now (text .entry)) ⌝ }
-    ensures buffer { λ _. ⌜ now (text .exit) ≡ conversionBuffer (now (s .entry)) (characterText ccsid (now (s .entry))) (now (text .entry)) ⌝ }
+fn long_characters(s: &[u8], ccsid: u16, release: u32, text: &mut [u8]) -> TextAnswer
+    ensures answer { λ r. ⌜ toldText r ≡ conversionAnswer (now (s .entry)) (charactersBy release ccsid (now (s .entry))) (now (text .entry)) ⌝ }
+    ensures buffer { λ _. ⌜ now (text .exit) ≡ conversionBuffer (now (s .entry)) (charactersBy release ccsid (now (s .entry)) .textBytes) (now (text .entry)) ⌝ }
 {
     if s.len() > INPUT_LIMIT {
         return refused(Refusal::InputTooLong);
     }
-    if is_roomy_guess(s.len(), ccsid, text.len()) {
+    if is_roomy_guess(s.len(), ccsid, release, text.len()) {
         return convert_guess(s, text);
     }
-    convert(character_conversion(ccsid, s), s, text)
+    convert(character_conversion(ccsid, release, s), s, text)
 }
 
 // The same for a graphic value.
-fn long_graphics(s: &[u8], ccsid: u16, text: &mut [u8]) -> TextAnswer
-    ensures answer { λ r. ⌜ toldText r ≡ conversionAnswer (now (s .entry)) (fromGraphics ccsid (now (s .entry))) (now (text .entry)) ⌝ }
-    ensures buffer { λ _. ⌜ now (text .exit) ≡ conversionBuffer (now (s .entry)) (graphicText ccsid (now (s .entry))) (now (text .entry)) ⌝ }
+fn long_graphics(s: &[u8], ccsid: u16, release: u32, text: &mut [u8]) -> TextAnswer
+    ensures answer { λ r. ⌜ toldText r ≡ conversionAnswer (now (s .entry)) (graphicsBy release ccsid (now (s .entry))) (now (text .entry)) ⌝ }
+    ensures buffer { λ _. ⌜ now (text .exit) ≡ conversionBuffer (now (s .entry)) (graphicsBy release ccsid (now (s .entry)) .textBytes) (now (text .entry)) ⌝ }
 {
     if s.len() > INPUT_LIMIT {
         return refused(Refusal::InputTooLong);
     }
-    if is_roomy_guess(s.len(), ccsid, text.len()) {
+    if is_roomy_guess(s.len(), ccsid, release, text.len()) {
         return convert_guess(s, text);
     }
-    convert(graphic_conversion(ccsid, s), s, text)
+    convert(graphic_conversion(ccsid, release, s), s, text)
 }
 
-// The text of a character value, by its CCSID.
-pub fn decode_character_bytes(data: &[u8], ccsid: u16, text: &mut [u8]) -> TextAnswer
-    ensures answer { λ r. ⌜ toldText r ≡ conversionAnswer (now («data» .entry)) (fromCharacters ccsid (now («data» .entry))) (now (text .entry)) ⌝ }
-    ensures buffer { λ _. ⌜ now (text .exit) ≡ conversionBuffer (now («data» .entry)) (characterText ccsid (now («data» .entry))) (now (text .entry)) ⌝ }
+// The text of a character value, by its CCSID and the host's release.
+pub fn decode_character_bytes(data: &[u8], ccsid: u16, release: u32, text: &mut [u8]) -> TextAnswer
+    ensures answer { λ r. ⌜ toldText r ≡ releaseAnswer release (now («data» .entry)) (charactersBy release ccsid (now («data» .entry))) (now (text .entry)) ⌝ }
+    ensures buffer { λ _. ⌜ now (text .exit) ≡ releaseBuffer release (now («data» .entry)) (charactersBy release ccsid (now («data» .entry)) .textBytes) (now (text .entry)) ⌝ }
 {
-    if data.len() > SHORT {
-        return long_characters(data, ccsid, text);
+    if !is_release(release) {
+        return refused(Refusal::UnknownRelease);
     }
-    convert(character_conversion(ccsid, data), data, text)
+    if data.len() > SHORT {
+        return long_characters(data, ccsid, release, text);
+    }
+    convert(character_conversion(ccsid, release, data), data, text)
 }
 
-// The text of a graphic value, by its CCSID.
-pub fn decode_graphic_bytes(data: &[u8], ccsid: u16, text: &mut [u8]) -> TextAnswer
-    ensures answer { λ r. ⌜ toldText r ≡ conversionAnswer (now («data» .entry)) (fromGraphics ccsid (now («data» .entry))) (now (text .entry)) ⌝ }
-    ensures buffer { λ _. ⌜ now (text .exit) ≡ conversionBuffer (now («data» .entry)) (graphicText ccsid (now («data» .entry))) (now (text .entry)) ⌝ }
+// The same for a graphic value.
+pub fn decode_graphic_bytes(data: &[u8], ccsid: u16, release: u32, text: &mut [u8]) -> TextAnswer
+    ensures answer { λ r. ⌜ toldText r ≡ releaseAnswer release (now («data» .entry)) (graphicsBy release ccsid (now («data» .entry))) (now (text .entry)) ⌝ }
+    ensures buffer { λ _. ⌜ now (text .exit) ≡ releaseBuffer release (now («data» .entry)) (graphicsBy release ccsid (now («data» .entry)) .textBytes) (now (text .entry)) ⌝ }
 {
-    if data.len() > SHORT {
-        return long_graphics(data, ccsid, text);
+    if !is_release(release) {
+        return refused(Refusal::UnknownRelease);
     }
-    convert(graphic_conversion(ccsid, data), data, text)
+    if data.len() > SHORT {
+        return long_graphics(data, ccsid, release, text);
+    }
+    convert(graphic_conversion(ccsid, release, data), data, text)
 }
 
 // `LOB locator 0x` and the bytes in hexadecimal.

@@ -3,6 +3,7 @@
 // own and one meaning. A column is two words, a value three and a type one: crates/words has the layout. This crate has no
 // rules of its own but 101 and 102, of lent words: each promise cites what the call within promises, or what the call that it stands for does.
 use buffer::TextAnswer;
+use conversion::is_release;
 use qrydsc::MAX_QRYDSC;
 use refusal::BUFFER_TOO_SHORT;
 use refusal::COUNT_TOO_LARGE;
@@ -14,6 +15,7 @@ use refusal::QRYDSC_BROKEN_OFF;
 use refusal::QRYDSC_TOO_LONG;
 use refusal::TEXT_BUFFER_TOO_SHORT;
 use refusal::TOO_MANY_COLUMNS;
+use refusal::UNKNOWN_RELEASE;
 use row::value_bytes;
 use row_words::Checked;
 use row_words::RowOutcome;
@@ -28,8 +30,8 @@ ghost use lib.ListN.{length};
 ghost use Rattle.refusal.specs.Refusal.{toldNumber};
 ghost use Rattle.buffer.specs.Buffer.{unreplaced, toldText};
 ghost use Rattle.unicode.specs.Likely.{likelyText};
-ghost use Rattle.conversion.specs.Conversion.{characterText, graphicText, fromCharacters, fromGraphics, locatorText, rowIdText};
-ghost use Rattle.text.specs.Text.{conversionAnswer, conversionBuffer};
+ghost use Rattle.conversion.specs.Conversion.{charactersBy, graphicsBy, locatorText, rowIdText};
+ghost use Rattle.text.specs.Text.{conversionAnswer, conversionBuffer, releaseAnswer, releaseBuffer};
 ghost use Rattle.decimal.specs.Decimal.{decimalAnswer, decimalBuffer};
 ghost use Rattle.decimal.specs.Whole.{wholeAnswer};
 ghost use Rattle.triplets.specs.Steps.{endFrom};
@@ -48,13 +50,13 @@ const NO_TYPE_WORD: u32 = 102;
 
 const NO_COLUMN: u32 = 102;
 
-// The version of these calls, 0.5.1 as 10000 * 0 + 100 * 5 + 1. The number stands in the name, which include/vejupa.h and bindings/rust refer to: what was
+// The version of these calls, 0.6.0 as 10000 * 0 + 100 * 6 + 0. The number stands in the name, which include/vejupa.h and bindings/rust refer to: what was
 // compiled for another version does not link.
 #[no_mangle]
-pub extern "C" fn vejupa_version_0_5_1() -> u32
-    ensures { λ r. ⌜ r ≡ 501 ⌝ }
+pub extern "C" fn vejupa_version_0_6_0() -> u32
+    ensures { λ r. ⌜ r ≡ 600 ⌝ }
 {
-    501
+    600
 }
 
 // A Boolean as 1 and 0.
@@ -92,21 +94,22 @@ fn report_replaced(a: TextAnswer, text_length: &mut usize, replaced: &mut usize)
     report(a, text_length)
 }
 
-// The text of a character value, by its CCSID; in replaced how many U+FFFD were put in for what was malformed.
+// The text of a character value, by its CCSID and the host's release; in replaced how many U+FFFD were put in for what was malformed.
 #[no_mangle]
 pub extern "C" fn vejupa_raw_decode_character_bytes(
     data: &[u8],
     ccsid: u16,
+    release: u32,
     text: &mut [u8],
     text_length: &mut usize,
     replaced: &mut usize,
 ) -> u32
-    ensures number { λ r. ⌜ r ≡ toldNumber (conversionAnswer (now («data» .entry)) (fromCharacters ccsid (now («data» .entry))) (now (text .entry)) .outcome) ⌝ }
-    ensures length { λ _. ⌜ now («text_length» .exit) ≡ lengthTold (conversionAnswer (now («data» .entry)) (fromCharacters ccsid (now («data» .entry))) (now (text .entry))) ⌝ }
-    ensures buffer { λ _. ⌜ now (text .exit) ≡ conversionBuffer (now («data» .entry)) (characterText ccsid (now («data» .entry))) (now (text .entry)) ⌝ }
-    ensures replaced { λ _. ⌜ now (replaced .exit) ≡ conversionAnswer (now («data» .entry)) (fromCharacters ccsid (now («data» .entry))) (now (text .entry)) .replaced ⌝ }
+    ensures number { λ r. ⌜ r ≡ toldNumber (releaseAnswer release (now («data» .entry)) (charactersBy release ccsid (now («data» .entry))) (now (text .entry)) .outcome) ⌝ }
+    ensures length { λ _. ⌜ now («text_length» .exit) ≡ lengthTold (releaseAnswer release (now («data» .entry)) (charactersBy release ccsid (now («data» .entry))) (now (text .entry))) ⌝ }
+    ensures buffer { λ _. ⌜ now (text .exit) ≡ releaseBuffer release (now («data» .entry)) (charactersBy release ccsid (now («data» .entry)) .textBytes) (now (text .entry)) ⌝ }
+    ensures replaced { λ _. ⌜ now (replaced .exit) ≡ releaseAnswer release (now («data» .entry)) (charactersBy release ccsid (now («data» .entry))) (now (text .entry)) .replaced ⌝ }
 {
-    let a = text::decode_character_bytes(data, ccsid, text);
+    let a = text::decode_character_bytes(data, ccsid, release, text);
     report_replaced(a, text_length, replaced)
 }
 
@@ -115,16 +118,17 @@ pub extern "C" fn vejupa_raw_decode_character_bytes(
 pub extern "C" fn vejupa_raw_decode_graphic_bytes(
     data: &[u8],
     ccsid: u16,
+    release: u32,
     text: &mut [u8],
     text_length: &mut usize,
     replaced: &mut usize,
 ) -> u32
-    ensures number { λ r. ⌜ r ≡ toldNumber (conversionAnswer (now («data» .entry)) (fromGraphics ccsid (now («data» .entry))) (now (text .entry)) .outcome) ⌝ }
-    ensures length { λ _. ⌜ now («text_length» .exit) ≡ lengthTold (conversionAnswer (now («data» .entry)) (fromGraphics ccsid (now («data» .entry))) (now (text .entry))) ⌝ }
-    ensures buffer { λ _. ⌜ now (text .exit) ≡ conversionBuffer (now («data» .entry)) (graphicText ccsid (now («data» .entry))) (now (text .entry)) ⌝ }
-    ensures replaced { λ _. ⌜ now (replaced .exit) ≡ conversionAnswer (now («data» .entry)) (fromGraphics ccsid (now («data» .entry))) (now (text .entry)) .replaced ⌝ }
+    ensures number { λ r. ⌜ r ≡ toldNumber (releaseAnswer release (now («data» .entry)) (graphicsBy release ccsid (now («data» .entry))) (now (text .entry)) .outcome) ⌝ }
+    ensures length { λ _. ⌜ now («text_length» .exit) ≡ lengthTold (releaseAnswer release (now («data» .entry)) (graphicsBy release ccsid (now («data» .entry))) (now (text .entry))) ⌝ }
+    ensures buffer { λ _. ⌜ now (text .exit) ≡ releaseBuffer release (now («data» .entry)) (graphicsBy release ccsid (now («data» .entry)) .textBytes) (now (text .entry)) ⌝ }
+    ensures replaced { λ _. ⌜ now (replaced .exit) ≡ releaseAnswer release (now («data» .entry)) (graphicsBy release ccsid (now («data» .entry))) (now (text .entry)) .replaced ⌝ }
 {
-    let a = text::decode_graphic_bytes(data, ccsid, text);
+    let a = text::decode_graphic_bytes(data, ccsid, release, text);
     report_replaced(a, text_length, replaced)
 }
 
@@ -326,13 +330,14 @@ pub extern "C" fn vejupa_raw_fixed_length(
     }
 }
 
-// A row's values by columns that stand in words, two words a column: three words a value, texts in the text buffer. used are the bytes used,
+// A row's values by columns that stand in words, two words a column, and the host's release: three words a value, texts in the text buffer. used are the bytes used,
 // text_length the bytes of the row's texts, written or with 9 needed; replaced are the U+FFFD that were put in for what was malformed; expected and actual are
 // 8's values. A number that does not apply is 0. It makes no list of 128 places.
 #[no_mangle]
 pub extern "C" fn vejupa_raw_decode_row(
     column_words: &[u64],
     data: &[u8],
+    release: u32,
     value_words: &mut [u64],
     text: &mut [u8],
     used: &mut usize,
@@ -341,20 +346,23 @@ pub extern "C" fn vejupa_raw_decode_row(
     expected: &mut usize,
     actual: &mut usize,
 ) -> u32
-    ensures number { λ r. ⌜ r ≡ rowNumbers (wordsDecision (now («column_words» .entry)) (now («data» .entry)) (now («value_words» .entry)) (now (text .entry))) .returned ⌝ }
-    ensures used { λ _. ⌜ now (used .exit) ≡ rowNumbers (wordsDecision (now («column_words» .entry)) (now («data» .entry)) (now («value_words» .entry)) (now (text .entry))) .used ⌝ }
-    ensures length { λ _. ⌜ now («text_length» .exit) ≡ rowNumbers (wordsDecision (now («column_words» .entry)) (now («data» .entry)) (now («value_words» .entry)) (now (text .entry))) .textLength ⌝ }
-    ensures expected { λ _. ⌜ now (expected .exit) ≡ rowNumbers (wordsDecision (now («column_words» .entry)) (now («data» .entry)) (now («value_words» .entry)) (now (text .entry))) .expected ⌝ }
-    ensures actual { λ _. ⌜ now (actual .exit) ≡ rowNumbers (wordsDecision (now («column_words» .entry)) (now («data» .entry)) (now («value_words» .entry)) (now (text .entry))) .actual ⌝ }
-    ensures values { λ _. ⌜ now («value_words» .exit) ≡ wordsLeft (wordsDecision (now («column_words» .entry)) (now («data» .entry)) (now («value_words» .entry)) (now (text .entry))) (now («value_words» .entry)) ⌝ }
-    ensures text { λ _. ⌜ now (text .exit) ≡ textLeft (wordsDecision (now («column_words» .entry)) (now («data» .entry)) (now («value_words» .entry)) (now (text .entry))) (now (text .entry)) ⌝ }
-    ensures replaced { λ _. ⌜ now (replaced .exit) ≡ rowNumbers (wordsDecision (now («column_words» .entry)) (now («data» .entry)) (now («value_words» .entry)) (now (text .entry))) .replaced ⌝ }
+    ensures number { λ r. ⌜ r ≡ rowNumbers release (wordsDecision release (now («column_words» .entry)) (now («data» .entry)) (now («value_words» .entry)) (now (text .entry))) .returned ⌝ }
+    ensures used { λ _. ⌜ now (used .exit) ≡ rowNumbers release (wordsDecision release (now («column_words» .entry)) (now («data» .entry)) (now («value_words» .entry)) (now (text .entry))) .used ⌝ }
+    ensures length { λ _. ⌜ now («text_length» .exit) ≡ rowNumbers release (wordsDecision release (now («column_words» .entry)) (now («data» .entry)) (now («value_words» .entry)) (now (text .entry))) .textLength ⌝ }
+    ensures expected { λ _. ⌜ now (expected .exit) ≡ rowNumbers release (wordsDecision release (now («column_words» .entry)) (now («data» .entry)) (now («value_words» .entry)) (now (text .entry))) .expected ⌝ }
+    ensures actual { λ _. ⌜ now (actual .exit) ≡ rowNumbers release (wordsDecision release (now («column_words» .entry)) (now («data» .entry)) (now («value_words» .entry)) (now (text .entry))) .actual ⌝ }
+    ensures values { λ _. ⌜ now («value_words» .exit) ≡ wordsLeft release (wordsDecision release (now («column_words» .entry)) (now («data» .entry)) (now («value_words» .entry)) (now (text .entry))) (now («value_words» .entry)) ⌝ }
+    ensures text { λ _. ⌜ now (text .exit) ≡ textLeft release (wordsDecision release (now («column_words» .entry)) (now («data» .entry)) (now («value_words» .entry)) (now (text .entry))) (now (text .entry)) ⌝ }
+    ensures replaced { λ _. ⌜ now (replaced .exit) ≡ rowNumbers release (wordsDecision release (now («column_words» .entry)) (now («data» .entry)) (now («value_words» .entry)) (now (text .entry))) .replaced ⌝ }
 {
     *used = 0;
     *text_length = 0;
     *replaced = 0;
     *expected = 0;
     *actual = 0;
+    if !is_release(release) {
+        return UNKNOWN_RELEASE;
+    }
     let count = column_words.len() / 2;
     if MAX_COLUMNS < count {
         return COUNT_TOO_LARGE;
@@ -371,7 +379,7 @@ pub extern "C" fn vejupa_raw_decode_row(
     if dec_float {
         return DEC_FLOAT_COLUMN;
     }
-    match row_words::decode_row(column_words, data, value_words, text) {
+    match row_words::decode_row(column_words, data, release, value_words, text) {
         RowOutcome::Accepted {
             used: taken,
             written,

@@ -1,5 +1,5 @@
-// Program. A worked example: a weave order, from a host's bytes to lines for people. It parses the description once, decodes each row with its columns,
-// and says a refusal by its number. The bytes are those of samples/, whose README.md says what each column is.
+// Program. A worked example: a weave order, from a host's bytes to lines for people. It parses the description once, decodes each row with its columns and
+// the host's release, and says a refusal by its number. The bytes are those of samples/, whose README.md says what each column is.
 use printing::Line;
 use refusal::Outcome;
 use types::Columns;
@@ -26,6 +26,10 @@ const ROW: [u8; 67] = *b"\xFF\x00\
     2026-12-01\
     \x00\x00\x0Efringe\tby hand\
     \x3F\xB9\x99\x99\x99\x99\x99\x9A";
+
+// The host's release, which its operator knows; nothing in the bytes says it. It decides on texts whose CCSID the library has no conversion for: 2 guesses by
+// their bytes, 3 takes them for code page 037. The texts here are of CCSID 37 and 1208, so that 3 would print the same.
+const RELEASE: u32 = 2;
 
 // The bytes of a text lie in the text buffer; value_bytes shows them. A number's bits are the second of its words.
 fn print_value<'a>(name: &[u8], v: ValuePlace, row: &'a [u8], text: &'a [u8]) {
@@ -78,7 +82,7 @@ fn print_refusal(outcome: Outcome) {
 // Where the texts need more than 256 bytes, refusal 9 says how many.
 fn print_row(columns: Columns, row: &[u8]) {
     let mut text = [0u8; 256];
-    let answer = row::decode_row(row, columns, &mut text);
+    let answer = row::decode_row(row, columns, RELEASE, &mut text);
     let outcome = answer.outcome;
     match outcome {
         Outcome::Accepted => print_order(answer, row, &text),

@@ -1,4 +1,5 @@
 //! The command line of the programs that compare, and what they print.
+use crate::releases::PORTED;
 use crate::run::{End, Until};
 use port::column::NAMES;
 use std::process::ExitCode;
@@ -22,13 +23,15 @@ pub fn counted(answers: &[(u64, &str)], by_name: &[u64; NAMES.len()]) -> Vec<(u6
         .collect()
 }
 
-/// Reads the command line, makes the run, prints the report. The status says whether a difference was found.
+/// Reads the command line, makes the run, prints the report. The status says whether a difference was found. `releases` are those that a run may be made for; a
+/// program without any takes none.
 pub fn main<F>(
     program: &str,
+    releases: &[u32],
     named: impl Fn(&str) -> Result<F, String>,
-    run: impl FnOnce(Until, u64, Option<F>) -> Report,
+    run: impl FnOnce(&Options<F>) -> Report,
 ) -> ExitCode {
-    let Options { until, seed, fault } = match options(program, std::env::args().skip(1), named) {
+    let options = match options(program, releases, std::env::args().skip(1), named) {
         Ok(options) => options,
         Err(message) => {
             eprintln!("{program}: {message}");
@@ -36,40 +39,55 @@ pub fn main<F>(
         }
     };
     let start = Instant::now();
-    let Report { counts, cases, end } = run(until, seed, fault);
+    let Report { counts, cases, end } = run(&options);
     let seconds = start.elapsed().as_secs_f64();
+    let seed = options.seed;
+    let release = match options.release {
+        PORTED => String::new(),
+        other => format!("release {other}, "),
+    };
     for (count, counted) in counts {
         println!("{:>15} {counted}", grouped(count));
     }
     match end {
         End::Enough => {
-            println!("{cases:>15}, none different (seed {seed}, {seconds:.1} s)");
+            println!("{cases:>15}, none different ({release}seed {seed}, {seconds:.1} s)");
             ExitCode::SUCCESS
         }
         End::Different(difference) => {
-            println!("{cases:>15}, the last different (seed {seed}, {seconds:.1} s)");
+            println!("{cases:>15}, the last different ({release}seed {seed}, {seconds:.1} s)");
             println!("{difference}");
             ExitCode::FAILURE
         }
     }
 }
 
-struct Options<F> {
-    until: Until,
-    seed: u64,
-    fault: Option<F>,
+/// What a command line asks for.
+pub struct Options<F> {
+    pub until: Until,
+    pub seed: u64,
+    pub release: u32,
+    pub fault: Option<F>,
 }
 
-/// Reads `SECONDS [SEED]` or `--cases N [--seed S]`, and `--fault NAME` beside them; `named` finds the fault.
+/// Reads `SECONDS [SEED]` or `--cases N [--seed S]`, and `--release N` and `--fault NAME` beside them; `named` finds the fault.
 fn options<F>(
     program: &str,
+    releases: &[u32],
     mut arguments: impl Iterator<Item = String>,
     named: impl Fn(&str) -> Result<F, String>,
 ) -> Result<Options<F>, String> {
-    let usage = || format!("usage: {program} SECONDS [SEED] | {program} --cases N [--seed S]");
+    let usage = || {
+        let release = match releases {
+            [] => "",
+            _ => ", and --release 3 beside either",
+        };
+        format!("usage: {program} SECONDS [SEED] | {program} --cases N [--seed S]{release}")
+    };
     let number = |argument: &str| argument.parse().map_err(|_| usage());
     let mut until = None;
     let mut seed = None;
+    let mut release = None;
     let mut fault = None;
     while let Some(argument) = arguments.next() {
         let mut value = || arguments.next().ok_or_else(usage);
@@ -77,6 +95,13 @@ fn options<F>(
             "--cases" => until = Some(Until::Cases(number(&value()?)?)),
             "--seed" => seed = Some(number(&value()?)?),
             "--fault" => fault = Some(named(&value()?)?),
+            "--release" => {
+                let stated = number(&value()?)? as u32;
+                release = Some(stated);
+                if !releases.contains(&stated) {
+                    return Err(usage());
+                }
+            }
             _ if until.is_none() => {
                 let seconds = Duration::from_secs(number(&argument)?);
                 until = Some(Until::Time(Instant::now() + seconds));
@@ -88,6 +113,7 @@ fn options<F>(
     Ok(Options {
         until: until.ok_or_else(usage)?,
         seed: seed.unwrap_or(1),
+        release: release.unwrap_or(PORTED),
         fault,
     })
 }

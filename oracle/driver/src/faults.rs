@@ -5,6 +5,7 @@ use crate::blocks::model::{
 use crate::leaf::{Leaf, TEXT_LIMIT};
 use crate::packed_whole::model::{self, Misread, Model};
 use crate::port_side::{ample, Archive, Library};
+use crate::releases::faults::{Mistake, MISTAKES};
 use crate::replaced::Reading;
 use port::{Outcome, PackedWhole};
 
@@ -78,6 +79,8 @@ pub enum Fault {
     Shown(Unseen),
     /// A packed decimal is misread as a whole number.
     Misread(Misread),
+    /// A host's release is taken wrong.
+    Release(Mistake),
 }
 
 const FAULTS: [Fault; 30] = [
@@ -124,6 +127,7 @@ fn of_texts() -> Vec<Fault> {
     all.extend(DROPPED.map(Fault::Block));
     all.extend(MISCOUNTS.map(Fault::Units));
     all.extend(UNSEEN.map(Fault::Shown));
+    all.extend(MISTAKES.map(Fault::Release));
     all
 }
 
@@ -182,19 +186,18 @@ impl Faulty {
     fn is_in_text(&self, leaf: Leaf, data: &[u8]) -> bool {
         match self.0 {
             Fault::WrongByte => data.len() >= 5,
-            Fault::MoreReplacements | Fault::FewerReplacements => matches!(
-                leaf,
-                Leaf::Character { ccsid: 1208 } | Leaf::Graphic { ccsid: 1200 }
-            ),
+            Fault::MoreReplacements | Fault::FewerReplacements => {
+                leaf == Leaf::character(1208) || leaf == Leaf::graphic(1200)
+            }
             Fault::MinusZero => matches!(leaf, Leaf::Decimal { .. }),
             Fault::PrecisionUsed => matches!(leaf, Leaf::Decimal { precision: 0, .. }),
-            Fault::Own500 => leaf == Leaf::Character { ccsid: 500 },
-            Fault::No13488 => leaf == Leaf::Graphic { ccsid: 13488 },
+            Fault::Own500 => leaf == Leaf::character(500),
+            Fault::No13488 => leaf == Leaf::graphic(13488),
             Fault::LowerRowId => leaf == Leaf::RowId,
             Fault::LocatorBeginning => leaf == Leaf::Locator,
-            Fault::LastCut => leaf == Leaf::Character { ccsid: 37 } && data.len() > 64,
-            Fault::HighUnseen => leaf == Leaf::Character { ccsid: 0 },
-            Fault::Block(_) => leaf == Leaf::Character { ccsid: 1208 },
+            Fault::LastCut => leaf == Leaf::character(37) && data.len() > 64,
+            Fault::HighUnseen => leaf == Leaf::character(0),
+            Fault::Block(_) => leaf == Leaf::character(1208),
             _ => false,
         }
     }
@@ -214,7 +217,7 @@ impl Faulty {
             Fault::MinusZero if text == b"-0" => text = b"0".to_vec(),
             Fault::PrecisionUsed => text = b"0".to_vec(),
             Fault::Own500 => text = whole(leaf, &exchanged(data, 0x4A, 0xBA))?,
-            Fault::No13488 => text = whole(Leaf::Character { ccsid: 13488 }, data)?,
+            Fault::No13488 => text = whole(Leaf::character(13488), data)?,
             Fault::LowerRowId => text.make_ascii_lowercase(),
             Fault::LocatorBeginning => text[4] = b'L',
             Fault::LastCut if text.last().is_some_and(|byte| !byte.is_ascii()) => drop(text.pop()),
@@ -251,7 +254,7 @@ impl Faulty {
         let Fault::Units(miscount) = self.0 else {
             return None;
         };
-        let units = leaf == Leaf::Graphic { ccsid: 1200 } && data.len().is_multiple_of(2);
+        let units = leaf == Leaf::graphic(1200) && data.len().is_multiple_of(2);
         if !units || text.len() >= ample(data.len()) {
             return None;
         }
@@ -295,6 +298,9 @@ impl Faulty {
 
 impl Library for Faulty {
     fn write(&self, leaf: Leaf, data: &[u8], text: &mut [u8]) -> Outcome {
+        if let Fault::Release(mistake) = self.0 {
+            return mistake.write(leaf, data, text);
+        }
         if let Some(outcome) = self.wrong_limit(leaf, data, text) {
             return outcome;
         }
@@ -339,6 +345,7 @@ mod tests {
     use super::*;
     use crate::blocks::inputs;
     use crate::compare::{Run, Stage};
+    use crate::releases::{BY_037, PORTED};
     use crate::run::{Difference, Until};
     use std::ops::ControlFlow::Continue;
 
@@ -351,12 +358,23 @@ mod tests {
             Fault::Block(_) | Fault::Shown(_) => Stage::Utf8Blocks,
             Fault::Units(_) => Stage::Utf16Blocks,
             Fault::LastCut | Fault::HighUnseen => Stage::ByteBlocks,
+            Fault::Release(mistake) if mistake.is_of_number() => Stage::Unknown,
             _ => Stage::Short,
         }
     }
 
+    /// The release of the run that can notice a fault.
+    fn release(fault: Fault) -> u32 {
+        match fault {
+            Fault::Release(Mistake::Always3) => PORTED,
+            Fault::Release(_) => BY_037,
+            _ => PORTED,
+        }
+    }
+
     fn found(fault: Fault) -> Difference {
-        let mut run = Run::new(Faulty(fault), 1, Until::Cases(10_000_000));
+        let until = Until::Cases(10_000_000);
+        let mut run = Run::new(Faulty(fault), 1, until, release(fault));
         let difference = run.from(stage(fault)).difference();
         difference.unwrap_or_else(|| panic!("{fault:?} was not noticed"))
     }
@@ -395,6 +413,25 @@ mod tests {
             Fault::Units(_) => "G 1200 0000",
             Fault::Shown(_) => "L ",
             Fault::Misread(_) => "w ",
+            Fault::Release(mistake) => match mistake {
+                Mistake::Ignored | Mistake::CharactersGuessed => "t 3 1200 04 A 04 0",
+                Mistake::Always3 => "T 1200 04 A C29C",
+                Mistake::OddGuessed | Mistake::GraphicGuessed => "g 3 1200 04 A 04 0",
+                Mistake::EvenBy037 => "g 3 1200 0000 A 0000 0",
+                Mistake::OnlyZero | Mistake::OneByteGuessed => "t 3 1200 04 A 04 0",
+                Mistake::Latin1By037 => "t 3 819 04 A C29C 0",
+                Mistake::AfterLimit => "t 0 1208 000000",
+                Mistake::AfterNine => "t 0 1208 00 A BAD9",
+                Mistake::EmptyTaken => "t 0 1208 - A - 0",
+                Mistake::CutTo8 => "t 258 1208 - A - 0",
+                Mistake::CutTo16 => "t 65538 1208 - A - 0",
+                Mistake::CutTo31 => "t 2147483650 1208 - A - 0",
+                Mistake::LargerTaken => "t 4 1208 - A - 0",
+                Mistake::SmallerTaken => "t 0 1208 - A - 0",
+                Mistake::WithLength => "t 0 1208 00 A BAD9",
+                Mistake::WithCount => "t 0 1208 - A BAD9",
+                Mistake::Changed => "t 0 1208 - A BADREST",
+            },
         }
     }
 
@@ -446,6 +483,7 @@ mod tests {
         match fault {
             Fault::LimitEarly => Some(TEXT_LIMIT),
             Fault::LimitLate | Fault::LimitWithCount => Some(TEXT_LIMIT + 1),
+            Fault::Release(Mistake::AfterLimit) => Some(TEXT_LIMIT + 1),
             Fault::DecimalLimitEarly => Some(128),
             Fault::HighUnseen => Some(1024),
             Fault::Block(Dropped::Again) => Some(66),
@@ -462,7 +500,7 @@ mod tests {
         let mut right = |leaf: Leaf, data: &[u8]| {
             let text = || whole(leaf, data).expect("no text is too long");
             match leaf {
-                Leaf::Character { ccsid: 1208 } => assert_eq!(Utf8(None).text(data), text()),
+                Leaf::Character { ccsid: 1208, .. } => assert_eq!(Utf8(None).text(data), text()),
                 Leaf::Graphic { .. } if data.len().is_multiple_of(2) => {
                     assert_eq!(Utf16(None).length(data), text().len());
                 }

@@ -2,6 +2,7 @@
 use crate::leaf::{Leaf, PRECISION, TEXT_LIMIT};
 use crate::packed_whole::inputs::{digits_of, packed as packed_digits};
 use crate::random::Random;
+use crate::releases::{BY_037, PORTED};
 use crate::run::Flow;
 
 /// Takes a case: a call and its bytes.
@@ -9,6 +10,20 @@ pub type Case<'a> = &'a mut dyn FnMut(Leaf, &[u8]) -> Flow;
 
 /// A CCSID of each class, and some that have no meaning here.
 pub const CCSIDS: [u16; 10] = [1208, 819, 37, 500, 1200, 13488, 0, 1252, 850, 65535];
+
+/// The same where the release is what matters: most of them are unnamed.
+const CCSIDS_BY_037: [u16; 8] = [1208, 819, 37, 1200, 13488, 0, 273, 65535];
+
+/// Unnamed ones, of Germany, Norway, Britain and Japan among them.
+const UNNAMED: [u16; 9] = [0, 273, 277, 285, 300, 1140, 1200, 13488, 65535];
+
+/// CCSIDs to ask about by rule at a release.
+pub fn ccsids(release: u32) -> &'static [u16] {
+    match release {
+        BY_037 => &CCSIDS_BY_037,
+        _ => &CCSIDS,
+    }
+}
 
 /// Neighbours of the CCSIDs that have a meaning, and numbers that agree with one in their low byte.
 const NEAR_CCSIDS: [u16; 18] = [
@@ -102,26 +117,44 @@ pub const LONG_LENGTHS: [usize; 3] = [4095, 4096, 4097];
 
 pub const LIMIT_LENGTHS: [usize; 3] = [TEXT_LIMIT - 1, TEXT_LIMIT, TEXT_LIMIT + 1];
 
-/// Every kind of call, each with every class of its number.
-pub fn leaves() -> Vec<Leaf> {
+/// Every kind of call, each with every class of its number. Above release 2 only those that state a release: the others have been asked about.
+pub fn leaves(release: u32) -> Vec<Leaf> {
     let mut all = Vec::new();
-    all.extend(CCSIDS.map(|ccsid| Leaf::Character { ccsid }));
-    all.extend(CCSIDS.map(|ccsid| Leaf::Graphic { ccsid }));
+    let ccsids = ccsids(release).iter();
+    all.extend(
+        ccsids
+            .clone()
+            .map(|ccsid| Leaf::character(*ccsid).at(release)),
+    );
+    all.extend(ccsids.map(|ccsid| Leaf::graphic(*ccsid).at(release)));
+    if release != PORTED {
+        return all;
+    }
     all.extend(SCALES.map(Leaf::decimal));
     all.extend(WHOLE_SCALES.map(|scale| Leaf::PackedWhole { scale }));
     all.extend([Leaf::Likely, Leaf::Locator, Leaf::RowId]);
     all
 }
 
-/// Any call; those whose code has most to decide come most often.
-pub fn random_leaf(random: &mut Random) -> Leaf {
-    match random.below(20) {
-        0..=4 => Leaf::Character {
-            ccsid: random_ccsid(random),
-        },
-        5..=8 => Leaf::Graphic {
-            ccsid: random_ccsid(random),
-        },
+/// Whether a call is asked about inputs at the limit.
+pub fn is_long(leaf: Leaf) -> bool {
+    match leaf {
+        Leaf::Character { ccsid, release } | Leaf::Graphic { ccsid, release } => {
+            release == PORTED || matches!(ccsid, 0 | 1200)
+        }
+        _ => true,
+    }
+}
+
+/// Any call; those whose code has most to decide come most often. Above release 2 one that states a release.
+pub fn random_leaf(random: &mut Random, release: u32) -> Leaf {
+    let end = match release {
+        PORTED => 20,
+        _ => 9,
+    };
+    match random.below(end) {
+        0..=4 => Leaf::character(random_ccsid(random, release)).at(release),
+        5..=8 => Leaf::graphic(random_ccsid(random, release)).at(release),
         9..=10 => Leaf::Likely,
         11..=13 => Leaf::Decimal {
             precision: random.pick(&PRECISIONS),
@@ -135,7 +168,10 @@ pub fn random_leaf(random: &mut Random) -> Leaf {
     }
 }
 
-pub fn random_ccsid(random: &mut Random) -> u16 {
+pub fn random_ccsid(random: &mut Random, release: u32) -> u16 {
+    if release == BY_037 && !random.one_in(4) {
+        return random.pick(&UNNAMED);
+    }
     match random.below(16) {
         0..=4 => 1208,
         5..=12 => random.pick(&CCSIDS),
@@ -174,6 +210,8 @@ pub enum Style {
     Ascii,
     AsciiWithEdges,
     AsciiWithOneHigh,
+    /// Of code page 037, alone or among letters. Alone they are `@` in ASCII.
+    Blanks,
     Utf8,
     DamagedUtf8,
     Utf16,
@@ -203,7 +241,7 @@ pub fn random_style(random: &mut Random, leaf: Leaf) -> Style {
         return random.pick(&STYLES);
     }
     match leaf {
-        Leaf::Character { ccsid: 1208 } | Leaf::Likely => random.pick(&[
+        Leaf::Character { ccsid: 1208, .. } | Leaf::Likely => random.pick(&[
             Style::Utf8,
             Style::DamagedUtf8,
             Style::DamagedUtf8,
@@ -211,7 +249,28 @@ pub fn random_style(random: &mut Random, leaf: Leaf) -> Style {
         ]),
         Leaf::Graphic {
             ccsid: 1200 | 13488,
-        } => random.pick(&[Style::Utf16, Style::DamagedUtf16, Style::DamagedUtf16]),
+            release,
+        } => match release {
+            PORTED => random.pick(&[Style::Utf16, Style::DamagedUtf16, Style::DamagedUtf16]),
+            _ => random.pick(&[
+                Style::Utf16,
+                Style::DamagedUtf16,
+                Style::Ascii,
+                Style::Blanks,
+            ]),
+        },
+        Leaf::Character {
+            release: BY_037, ..
+        }
+        | Leaf::Graphic {
+            release: BY_037, ..
+        } => random.pick(&[
+            Style::Ascii,
+            Style::Blanks,
+            Style::AsciiWithOneHigh,
+            Style::AsciiWithEdges,
+            Style::Uniform,
+        ]),
         Leaf::Character { .. } | Leaf::Graphic { .. } => random.pick(&[
             Style::Ascii,
             Style::AsciiWithOneHigh,
@@ -246,6 +305,13 @@ pub fn fill(random: &mut Random, style: Style, length: usize, data: &mut Vec<u8>
                 let place = random.below(length);
                 data[place] |= 0x80;
             }
+        }
+        Style::Blanks => {
+            let letters = random.one_in(2);
+            data.extend((0..length).map(|_| match random.below(4) {
+                0 if letters => 0x81 + random.byte() % 9,
+                _ => 0x40,
+            }));
         }
         Style::Utf8 | Style::DamagedUtf8 => {
             while data.len() < length {
@@ -372,8 +438,8 @@ mod tests {
     fn every_style_gives_the_length_that_is_asked_for() {
         let mut random = Random::new(1);
         let mut data = Vec::new();
-        let whole = [Style::PackedWhole, Style::DamagedPackedWhole];
-        for style in STYLES.into_iter().chain(whole) {
+        let others = [Style::Blanks, Style::PackedWhole, Style::DamagedPackedWhole];
+        for style in STYLES.into_iter().chain(others) {
             for length in (0..70).chain(LONG_LENGTHS) {
                 fill(&mut random, style, length, &mut data);
                 assert_eq!(data.len(), length, "{style:?}");

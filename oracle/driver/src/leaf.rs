@@ -1,4 +1,5 @@
 //! The conversions of single texts and numbers, and what they answer.
+use crate::releases::PORTED;
 use std::borrow::Cow;
 
 /// Bytes that a conversion called alone accepts (refusal 4 above it).
@@ -10,11 +11,11 @@ pub const DECIMAL_LIMIT: usize = 128;
 /// The precision that a `P` line passes. It takes no part in the text.
 pub const PRECISION: u8 = 31;
 
-/// A call, without its bytes. PackedWhole reads a packed decimal as a whole number.
+/// A call, without its bytes. The two that convert by CCSID state the host's release. PackedWhole reads a packed decimal as a whole number.
 #[derive(Debug, Clone, Copy, PartialEq, Eq)]
 pub enum Leaf {
-    Character { ccsid: u16 },
-    Graphic { ccsid: u16 },
+    Character { ccsid: u16, release: u32 },
+    Graphic { ccsid: u16, release: u32 },
     Likely,
     Decimal { precision: u8, scale: u8 },
     PackedWhole { scale: u8 },
@@ -44,6 +45,39 @@ impl Leaf {
             Leaf::PackedWhole { .. } => 4,
             Leaf::Locator => 5,
             Leaf::RowId => 6,
+        }
+    }
+
+    /// Characters at the release at which the port answers as the Rust does.
+    pub const fn character(ccsid: u16) -> Leaf {
+        Leaf::Character {
+            ccsid,
+            release: PORTED,
+        }
+    }
+
+    /// The same of a graphic value.
+    pub const fn graphic(ccsid: u16) -> Leaf {
+        Leaf::Graphic {
+            ccsid,
+            release: PORTED,
+        }
+    }
+
+    /// The same call at another release, where it states one.
+    pub fn at(self, release: u32) -> Leaf {
+        match self {
+            Leaf::Character { ccsid, .. } => Leaf::Character { ccsid, release },
+            Leaf::Graphic { ccsid, .. } => Leaf::Graphic { ccsid, release },
+            _ => self,
+        }
+    }
+
+    /// The release that the call states, if it does.
+    pub fn release(self) -> Option<u32> {
+        match self {
+            Leaf::Character { release, .. } | Leaf::Graphic { release, .. } => Some(release),
+            _ => None,
         }
     }
 

@@ -4,6 +4,7 @@
 //! - `request`: the line format of requests and answers
 //! - `rust_side`, `port_side`: the two that answer
 //! - `replaced`: how many characters a conversion replaces, which the Rust does not say
+//! - `releases`: what a host's release changes, which the Rust does not know
 //! - `random`, `inputs`: bytes to ask about
 //! - `blocks`: the same for texts that go by blocks, and a model of what is tested and counted in these
 //! - `packed_whole`: the same for packed decimals as whole numbers, which the Rust does not read so, and what they must be
@@ -35,6 +36,7 @@ pub mod packed_whole;
 pub mod port_side;
 pub mod random;
 pub mod recordings;
+pub mod releases;
 pub mod replaced;
 pub mod request;
 pub mod rows;

@@ -20,8 +20,12 @@ pub struct Archive;
 impl Library for Archive {
     fn write(&self, leaf: Leaf, data: &[u8], text: &mut [u8]) -> Outcome {
         match leaf {
-            Leaf::Character { ccsid } => port::decode_character_bytes(data, ccsid, text),
-            Leaf::Graphic { ccsid } => port::decode_graphic_bytes(data, ccsid, text),
+            Leaf::Character { ccsid, release } => {
+                port::decode_character_bytes(data, ccsid, release, text)
+            }
+            Leaf::Graphic { ccsid, release } => {
+                port::decode_graphic_bytes(data, ccsid, release, text)
+            }
             Leaf::Decimal { precision, scale } => {
                 port::decode_packed_decimal(data, precision, scale, text)
             }

@@ -30,8 +30,8 @@ impl Reading {
 
     pub fn of_leaf(leaf: Leaf, data: &[u8]) -> Reading {
         match leaf {
-            Leaf::Character { ccsid } => Reading::of_characters(ccsid),
-            Leaf::Graphic { ccsid } => Reading::of_graphics(ccsid, data),
+            Leaf::Character { ccsid, .. } => Reading::of_characters(ccsid),
+            Leaf::Graphic { ccsid, .. } => Reading::of_graphics(ccsid, data),
             _ => Reading::Other,
         }
     }
@@ -94,17 +94,17 @@ mod tests {
     fn other_code_pages_have_nothing_malformed() {
         let data = b"\x80\xFF\xD8\x00";
         for leaf in [
-            Leaf::Character { ccsid: 37 },
-            Leaf::Character { ccsid: 819 },
-            Leaf::Character { ccsid: 1200 },
-            Leaf::Graphic { ccsid: 0 },
+            Leaf::character(37),
+            Leaf::character(819),
+            Leaf::character(1200),
+            Leaf::graphic(0),
             Leaf::Locator,
             Leaf::RowId,
             Leaf::decimal(2),
         ] {
             assert_eq!(Reading::of_leaf(leaf, data).replaced(data), 0, "{leaf:?}");
         }
-        let graphic = Leaf::Graphic { ccsid: 1208 };
+        let graphic = Leaf::graphic(1208);
         assert_eq!(Reading::of_leaf(graphic, data).replaced(data), 3);
     }
 }

@@ -3,6 +3,7 @@
 //! case asks for all that the port answers, also what the Rust lacks, and its columns have their origins; where it writes a byte so, the answer does too. Other
 //! answers never do.
 use crate::leaf::{Answer, Leaf, PRECISION};
+use crate::releases::PORTED;
 use port::column::{Column, Name, Numbers, Order, Origin, Type, NAMES};
 use std::fmt;
 
@@ -24,13 +25,11 @@ impl Form {
         }
     }
 
-    /// A request's line in this form.
-    pub fn of(self, line: String) -> String {
-        match (self, line.split_once(' ')) {
-            (Form::Whole, Some((kind @ ("T" | "G" | "Q" | "H"), rest))) => {
-                format!("{} {RELEASE} {rest}", kind.to_lowercase())
-            }
-            _ => line,
+    /// How the line of a request begins that states a release; one in upper case asks at release 2.
+    fn kind(self, letter: char, release: u32) -> String {
+        match self {
+            Form::Shared => letter.to_string(),
+            Form::Whole => format!("{} {release}", letter.to_ascii_lowercase()),
         }
     }
 
@@ -43,9 +42,6 @@ impl Form {
     }
 }
 
-/// The host release that a line in lower case states. There is no other yet.
-const RELEASE: &str = "2";
-
 /// What a line asks.
 #[derive(Debug, Clone, PartialEq, Eq)]
 pub enum Request {
@@ -53,6 +49,7 @@ pub enum Request {
     Description {
         data: Vec<u8>,
         row: Vec<u8>,
+        release: u32,
     },
     /// A description that is to be whole. There is no such line in upper case.
     WholeDescription(Vec<u8>),
@@ -60,6 +57,7 @@ pub enum Request {
     Row {
         columns: Vec<Column>,
         data: Vec<u8>,
+        release: u32,
     },
     FixedLength(Type),
 }
@@ -75,16 +73,17 @@ pub struct Call {
 pub fn parse(line: &str) -> Result<(Form, Request), String> {
     let asked = asked(line);
     let fields: Vec<&str> = asked.split(' ').collect();
-    let of_kind = |kind, rest: &[&str]| {
+    // Any number of 32 bits may be stated: those that are no release are refused by an answer.
+    let of_kind = |kind, release: &str, rest: &[&str]| {
         let fields = [&[kind], rest].concat();
-        Ok((Form::Whole, request(Form::Whole, asked, &fields)?))
+        let request = request(Form::Whole, number(release)?, asked, &fields)?;
+        Ok((Form::Whole, request))
     };
     match fields[..] {
-        ["t", RELEASE, ref rest @ ..] => of_kind("T", rest),
-        ["g", RELEASE, ref rest @ ..] => of_kind("G", rest),
-        ["q", RELEASE, ref rest @ ..] => of_kind("Q", rest),
-        ["h", RELEASE, ref rest @ ..] => of_kind("H", rest),
-        ["t" | "g" | "q" | "h", ..] => Err(format!("no release that is answered: {}", cut(asked))),
+        ["t", release, ref rest @ ..] => of_kind("T", release, rest),
+        ["g", release, ref rest @ ..] => of_kind("G", release, rest),
+        ["q", release, ref rest @ ..] => of_kind("Q", release, rest),
+        ["h", release, ref rest @ ..] => of_kind("H", release, rest),
         // A description has no release, and a packed decimal has none.
         ["n", data] => {
             let data = bytes_or_repeated(data)?;
@@ -94,27 +93,31 @@ pub fn parse(line: &str) -> Result<(Form, Request), String> {
             let scale = number(scale)?;
             Ok((Form::Whole, call(Leaf::PackedWhole { scale }, data)?))
         }
-        ["n" | "w", ..] => Err(wrong_fields(asked)),
-        _ => Ok((Form::Shared, request(Form::Shared, asked, &fields)?)),
+        ["t" | "g" | "q" | "h" | "n" | "w", ..] => Err(wrong_fields(asked)),
+        _ => {
+            let request = request(Form::Shared, PORTED, asked, &fields)?;
+            Ok((Form::Shared, request))
+        }
     }
 }
 
-/// What fields ask, those of a line in lower case with its kind in upper case and without its release; `asked` is their line.
-fn request(form: Form, asked: &str, fields: &[&str]) -> Result<Request, String> {
+/// What fields ask at a release, those of a line in lower case with its kind in upper case and without the release; `asked` is their line.
+fn request(form: Form, release: u32, asked: &str, fields: &[&str]) -> Result<Request, String> {
     match *fields {
         ["T", ccsid, data] => {
             let ccsid = number(ccsid)?;
-            call(Leaf::Character { ccsid }, data)
+            call(Leaf::Character { ccsid, release }, data)
         }
         ["G", ccsid, data] => {
             let ccsid = number(ccsid)?;
-            call(Leaf::Graphic { ccsid }, data)
+            call(Leaf::Graphic { ccsid, release }, data)
         }
         ["L", data] => call(Leaf::Likely, data),
         ["P", scale, data] => call(Leaf::decimal(number(scale)?), data),
         ["Q", data, "R", row] => Ok(Request::Description {
             data: bytes_or_repeated(data)?,
             row: bytes_or_repeated(row)?,
+            release,
         }),
         ["H", count, ref columns @ .., "R", data] if number::<usize>(count)? == columns.len() => {
             let columns: Result<Vec<Column>, String> = columns
@@ -125,6 +128,7 @@ fn request(form: Form, asked: &str, fields: &[&str]) -> Result<Request, String> 
             Ok(Request::Row {
                 columns: columns?,
                 data: bytes_or_repeated(data)?,
+                release,
             })
         }
         ["F", asked] => Ok(Request::FixedLength(type_of(asked)?)),
@@ -349,16 +353,24 @@ impl fmt::Display for Hex<'_> {
 impl Request {
     /// The request's line in a form.
     pub fn shown(&self, form: Form) -> String {
-        form.of(match self {
-            Request::Leaf(call) => call.to_string(),
-            Request::Description { data, row } => format!("Q {} R {}", Hex(data), Hex(row)),
+        match self {
+            Request::Leaf(call) => call.shown(form),
+            Request::Description { data, row, release } => {
+                format!("{} {} R {}", form.kind('Q', *release), Hex(data), Hex(row))
+            }
             Request::WholeDescription(data) => format!("n {}", Hex(data)),
-            Request::Row { columns, data } => {
+            Request::Row {
+                columns,
+                data,
+                release,
+            } => {
+                let kind = form.kind('H', *release);
                 let count = columns.len();
-                format!("H {count}{} R {}", columns_shown(form, columns), Hex(data))
+                let columns = columns_shown(form, columns);
+                format!("{kind} {count}{columns} R {}", Hex(data))
             }
             Request::FixedLength(asked) => format!("F {asked}"),
-        })
+        }
     }
 }
 
@@ -368,24 +380,29 @@ pub fn columns_shown(form: Form, columns: &[Column]) -> String {
     columns.map(|column| " ".to_string() + &column).collect()
 }
 
-impl fmt::Display for Call {
-    fn fmt(&self, f: &mut fmt::Formatter<'_>) -> fmt::Result {
+impl Call {
+    /// The call's line in a form.
+    pub fn shown(&self, form: Form) -> String {
         let data = Hex(&self.data);
         match self.leaf {
-            Leaf::Character { ccsid } => write!(f, "T {ccsid} {data}"),
-            Leaf::Graphic { ccsid } => write!(f, "G {ccsid} {data}"),
-            Leaf::Likely => write!(f, "L {data}"),
+            Leaf::Character { ccsid, release } => {
+                format!("{} {ccsid} {data}", form.kind('T', release))
+            }
+            Leaf::Graphic { ccsid, release } => {
+                format!("{} {ccsid} {data}", form.kind('G', release))
+            }
+            Leaf::Likely => format!("L {data}"),
             Leaf::Decimal {
                 precision: PRECISION,
                 scale,
-            } => write!(f, "P {scale} {data}"),
+            } => format!("P {scale} {data}"),
             // The format has no line for these: the call is named, so that no one takes it for a request.
             Leaf::Decimal { precision, scale } => {
-                write!(f, "decode_packed_decimal({data}, {precision}, {scale})")
+                format!("decode_packed_decimal({data}, {precision}, {scale})")
             }
-            Leaf::PackedWhole { scale } => write!(f, "w {scale} {data}"),
-            Leaf::Locator => write!(f, "format_lob_locator({data})"),
-            Leaf::RowId => write!(f, "format_rowid({data})"),
+            Leaf::PackedWhole { scale } => format!("w {scale} {data}"),
+            Leaf::Locator => format!("format_lob_locator({data})"),
+            Leaf::RowId => format!("format_rowid({data})"),
         }
     }
 }
@@ -427,13 +444,21 @@ mod tests {
     fn requests_come_back_as_they_were() {
         for line in [
             "t 2 1208 C141",
+            "t 3 1208 C141",
+            "t 0 1208 C141",
+            "t 258 1208 C141",
+            "t 4294967295 1208 C141",
             "g 2 13488 -",
+            "g 3 13488 -",
             "q 2 0576D00500 R -",
+            "q 65538 0576D00500 R -",
             "n 0676D00502",
             "n -",
             "w 2 12345D",
             "w 255 -",
             "h 2 0 R -",
+            "h 3 0 R -",
+            "h 1 0 R -",
             "h 2 1 Blob:C8:32768:0:0:0:0:0:L:S R -",
             "h 2 1 Integer:02:4:0:0:0:0:-:B:U R 0000002A",
             "h 2 3 Char.3:31:3:0:0:1:37:65535:L:D Xml:DC:0:0:0:0:0:-:B:S Xml:DC:0:0:0:0:0:-:L:U R -",
@@ -463,6 +488,9 @@ mod tests {
         assert_eq!(again("F Time A 8"), "F Time");
         assert_eq!(again("H 0 R 00 A OK 0 - 0"), "H 0 R 00");
         assert_eq!(again("t 2 1208 C1 A EFBFBD 1"), "t 2 1208 C1");
+        assert_eq!(again("t 3 1047 40 A 20 0"), "t 3 1047 40");
+        assert_eq!(again("g 4 1047 40 A REFUSE22"), "g 4 1047 40");
+        assert_eq!(again("q 4 - R 00 C 0 whole A REFUSE22"), "q 4 - R 00");
         assert_eq!(again("q 2 - R 00 C 0 whole A OK 0 - 0 0"), "q 2 - R 00");
         assert_eq!(again("q 2 00 R 00 C 0 broken A OK 0 - 0 0"), "q 2 00 R 00");
         assert_eq!(again("n 0676D00502 A REFUSE15"), "n 0676D00502");
@@ -487,6 +515,27 @@ mod tests {
             let line = format!("Q 0570DC0000 R 00 {answer}");
             assert_eq!(again(&line), "Q 0570DC0000 R 00");
         }
+    }
+
+    /// The release of a request: of a line in upper case it is the Rust's.
+    #[test]
+    fn lines_state_the_release() {
+        let release = |line: &str| match parse(line).unwrap() {
+            (_, Request::Leaf(call)) => call.leaf.release(),
+            (_, Request::Description { release, .. } | Request::Row { release, .. }) => {
+                Some(release)
+            }
+            _ => None,
+        };
+        assert_eq!(release("T 1208 -"), Some(2));
+        assert_eq!(release("G 1200 -"), Some(2));
+        assert_eq!(release("Q - R -"), Some(2));
+        assert_eq!(release("H 0 R -"), Some(2));
+        assert_eq!(release("t 3 1208 -"), Some(3));
+        assert_eq!(release("g 258 1200 -"), Some(258));
+        assert_eq!(release("q 4294967295 - R -"), Some(u32::MAX));
+        assert_eq!(release("h 0 0 R -"), Some(0));
+        assert_eq!(release("w 3 1C"), None);
     }
 
     /// The origins of a request's columns: those of a line in upper case are SDAs'.
@@ -598,8 +647,17 @@ mod tests {
             "F Decimal.256.0",
             "t",
             "t 1208 C1",
-            "t 3 1208 C1",
             "t 02 1208 C1",
+            "t 03 1208 C1",
+            "t +3 1208 C1",
+            "t -1 1208 C1",
+            "t 3.0 1208 C1",
+            "t 0x3 1208 C1",
+            "t - 1208 C1",
+            "t  1208 C1",
+            "t 4294967296 1208 C1",
+            "t 4294967298 1208 C1",
+            "T 3 1208 C1",
             "t 2 1208",
             "t 2 1208 C1 1",
             "g 2 C1",
@@ -632,7 +690,10 @@ mod tests {
             "h 2 1 Xml:DC:0:0:0:0:0:-:S:L R -",
             "h 2 1 Xml:DC:0:0:0:0:0:-:S R -",
             "h 2 1 R -",
-            "h 1 0 R -",
+            "h 2 R -",
+            "h 0 R -",
+            "h 4294967296 0 R -",
+            "q 4294967296 - R -",
             "l 2 00",
             "l 00",
             "p 2 0 1C",

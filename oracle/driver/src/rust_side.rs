@@ -1,14 +1,22 @@
 //! The answers of the published Rust. It has no limits of its own: those of the port are applied here, before it is asked. Nor does it count
-//! characters replaced, or read a packed decimal as a number: `replaced` and `packed_whole` do.
+//! characters replaced, or read a packed decimal as a number: `replaced` and `packed_whole` do. Nor has it releases: at release 3 it is asked with the CCSID that
+//! `releases` gives.
 use crate::leaf::{Answer, Leaf, DECIMAL_LIMIT, TEXT_LIMIT};
 use crate::packed_whole;
+use crate::releases;
 use crate::replaced::Reading;
 use db2_proto::fdoca::exposed;
 use db2_proto::types::decode_packed_decimal;
 
-/// The refusal that the limits give, if any.
+/// The refusal that the release and the limits give, if any.
 fn refused(leaf: Leaf, data: &[u8]) -> Option<u32> {
     match leaf {
+        _ if leaf
+            .release()
+            .is_some_and(|release| !releases::is_known(release)) =>
+        {
+            Some(22)
+        }
         Leaf::Likely | Leaf::PackedWhole { .. } => None,
         Leaf::Decimal { .. } if data.is_empty() => Some(6),
         Leaf::Decimal { .. } if data.len() > DECIMAL_LIMIT => Some(7),
@@ -21,8 +29,13 @@ fn refused(leaf: Leaf, data: &[u8]) -> Option<u32> {
 /// The text that the Rust gives, without limits (every leaf but Likely and PackedWhole, and no empty packed decimal).
 pub fn text(leaf: Leaf, data: &[u8]) -> String {
     match leaf {
-        Leaf::Character { ccsid } => exposed::decode_character_bytes(data, ccsid),
-        Leaf::Graphic { ccsid } => exposed::decode_graphic_bytes(data, ccsid),
+        Leaf::Character { ccsid, release } => {
+            exposed::decode_character_bytes(data, releases::of_characters(ccsid, release))
+        }
+        Leaf::Graphic { ccsid, release } => {
+            let ccsid = releases::of_graphics(ccsid, release, data.len());
+            exposed::decode_graphic_bytes(data, ccsid)
+        }
         Leaf::Decimal { precision, scale } => decode_packed_decimal(data, precision, scale)
             .expect("the Rust refuses no packed decimal that has a byte"),
         Leaf::Locator => exposed::format_lob_locator(data),
@@ -71,13 +84,21 @@ mod tests {
         let at = vec![0x41; TEXT_LIMIT];
         let above = vec![0x41; TEXT_LIMIT + 1];
         for leaf in [
-            Leaf::Character { ccsid: 1208 },
-            Leaf::Graphic { ccsid: 1200 },
+            Leaf::character(1208),
+            Leaf::graphic(1200),
+            Leaf::character(273).at(releases::BY_037),
             Leaf::Locator,
             Leaf::RowId,
         ] {
             assert!(matches!(answer(leaf, &at), Answer::Text { .. }));
             assert_eq!(answer(leaf, &above), Answer::Refusal(4));
+        }
+        for leaf in [Leaf::character(1208), Leaf::graphic(1200)] {
+            for release in [0, 1, 4, 258, 259, u32::MAX] {
+                for data in [&[][..], &at, &above] {
+                    assert_eq!(answer(leaf.at(release), data), Answer::Refusal(22));
+                }
+            }
         }
         assert_eq!(answer(Leaf::Likely, &above), Answer::Truth(true));
         assert_eq!(answer(Leaf::decimal(0), &[]), Answer::Refusal(6));
@@ -91,12 +112,9 @@ mod tests {
     /// A few of the published rules' own examples: the exposed functions pass on to the right ones.
     #[test]
     fn known_answers() {
-        assert_eq!(
-            text(Leaf::Character { ccsid: 1208 }, &[0xC1, 0x41]),
-            "\u{FFFD}A"
-        );
-        assert_eq!(text(Leaf::Character { ccsid: 37 }, &[0xC1, 0xC2]), "AB");
-        assert_eq!(text(Leaf::Graphic { ccsid: 1200 }, &[0x00, 0x41]), "A");
+        assert_eq!(text(Leaf::character(1208), &[0xC1, 0x41]), "\u{FFFD}A");
+        assert_eq!(text(Leaf::character(37), &[0xC1, 0xC2]), "AB");
+        assert_eq!(text(Leaf::graphic(1200), &[0x00, 0x41]), "A");
         assert_eq!(text(Leaf::Locator, &[0x80]), "LOB locator 0x80");
         assert_eq!(text(Leaf::RowId, &[0x0A]), "0x0A");
         assert_eq!(text(Leaf::decimal(2), &[0x00, 0x5C]), "0.05");

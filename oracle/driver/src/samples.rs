@@ -8,10 +8,10 @@ const CJK: &str = "絨毯の高さは十二ミリです";
 /// Makes a text of so many bytes, or a description of so many columns.
 pub type Maker = fn(&mut Random, usize) -> Vec<u8>;
 
-const UTF8: Leaf = Leaf::Character { ccsid: 1208 };
-const LATIN1: Leaf = Leaf::Character { ccsid: 819 };
-const OTHER: Leaf = Leaf::Character { ccsid: 0 };
-const UTF16: Leaf = Leaf::Graphic { ccsid: 1200 };
+const UTF8: Leaf = Leaf::character(1208);
+const LATIN1: Leaf = Leaf::character(819);
+const OTHER: Leaf = Leaf::character(0);
+const UTF16: Leaf = Leaf::graphic(1200);
 
 /// Every class of texts: its name, the call, and what makes a text.
 pub const CLASSES: [(&str, Leaf, Maker); 18] = [
@@ -21,7 +21,7 @@ pub const CLASSES: [(&str, Leaf, Maker); 18] = [
     ("UTF-8 CJK", UTF8, utf8_cjk),
     ("UTF-8, 1 % malformed", UTF8, malformed),
     ("UTF-8, random bytes", UTF8, uniform),
-    ("037", Leaf::Character { ccsid: 37 }, ebcdic),
+    ("037", Leaf::character(37), ebcdic),
     ("819 ASCII", LATIN1, ascii),
     ("819, random bytes", LATIN1, uniform),
     ("Other CCSID, ASCII", OTHER, ascii),

@@ -12,17 +12,30 @@ pub type Work<'a, L> = &'a dyn Fn(&mut L) -> u64;
 /// The least time of each, in nanoseconds, taken by turns.
 pub fn by_turns<L, const N: usize>(lent: &mut L, works: [Work<L>; N]) -> [f64; N] {
     let mut least = [Duration::MAX; N];
+    each_round(lent, works, |times| {
+        for (time, least) in times.into_iter().zip(&mut least) {
+            *least = time.min(*least);
+        }
+    });
+    least.map(|time| time.as_secs_f64() * 1e9)
+}
+
+/// The times of every round, of which in each one work comes right after the other.
+pub fn each_round<L, const N: usize>(
+    lent: &mut L,
+    works: [Work<L>; N],
+    mut taken: impl FnMut([Duration; N]),
+) {
     let start = Instant::now();
     let mut rounds = 0;
     while rounds < ROUNDS || start.elapsed() < TIME {
-        for (work, least) in works.iter().zip(&mut least) {
+        taken(works.map(|work| {
             let start = processor_time();
             black_box(work(lent));
-            *least = (processor_time() - start).min(*least);
-        }
+            processor_time() - start
+        }));
         rounds += 1;
     }
-    least.map(|time| time.as_secs_f64() * 1e9)
 }
 
 /// The processor time that this thread has used. On a machine that others use too, the time in which they run does not count.

@@ -13,6 +13,7 @@ mod foreign {
             described_length: usize,
             row: *const u8,
             row_length: usize,
+            release: u32,
             text: *mut u8,
             text_length: usize,
             rounds: u64,
@@ -23,6 +24,7 @@ mod foreign {
             described_length: usize,
             row: *const u8,
             row_length: usize,
+            release: u32,
             text: *mut u8,
             text_length: usize,
         ) -> u64;
@@ -58,13 +60,21 @@ pub fn whole_number(data: &[u8]) -> u64 {
 }
 
 /// The number of the value at a place of a row's answer, below its 128: the row is decoded `times` times, at least once.
-pub fn number_at(described: &[u8], row: &[u8], text: &mut [u8], times: usize, index: usize) -> u64 {
+pub fn number_at(
+    described: &[u8],
+    row: &[u8],
+    release: u32,
+    text: &mut [u8],
+    times: usize,
+    index: usize,
+) -> u64 {
     unsafe {
         foreign::by_value_decode_row(
             described.as_ptr(),
             described.len(),
             row.as_ptr(),
             row.len(),
+            release,
             text.as_mut_ptr(),
             text.len(),
             times as u64 - 1,
@@ -74,13 +84,14 @@ pub fn number_at(described: &[u8], row: &[u8], text: &mut [u8], times: usize, in
 }
 
 /// How many characters were replaced in a row's texts.
-pub fn replaced(described: &[u8], row: &[u8], text: &mut [u8]) -> u64 {
+pub fn replaced(described: &[u8], row: &[u8], release: u32, text: &mut [u8]) -> u64 {
     unsafe {
         foreign::by_value_replaced(
             described.as_ptr(),
             described.len(),
             row.as_ptr(),
             row.len(),
+            release,
             text.as_mut_ptr(),
             text.len(),
         )

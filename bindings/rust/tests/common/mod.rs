@@ -2,7 +2,7 @@
 #![allow(dead_code)]
 use std::fmt::Debug;
 use std::iter::FusedIterator;
-use vejupa::{Column, Db2Type, Value};
+use vejupa::{ByteOrder, Column, Db2Type, Origin, Value};
 
 /// The iterator gives these items, from either end and from both in turn, says how many are left, and stays at its end.
 pub fn walked_both_ways<I>(iter: I, all: &[I::Item])
@@ -41,6 +41,60 @@ impl Random {
     pub fn pick<T: Copy>(&mut self, of: &[T]) -> T {
         of[self.below(of.len())]
     }
+}
+
+/// Of all forms that a value's length has: fixed, told by the row, by the column, by a reference, by all the rest.
+const TYPES: [Db2Type; 24] = [
+    Db2Type::SmallInt,
+    Db2Type::Integer,
+    Db2Type::Double,
+    Db2Type::Decimal {
+        precision: 5,
+        scale: 2,
+    },
+    Db2Type::Char(0),
+    Db2Type::Char(3),
+    Db2Type::VarChar(9),
+    Db2Type::VarChar(0x8001),
+    Db2Type::VarChar(0x8009),
+    Db2Type::LongVarChar,
+    Db2Type::Clob,
+    Db2Type::Binary(2),
+    Db2Type::VarBinary(9),
+    Db2Type::Blob,
+    Db2Type::BlobLocator,
+    Db2Type::Date,
+    Db2Type::Timestamp,
+    Db2Type::Graphic(3),
+    Db2Type::VarGraphic(9),
+    Db2Type::LobBytes(1024),
+    Db2Type::LobChar(3),
+    Db2Type::Boolean,
+    Db2Type::Xml,
+    Db2Type::Null,
+];
+
+/// A column of one of these types, its other fields at random.
+pub fn some_column(random: &mut Random) -> Column {
+    let column = Column::new(random.pick(&TYPES))
+        .with_nullable(random.below(3) == 0)
+        .with_ccsid(random.pick(&[0, 37, 500, 819, 1047, 1200, 1208, 13488]))
+        .with_length(random.pick(&[0, 0, 2, 9]))
+        .with_byte_order(random.pick(&[ByteOrder::BigEndian, ByteOrder::LittleEndian]))
+        .with_origin(random.pick(&[Origin::Sda, Origin::UndeclaredLid, Origin::DeclaredLid]));
+    match random.below(4) {
+        0 => column.with_reference_length(random.pick(&[0, 4, 9])),
+        _ => column,
+    }
+}
+
+/// Mostly small bytes, and often zeros alone: so are the lengths that stand in them, and many columns fit.
+pub fn some_row(random: &mut Random) -> Vec<u8> {
+    let bytes: &[u8] = match random.below(2) {
+        0 => &[0, 0, 0, 0, 0, 0, 1, 2, 3, 0x41, 0x80, 0xFF],
+        _ => &[0],
+    };
+    (0..random.below(600)).map(|_| random.pick(bytes)).collect()
 }
 
 fn column(db2_type: Db2Type) -> Column {

@@ -18,11 +18,11 @@ use Rattle.by_value.proofs.by_value_decode_row.Statement.{statement}
 use Rattle.by_value.proofs.by_value_decode_row.Tie as tie
 
 abbrev Inv-loop : tie.InvT-loop
-Inv-loop described row text₀ rounds index columns place number₀ i₀ text number i =
-    (number ≡ numberAt (rowAnswer columns row text) place) × (text ≡ text₀)
+Inv-loop described row release text₀ rounds index columns place number₀ i₀ text number i =
+    (number ≡ numberAt (rowAnswer release columns row text) place) × (text ≡ text₀)
 
 abbrev μ-loop : tie.MeasureT-loop
-μ-loop described row text₀ rounds index columns place number₀ i₀ text number i = rounds - i
+μ-loop described row release text₀ rounds index columns place number₀ i₀ text number i = rounds - i
 
 parse-qrydsc-requires : tie.Need-parse-qrydsc-requires Inv-loop μ-loop
 parse-qrydsc-requires c κs = search needs
@@ -46,7 +46,7 @@ loop-holds c =
     let columns = c .before .before .before .before .before .before .before .parse-qrydsc .result .columns in
     let i = c .before .before .before .before .before .before .before .before .before .before .before .args .index % maxColumns in
     let a = c .before .before .before .before .decode-row in
-    let same = answered-alike columns s d _ (sym (ap length (a .ensures .1) ∙ same-length columns s d)) in
+    let same = answered-alike (c .before .before .before .before .before .before .before .before .before .before .before .args .release) columns s d _ (sym (ap length (a .ensures .1) ∙ same-length (c .before .before .before .before .before .before .before .before .before .before .before .args .release) columns s d)) in
     (c .value-words .ensures .1 .0 ∙ sym (List·getD-map numberOf (a .result .places) i _) ∙ ap (λ (t : RowTold). numberAt t i) (a .ensures .0 ∙ same), refl)
 
 decode-row-requires-2 : tie.Need-decode-row-requires-2 Inv-loop μ-loop
@@ -62,7 +62,7 @@ value-words-requires-2 : tie.Need-value-words-requires-2 Inv-loop μ-loop
 value-words-requires-2 c κs = search needs
 
 add-i : tie.Need-add-i Inv-loop μ-loop
-add-i c = record { fits = omega (arith, c .before .before .before .before .before .before .before .before .before .before .before .before .before .before .before .before .before .before .before .good .1 .1 .1 .0) }
+add-i c = record { fits = omega (arith, c .before .before .before .before .before .before .before .before .before .before .before .before .before .before .before .before .before .before .before .good .1 .1 .1 .1 .0) }
 
 loop-less : tie.Need-loop-less Inv-loop μ-loop
 loop-less c = omega arith
@@ -75,8 +75,8 @@ loop-again c =
     let i = c .before .before .before .before .before .before .before .before .before .before .before .before .before .before .before .before .before .before .before .args .index % maxColumns in
     let a = c .before .before .before .before .decode-row2 in
     let first = c .before .before .before .before .before .before .before .before .before .before .before .before .decode-row .ensures .1 in
-    let same = answered-alike columns s d _ (sym (ap length (a .ensures .1) ∙ same-length columns s d)) in
-    (c .value-words2 .ensures .1 .0 ∙ sym (List·getD-map numberOf (a .result .places) i _) ∙ ap (λ (t : RowTold). numberAt t i) (a .ensures .0 ∙ same), a .ensures .1 ∙ ap (λ (t : List ℕ). rowText columns s t) (c .before .before .before .before .before .before .before .loop .inv .1 ∙ first) ∙ left-again columns s (now (c .before .before .before .before .before .before .before .before .before .before .before .before .before .before .before .before .before .before .before .args .text)) ∙ sym first)
+    let same = answered-alike (c .before .before .before .before .before .before .before .before .before .before .before .before .before .before .before .before .before .before .before .args .release) columns s d _ (sym (ap length (a .ensures .1) ∙ same-length (c .before .before .before .before .before .before .before .before .before .before .before .before .before .before .before .before .before .before .before .args .release) columns s d)) in
+    (c .value-words2 .ensures .1 .0 ∙ sym (List·getD-map numberOf (a .result .places) i _) ∙ ap (λ (t : RowTold). numberAt t i) (a .ensures .0 ∙ same), a .ensures .1 ∙ ap (λ (t : List ℕ). rowText (c .before .before .before .before .before .before .before .before .before .before .before .before .before .before .before .before .before .before .before .args .release) columns s t) (c .before .before .before .before .before .before .before .loop .inv .1 ∙ first) ∙ left-again (c .before .before .before .before .before .before .before .before .before .before .before .before .before .before .before .before .before .before .before .args .release) columns s (now (c .before .before .before .before .before .before .before .before .before .before .before .before .before .before .before .before .before .before .before .args .text)) ∙ sym first)
 
 same-length-2 : tie.Need-same-length Inv-loop μ-loop
 same-length-2 c = search needs
@@ -88,7 +88,7 @@ returns c =
     let i = c .before .before .before .before .before .before .before .before .before .before .before .before .before .args .index % maxColumns in
     let q = c .before .before .before .before .before .before .before .before .before .parse-qrydsc in
     let r = c .before .before .before .before .before .before .decode-row in
-    (c .before .loop .inv .0 ∙ ap (λ (t : RowTold). numberAt t i) (answered-alike (q .result .columns) s _ d (ap length (c .before .loop .inv .1 ∙ r .ensures .1) ∙ same-length (q .result .columns) s d)) ∙ ap (λ (t : DescriptionTold). numberAt (rowAnswer (t .columns) s d) i) (q .ensures), c .before .loop .inv .1 ∙ r .ensures .1 ∙ ap (λ (t : DescriptionTold). rowText (t .columns) s d) (q .ensures))
+    (c .before .loop .inv .0 ∙ ap (λ (t : RowTold). numberAt t i) (answered-alike (c .before .before .before .before .before .before .before .before .before .before .before .before .before .args .release) (q .result .columns) s _ d (ap length (c .before .loop .inv .1 ∙ r .ensures .1) ∙ same-length (c .before .before .before .before .before .before .before .before .before .before .before .before .before .args .release) (q .result .columns) s d)) ∙ ap (λ (t : DescriptionTold). numberAt (rowAnswer (c .before .before .before .before .before .before .before .before .before .before .before .before .before .args .release) (t .columns) s d) i) (q .ensures), c .before .loop .inv .1 ∙ r .ensures .1 ∙ ap (λ (t : DescriptionTold). rowText (c .before .before .before .before .before .before .before .before .before .before .before .before .before .args .release) (t .columns) s d) (q .ensures))
 
 pub by-value-decode-row-spec : {M : Type 1} → statement M
 by-value-decode-row-spec =

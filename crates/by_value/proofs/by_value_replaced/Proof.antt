@@ -23,7 +23,7 @@ returns c =
     let d = now (c .before .before .before .before .before .before .before .before .before .args .text) in
     let q = c .before .before .before .before .before .parse-qrydsc in
     let r = c .before .before .decode-row in
-    (ap (λ (t : RowTold). t .replaced) (r .ensures .0) ∙ ap (λ (t : DescriptionTold). rowAnswer (t .columns) s d .replaced) (q .ensures), r .ensures .1 ∙ ap (λ (t : DescriptionTold). rowText (t .columns) s d) (q .ensures))
+    (ap (λ (t : RowTold). t .replaced) (r .ensures .0) ∙ ap (λ (t : DescriptionTold). rowAnswer (c .before .before .before .before .before .before .before .before .before .args .release) (t .columns) s d .replaced) (q .ensures), r .ensures .1 ∙ ap (λ (t : DescriptionTold). rowText (c .before .before .before .before .before .before .before .before .before .args .release) (t .columns) s d) (q .ensures))
 
 pub by-value-replaced-spec : {M : Type 1} → statement M
 by-value-replaced-spec = tie.close (tie.spec parse-qrydsc-requires decode-row-requires same-length returns)

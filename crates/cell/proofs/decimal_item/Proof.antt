@@ -11,7 +11,7 @@ use Rattle.cell.proofs.decimal_item.Statement.{statement}
 use Rattle.cell.proofs.decimal_item.Tie as tie
 
 returns : tie.Need-returns
-returns c = λ precision k s e. (ap (λ (t : List ℕ). Item.text TextSort.decimal (unreplaced (decimalText (c .args .scale) t))) (sym (take-all (c .args .count) s (omega (arith, e)))), (omega (arith, e), c .pre))
+returns c = λ precision release k s e. (ap (λ (t : List ℕ). Item.text TextSort.decimal (unreplaced (decimalText (c .args .scale) t))) (sym (take-all (c .args .count) s (omega (arith, e)))), (omega (arith, e), c .pre))
 
 pub decimal-item-spec : {M : Type 1} → statement M
 decimal-item-spec = tie.close (tie.spec returns)

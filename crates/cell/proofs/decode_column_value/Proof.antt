@@ -47,19 +47,19 @@ decode-other-value-requires : tie.Need-decode-other-value-requires
 decode-other-value-requires c κs = (c .before .before .pre, one-of enum (λ t. isNumber t ≡ false) 5 (6 ∷ 7 ∷ 8 ∷ 9 ∷ 10 ∷ 11 ∷ 12 ∷ 13 ∷ 14 ∷ 15 ∷ 16 ∷ 17 ∷ 18 ∷ 19 ∷ 20 ∷ 21 ∷ 22 ∷ 23 ∷ 24 ∷ 25 ∷ 26 ∷ 27 ∷ 28 ∷ []) (c .before .before .args .column .«db2_type») (c .match .keys6) ((λ v. refl), ((λ v. refl), ((λ v. refl), ((λ v. refl), ((λ v. refl), ((λ v. refl), ((λ v. refl), ((λ v. refl), ((λ v. refl), ((λ v. refl), ((λ v. refl), ((λ v. refl), ((λ v. refl), ((λ v. refl), ((λ v. refl), ((λ v. refl), ((λ v. refl), ((λ v. refl), ((λ v. refl), ((λ v. refl), ((λ v. refl), ((λ v. refl), ((λ v. refl), (λ v. refl)))))))))))))))))))))))))
 
 returns : tie.Need-returns
-returns c = (number-is (c .before .before .before .before .args .column) (c .before .enum-told .given .1) 2 refl (now (c .before .before .before .before .args .rest)) (smallIntIn (c .before .before .before .before .args .column .«byte_order»)) (λ l. refl) (λ l. refl) _ (c .small-int .ensures), number-need (c .before .before .before .before .args .column) (c .before .enum-told .given .1) 2 refl (now (c .before .before .before .before .args .rest)))
+returns c = λ release. (number-is (c .before .before .before .before .args .column) (c .before .enum-told .given .1) 2 refl release (now (c .before .before .before .before .args .rest)) (smallIntIn (c .before .before .before .before .args .column .«byte_order»)) (λ l. refl) (λ l. refl) _ (c .small-int .ensures), number-need (c .before .before .before .before .args .column) (c .before .enum-told .given .1) 2 refl (now (c .before .before .before .before .args .rest)))
 
 returns-2 : tie.Need-returns-2
-returns-2 c = (number-is (c .before .before .before .before .args .column) (c .before .enum-told2 .given .1) 4 refl (now (c .before .before .before .before .args .rest)) (integerIn (c .before .before .before .before .args .column .«byte_order»)) (λ l. refl) (λ l. refl) _ (c .integer .ensures), number-need (c .before .before .before .before .args .column) (c .before .enum-told2 .given .1) 4 refl (now (c .before .before .before .before .args .rest)))
+returns-2 c = λ release. (number-is (c .before .before .before .before .args .column) (c .before .enum-told2 .given .1) 4 refl release (now (c .before .before .before .before .args .rest)) (integerIn (c .before .before .before .before .args .column .«byte_order»)) (λ l. refl) (λ l. refl) _ (c .integer .ensures), number-need (c .before .before .before .before .args .column) (c .before .enum-told2 .given .1) 4 refl (now (c .before .before .before .before .args .rest)))
 
 returns-3 : tie.Need-returns-3
-returns-3 c = (number-is (c .before .before .before .before .args .column) (c .before .enum-told3 .given .1) 8 refl (now (c .before .before .before .before .args .rest)) (bigIntIn (c .before .before .before .before .args .column .«byte_order»)) (λ l. refl) (λ l. refl) _ (c .big-int .ensures), number-need (c .before .before .before .before .args .column) (c .before .enum-told3 .given .1) 8 refl (now (c .before .before .before .before .args .rest)))
+returns-3 c = λ release. (number-is (c .before .before .before .before .args .column) (c .before .enum-told3 .given .1) 8 refl release (now (c .before .before .before .before .args .rest)) (bigIntIn (c .before .before .before .before .args .column .«byte_order»)) (λ l. refl) (λ l. refl) _ (c .big-int .ensures), number-need (c .before .before .before .before .args .column) (c .before .enum-told3 .given .1) 8 refl (now (c .before .before .before .before .args .rest)))
 
 returns-4 : tie.Need-returns-4
-returns-4 c = (number-is (c .before .before .before .before .args .column) (c .before .enum-told4 .given .1) 4 refl (now (c .before .before .before .before .args .rest)) (realIn (c .before .before .before .before .args .column .«byte_order»)) (λ l. refl) (λ l. refl) _ (c .real .ensures), number-need (c .before .before .before .before .args .column) (c .before .enum-told4 .given .1) 4 refl (now (c .before .before .before .before .args .rest)))
+returns-4 c = λ release. (number-is (c .before .before .before .before .args .column) (c .before .enum-told4 .given .1) 4 refl release (now (c .before .before .before .before .args .rest)) (realIn (c .before .before .before .before .args .column .«byte_order»)) (λ l. refl) (λ l. refl) _ (c .real .ensures), number-need (c .before .before .before .before .args .column) (c .before .enum-told4 .given .1) 4 refl (now (c .before .before .before .before .args .rest)))
 
 returns-5 : tie.Need-returns-5
-returns-5 c = (number-is (c .before .before .before .before .args .column) (c .before .enum-told5 .given .1) 8 refl (now (c .before .before .before .before .args .rest)) (doubleIn (c .before .before .before .before .args .column .«byte_order»)) (λ l. refl) (λ l. refl) _ (c .double .ensures), number-need (c .before .before .before .before .args .column) (c .before .enum-told5 .given .1) 8 refl (now (c .before .before .before .before .args .rest)))
+returns-5 c = λ release. (number-is (c .before .before .before .before .args .column) (c .before .enum-told5 .given .1) 8 refl release (now (c .before .before .before .before .args .rest)) (doubleIn (c .before .before .before .before .args .column .«byte_order»)) (λ l. refl) (λ l. refl) _ (c .double .ensures), number-need (c .before .before .before .before .args .column) (c .before .enum-told5 .given .1) 8 refl (now (c .before .before .before .before .args .rest)))
 
 returns-6 : tie.Need-returns-6
 returns-6 c = c .decode-other-value .ensures

@@ -6,7 +6,7 @@ use lib.ListN.{take}
 use lib.Seq.{length-take-le}
 use denote.Ref.{now}
 use Rattle.rules.specs.Meaning.{itemIn, refersIn}
-use Rattle.rules.specs.Conversions.{ported}
+use Rattle.rules.specs.Conversions.{conversionsOf}
 use Rattle.cell.specs.Cell.{Holds}
 use Rattle.cell.proofs.ItemLaws.{cut-there}
 use borrow.Author.Needs.{needs}
@@ -29,7 +29,7 @@ refers-requires : tie.Need-refers-requires
 refers-requires c κs = cut-there (c .before .before .before .before .before .args .column) (now (c .before .before .before .before .before .args .rest)) (c .before .before .before .other-need .result) (c .before .before .before .other-need .ensures .0) (omega (arith, c .before .before .before .other-need .ensures .0, c .before .before .before .before .before .pre .0))
 
 returns : tie.Need-returns
-returns c = (subst (λ (n : ℕ). Holds (c .before .before .item-of .result) (take n (now (c .before .before .before .before .before .before .args .rest))) (itemIn ported (c .before .before .before .before .before .before .args .column) (take n (now (c .before .before .before .before .before .before .args .rest))))) (c .before .before .before .before .other-need .ensures .0) (c .before .before .item-of .ensures), (c .before .before .before .before .other-need .ensures .0, subst (λ (n : ℕ). c .refers .result ≡ refersIn ported (c .before .before .before .before .before .before .args .column) (take n (now (c .before .before .before .before .before .before .args .rest)))) (c .before .before .before .before .other-need .ensures .0) (c .refers .ensures)))
+returns c = λ release. (subst (λ (n : ℕ). Holds release (c .before .before .item-of .result) (take n (now (c .before .before .before .before .before .before .args .rest))) (itemIn (conversionsOf release) (c .before .before .before .before .before .before .args .column) (take n (now (c .before .before .before .before .before .before .args .rest))))) (c .before .before .before .before .other-need .ensures .0) (c .before .before .item-of .ensures release), (c .before .before .before .before .other-need .ensures .0, subst (λ (n : ℕ). c .refers .result ≡ refersIn (conversionsOf release) (c .before .before .before .before .before .before .args .column) (take n (now (c .before .before .before .before .before .before .args .rest)))) (c .before .before .before .before .other-need .ensures .0) (c .refers .ensures release)))
 
 pub decode-other-value-spec : {M : Type 1} → statement M
 decode-other-value-spec =

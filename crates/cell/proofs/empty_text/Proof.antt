@@ -7,7 +7,7 @@ use Rattle.cell.proofs.empty_text.Tie as tie
 
 returns : tie.Need-returns
 unfolding utf8Text readFrom piecesText replacements
-returns c = λ s. (refl, (omega arith, tt))
+returns c = λ release s. (refl, (omega arith, tt))
 
 pub empty-text-spec : {M : Type 1} → statement M
 empty-text-spec = tie.close (tie.spec returns)

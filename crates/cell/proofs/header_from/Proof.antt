@@ -23,17 +23,17 @@ empty-text-requires : tie.Need-empty-text-requires
 empty-text-requires c κs = search needs
 
 returns : tie.Need-returns
-returns c = let a = c .before .before .before .before .before .args in
+returns c = λ release. let a = c .before .before .before .before .before .args in
     let e = sym (ap isEmptyHeader (all-from (a .from) (now (a .bytes)))) ∙ sym (c .before .before .is-empty-header .ensures) ∙ c .before .if1 .taken in
-    rw e (c .empty-text .ensures (now (a .bytes)))
+    rw e (c .empty-text .ensures release (now (a .bytes)))
 
 text-from-requires : tie.Need-text-from-requires
 text-from-requires c κs = search needs
 
 returns-2 : tie.Need-returns-2
-returns-2 c = let a = c .before .before .before .before .before .args in
+returns-2 c = λ release. let a = c .before .before .before .before .before .args in
     let e = sym (ap isEmptyHeader (all-from (a .from) (now (a .bytes)))) ∙ sym (c .before .before .is-empty-header .ensures) ∙ c .before .if1 .left in
-    rw e (c .text-from .ensures)
+    rw e (c .text-from .ensures release)
 
 pub header-from-spec : {M : Type 1} → statement M
 header-from-spec =

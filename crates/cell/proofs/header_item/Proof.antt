@@ -14,14 +14,14 @@ header-from-requires c κs = says-two _ (sym (c .before .says-header .ensures) �
 
 returns : tie.Need-returns
 unfolding headerItem
-returns c = rw (sym (c .before .before .says-header .ensures) ∙ c .before .if1 .taken) (c .header-from .ensures)
+returns c = λ release. rw (sym (c .before .before .says-header .ensures) ∙ c .before .if1 .taken) (c .header-from .ensures release)
 
 header-from-requires-2 : tie.Need-header-from-requires-2
 header-from-requires-2 c κs = search needs
 
 returns-2 : tie.Need-returns-2
 unfolding headerItem
-returns-2 c = rw (sym (c .before .before .says-header .ensures) ∙ c .before .if1 .left) (c .header-from2 .ensures)
+returns-2 c = λ release. rw (sym (c .before .before .says-header .ensures) ∙ c .before .if1 .left) (c .header-from2 .ensures release)
 
 pub header-item-spec : {M : Type 1} → statement M
 header-item-spec =

@@ -9,7 +9,7 @@ use Rattle.types.proofs.Db2Type.{enum}
 use Rattle.types.proofs.Keys.{one-of}
 use Rattle.types.specs.Names.{graphicUnit}
 use Rattle.rules.specs.Meaning.{ByteSort, Item, varyingItem, typeItem, itemIn}
-use Rattle.rules.specs.Conversions.{ported}
+use Rattle.rules.specs.Conversions.{conversionsOf}
 use Rattle.cell.specs.declared.CellItem.the-variants as cell
 use Rattle.cell.specs.Cell.{Holds, isNumber}
 use Rattle.cell.proofs.ItemLaws.{whole-part, holds-by, need-by, packed-there, counted-there, absent-there, absent-xml}
@@ -162,83 +162,83 @@ lob-item-requires-4 : tie.Need-lob-item-requires-4
 lob-item-requires-4 c κs = absent-xml (c .before .before .before .args .column .«extdta_reference_length») (now (c .before .before .before .args .bytes)) (need-by (c .before .before .before .args .column) (now (c .before .before .before .args .bytes)) (c .enum-told17 .given .1) (c .before .before .before .pre .0))
 
 returns : tie.Need-returns
-returns c = holds-by (c .before .before .before .before .before .args .column) (now (c .before .before .before .before .before .args .bytes)) (c .before .before .t .given .1) (c .decimal-item .result) (c .decimal-item .ensures (c .before .before .t .given .0 .0) (c .before .before .before .before .before .args .column) (now (c .before .before .before .before .before .args .bytes)) refl)
+returns c = λ release. holds-by release (c .before .before .before .before .before .args .column) (now (c .before .before .before .before .before .args .bytes)) (c .before .before .t .given .1) (c .decimal-item .result) (c .decimal-item .ensures (c .before .before .t .given .0 .0) release (c .before .before .before .before .before .args .column) (now (c .before .before .before .before .before .args .bytes)) refl)
 
 returns-2 : tie.Need-returns-2
-returns-2 c = holds-by (c .before .before .before .before .args .column) (now (c .before .before .before .before .args .bytes)) (c .before .enum-told .given .1) (c .char-item .result) (c .char-item .ensures (c .before .enum-told .given .0 .0) (c .before .before .before .before .args .column) (now (c .before .before .before .before .args .bytes)) refl refl)
+returns-2 c = λ release. holds-by release (c .before .before .before .before .args .column) (now (c .before .before .before .before .args .bytes)) (c .before .enum-told .given .1) (c .char-item .result) (c .char-item .ensures (c .before .enum-told .given .0 .0) release (c .before .before .before .before .args .column) (now (c .before .before .before .before .args .bytes)) refl refl)
 
 returns-3 : tie.Need-returns-3
 unfolding varyingItem
-returns-3 c = holds-by (c .before .before .before .before .before .before .args .column) (now (c .before .before .before .before .before .before .args .bytes)) (c .before .before .before .t2 .given .1) (c .header-item .result) (rw (le-leb 0x8000 _ (c .before .if1 .taken)) (c .header-item .ensures))
+returns-3 c = λ release. holds-by release (c .before .before .before .before .before .before .args .column) (now (c .before .before .before .before .before .before .args .bytes)) (c .before .before .before .t2 .given .1) (c .header-item .result) (rw (le-leb 0x8000 _ (c .before .if1 .taken)) (c .header-item .ensures release))
 
 returns-4 : tie.Need-returns-4
-returns-4 c = holds-by (c .before .before .before .before .before .before .args .column) (now (c .before .before .before .before .before .before .args .bytes)) (c .before .before .before .t2 .given .1) (c .var-char-item .result) (c .var-char-item .ensures (c .before .before .before .t2 .given .0 .0) (lt-leb 0x8000 _ (c .before .if1 .left)) (c .before .before .before .before .before .before .args .column) (now (c .before .before .before .before .before .before .args .bytes)) refl refl)
+returns-4 c = λ release. holds-by release (c .before .before .before .before .before .before .args .column) (now (c .before .before .before .before .before .before .args .bytes)) (c .before .before .before .t2 .given .1) (c .var-char-item .result) (c .var-char-item .ensures (c .before .before .before .t2 .given .0 .0) (lt-leb 0x8000 _ (c .before .if1 .left)) release (c .before .before .before .before .before .before .args .column) (now (c .before .before .before .before .before .before .args .bytes)) refl refl)
 
 returns-5 : tie.Need-returns-5
-returns-5 c = holds-by (c .before .before .before .before .args .column) (now (c .before .before .before .before .args .bytes)) (c .before .enum-told2 .given .1) (c .text-from .result) (c .text-from .ensures)
+returns-5 c = λ release. holds-by release (c .before .before .before .before .args .column) (now (c .before .before .before .before .args .bytes)) (c .before .enum-told2 .given .1) (c .text-from .result) (c .text-from .ensures release)
 
 returns-6 : tie.Need-returns-6
-returns-6 c = holds-by (c .before .before .before .before .args .column) (now (c .before .before .before .before .args .bytes)) (c .before .enum-told3 .given .1) (c .lob-item .result) (c .lob-item .ensures)
+returns-6 c = λ release. holds-by release (c .before .before .before .before .args .column) (now (c .before .before .before .before .args .bytes)) (c .before .enum-told3 .given .1) (c .lob-item .result) (c .lob-item .ensures release)
 
 returns-7 : tie.Need-returns-7
-returns-7 c = holds-by (c .before .before .before .before .args .column) (now (c .before .before .before .before .args .bytes)) (c .before .enum-told4 .given .1) (c .part-from .result) (whole-part (c .part-from .result) ByteSort.binary (now (c .before .before .before .before .args .bytes)) (c .part-from .ensures))
+returns-7 c = λ release. holds-by release (c .before .before .before .before .args .column) (now (c .before .before .before .before .args .bytes)) (c .before .enum-told4 .given .1) (c .part-from .result) (whole-part release (c .part-from .result) ByteSort.binary (now (c .before .before .before .before .args .bytes)) (c .part-from .ensures release))
 
 returns-8 : tie.Need-returns-8
-returns-8 c = holds-by (c .before .before .before .before .args .column) (now (c .before .before .before .before .args .bytes)) (c .before .enum-told5 .given .1) (c .part-from2 .result) (c .part-from2 .ensures)
+returns-8 c = λ release. holds-by release (c .before .before .before .before .args .column) (now (c .before .before .before .before .args .bytes)) (c .before .enum-told5 .given .1) (c .part-from2 .result) (c .part-from2 .ensures release)
 
 returns-9 : tie.Need-returns-9
-returns-9 c = holds-by (c .before .before .before .before .args .column) (now (c .before .before .before .before .args .bytes)) (c .before .enum-told6 .given .1) (c .lob-item2 .result) (c .lob-item2 .ensures)
+returns-9 c = λ release. holds-by release (c .before .before .before .before .args .column) (now (c .before .before .before .before .args .bytes)) (c .before .enum-told6 .given .1) (c .lob-item2 .result) (c .lob-item2 .ensures release)
 
 returns-10 : tie.Need-returns-10
-returns-10 c = holds-by (c .before .before .before .before .args .column) (now (c .before .before .before .before .args .bytes)) (c .before .enum-told7 .given .1) (c .lob-reference .result) (c .lob-reference .ensures)
+returns-10 c = λ release. holds-by release (c .before .before .before .before .args .column) (now (c .before .before .before .before .args .bytes)) (c .before .enum-told7 .given .1) (c .lob-reference .result) (c .lob-reference .ensures release)
 
 returns-11 : tie.Need-returns-11
-returns-11 c = holds-by (c .before .before .before .before .args .column) (now (c .before .before .before .before .args .bytes)) (c .before .enum-told8 .given .1) (c .date-item .result) (c .date-item .ensures (c .before .before .before .before .args .column) (now (c .before .before .before .before .args .bytes)) refl refl)
+returns-11 c = λ release. holds-by release (c .before .before .before .before .args .column) (now (c .before .before .before .before .args .bytes)) (c .before .enum-told8 .given .1) (c .date-item .result) (c .date-item .ensures release (c .before .before .before .before .args .column) (now (c .before .before .before .before .args .bytes)) refl refl)
 
 returns-12 : tie.Need-returns-12
-returns-12 c = holds-by (c .before .before .before .before .args .column) (now (c .before .before .before .before .args .bytes)) (c .before .enum-told9 .given .1) (c .time-item .result) (c .time-item .ensures (c .before .before .before .before .args .column) (now (c .before .before .before .before .args .bytes)) refl refl)
+returns-12 c = λ release. holds-by release (c .before .before .before .before .args .column) (now (c .before .before .before .before .args .bytes)) (c .before .enum-told9 .given .1) (c .time-item .result) (c .time-item .ensures release (c .before .before .before .before .args .column) (now (c .before .before .before .before .args .bytes)) refl refl)
 
 returns-13 : tie.Need-returns-13
-returns-13 c = holds-by (c .before .before .before .before .args .column) (now (c .before .before .before .before .args .bytes)) (c .before .enum-told10 .given .1) (c .timestamp-item .result) (c .timestamp-item .ensures (c .before .before .before .before .args .column) (now (c .before .before .before .before .args .bytes)) refl refl)
+returns-13 c = λ release. holds-by release (c .before .before .before .before .args .column) (now (c .before .before .before .before .args .bytes)) (c .before .enum-told10 .given .1) (c .timestamp-item .result) (c .timestamp-item .ensures release (c .before .before .before .before .args .column) (now (c .before .before .before .before .args .bytes)) refl refl)
 
 returns-14 : tie.Need-returns-14
-returns-14 c = holds-by (c .before .before .before .before .args .column) (now (c .before .before .before .before .args .bytes)) (c .before .enum-told11 .given .1) (c .text-from2 .result) (c .text-from2 .ensures)
+returns-14 c = λ release. holds-by release (c .before .before .before .before .args .column) (now (c .before .before .before .before .args .bytes)) (c .before .enum-told11 .given .1) (c .text-from2 .result) (c .text-from2 .ensures release)
 
 returns-15 : tie.Need-returns-15
 unfolding varyingItem
-returns-15 c = holds-by (c .before .before .before .before .before .before .args .column) (now (c .before .before .before .before .before .before .args .bytes)) (c .before .before .before .t3 .given .1) (c .header-item2 .result) (rw (le-leb 0x8000 _ (c .before .if2 .taken)) (c .header-item2 .ensures))
+returns-15 c = λ release. holds-by release (c .before .before .before .before .before .before .args .column) (now (c .before .before .before .before .before .before .args .bytes)) (c .before .before .before .t3 .given .1) (c .header-item2 .result) (rw (le-leb 0x8000 _ (c .before .if2 .taken)) (c .header-item2 .ensures release))
 
 returns-16 : tie.Need-returns-16
 unfolding varyingItem
-returns-16 c = holds-by (c .before .before .before .before .before .before .args .column) (now (c .before .before .before .before .before .before .args .bytes)) (c .before .before .before .t3 .given .1) (c .text-from3 .result) (rw (lt-leb 0x8000 _ (c .before .if2 .left)) (c .text-from3 .ensures))
+returns-16 c = λ release. holds-by release (c .before .before .before .before .before .before .args .column) (now (c .before .before .before .before .before .before .args .bytes)) (c .before .before .before .t3 .given .1) (c .text-from3 .result) (rw (lt-leb 0x8000 _ (c .before .if2 .left)) (c .text-from3 .ensures release))
 
 returns-17 : tie.Need-returns-17
-returns-17 c = holds-by (c .before .before .before .before .args .column) (now (c .before .before .before .before .args .bytes)) (c .before .enum-told12 .given .1) (c .lob-item3 .result) (c .lob-item3 .ensures)
+returns-17 c = λ release. holds-by release (c .before .before .before .before .args .column) (now (c .before .before .before .before .args .bytes)) (c .before .enum-told12 .given .1) (c .lob-item3 .result) (c .lob-item3 .ensures release)
 
 returns-18 : tie.Need-returns-18
-returns-18 c = holds-by (c .before .before .before .before .args .column) (now (c .before .before .before .before .args .bytes)) (c .before .enum-told13 .given .1) (c .lob-reference2 .result) (c .lob-reference2 .ensures)
+returns-18 c = λ release. holds-by release (c .before .before .before .before .args .column) (now (c .before .before .before .before .args .bytes)) (c .before .enum-told13 .given .1) (c .lob-reference2 .result) (c .lob-reference2 .ensures release)
 
 returns-19 : tie.Need-returns-19
-returns-19 c = holds-by (c .before .before .before .before .args .column) (now (c .before .before .before .before .args .bytes)) (c .before .enum-told14 .given .1) (c .lob-reference3 .result) (c .lob-reference3 .ensures)
+returns-19 c = λ release. holds-by release (c .before .before .before .before .args .column) (now (c .before .before .before .before .args .bytes)) (c .before .enum-told14 .given .1) (c .lob-reference3 .result) (c .lob-reference3 .ensures release)
 
 returns-20 : tie.Need-returns-20
-returns-20 c = holds-by (c .before .before .before .before .before .args .column) (now (c .before .before .before .before .before .args .bytes)) (c .before .before .t4 .given .1) (c .lob-bytes-item .result) (c .lob-bytes-item .ensures)
+returns-20 c = λ release. holds-by release (c .before .before .before .before .before .args .column) (now (c .before .before .before .before .before .args .bytes)) (c .before .before .t4 .given .1) (c .lob-bytes-item .result) (c .lob-bytes-item .ensures release)
 
 returns-21 : tie.Need-returns-21
-returns-21 c = holds-by (c .before .before .before .before .before .args .column) (now (c .before .before .before .before .before .args .bytes)) (c .before .before .t5 .given .1) (c .lob-char-item .result) (c .lob-char-item .ensures)
+returns-21 c = λ release. holds-by release (c .before .before .before .before .before .args .column) (now (c .before .before .before .before .before .args .bytes)) (c .before .before .t5 .given .1) (c .lob-char-item .result) (c .lob-char-item .ensures release)
 
 returns-22 : tie.Need-returns-22
-returns-22 c = holds-by (c .before .before .before .before .args .column) (now (c .before .before .before .before .args .bytes)) (c .before .enum-told15 .given .1) (c .text-from4 .result) (c .text-from4 .ensures)
+returns-22 c = λ release. holds-by release (c .before .before .before .before .args .column) (now (c .before .before .before .before .args .bytes)) (c .before .enum-told15 .given .1) (c .text-from4 .result) (c .text-from4 .ensures release)
 
 returns-23 : tie.Need-returns-23
-returns-23 c = holds-by (c .before .before .before .before .args .column) (now (c .before .before .before .before .args .bytes)) (c .before .enum-told16 .given .1) (cell.Boolean (not (c .all-zero .result))) (ap (λ (z : Bool). Item.boolean (not z)) (sym (c .all-zero .ensures)))
+returns-23 c = λ release. holds-by release (c .before .before .before .before .args .column) (now (c .before .before .before .before .args .bytes)) (c .before .enum-told16 .given .1) (cell.Boolean (not (c .all-zero .result))) (ap (λ (z : Bool). Item.boolean (not z)) (sym (c .all-zero .ensures)))
 
 returns-24 : tie.Need-returns-24
-returns-24 c = holds-by (c .before .before .before .before .args .column) (now (c .before .before .before .before .args .bytes)) (c .before .enum-told17 .given .1) (c .lob-item4 .result) (c .lob-item4 .ensures)
+returns-24 c = λ release. holds-by release (c .before .before .before .before .args .column) (now (c .before .before .before .before .args .bytes)) (c .before .enum-told17 .given .1) (c .lob-item4 .result) (c .lob-item4 .ensures release)
 
 returns-25 : tie.Need-returns-25
-returns-25 c = one-of enum (λ t. isNumber t ≡ false → c .before .before .args .column .«db2_type» ≡ t → Holds cell.Nothing (now (c .before .before .args .bytes)) (itemIn ported (c .before .before .args .column) (now (c .before .before .args .bytes)))) 0 (1 ∷ 2 ∷ 3 ∷ 4 ∷ 6 ∷ 28 ∷ []) (c .before .before .args .column .«db2_type») (c .match .keys23)
-    ((λ v h e. absurd (true≢false h)), ((λ v h e. absurd (true≢false h)), ((λ v h e. absurd (true≢false h)), ((λ v h e. absurd (true≢false h)), ((λ v h e. absurd (true≢false h)), ((λ v h e. holds-by (c .before .before .args .column) (now (c .before .before .args .bytes)) e cell.Nothing refl), (λ v h e. holds-by (c .before .before .args .column) (now (c .before .before .args .bytes)) e cell.Nothing refl)))))))
+returns-25 c = λ release. one-of enum (λ t. isNumber t ≡ false → c .before .before .args .column .«db2_type» ≡ t → Holds release cell.Nothing (now (c .before .before .args .bytes)) (itemIn (conversionsOf release) (c .before .before .args .column) (now (c .before .before .args .bytes)))) 0 (1 ∷ 2 ∷ 3 ∷ 4 ∷ 6 ∷ 28 ∷ []) (c .before .before .args .column .«db2_type») (c .match .keys23)
+    ((λ v h e. absurd (true≢false h)), ((λ v h e. absurd (true≢false h)), ((λ v h e. absurd (true≢false h)), ((λ v h e. absurd (true≢false h)), ((λ v h e. absurd (true≢false h)), ((λ v h e. holds-by release (c .before .before .args .column) (now (c .before .before .args .bytes)) e cell.Nothing refl), (λ v h e. holds-by release (c .before .before .args .column) (now (c .before .before .args .bytes)) e cell.Nothing refl)))))))
     (c .before .before .pre .1) refl
 
 pub item-of-spec : {M : Type 1} → statement M

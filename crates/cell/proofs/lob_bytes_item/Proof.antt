@@ -15,7 +15,7 @@ part-from-requires c κs = search needs
 
 returns : tie.Need-returns
 unfolding lobBytesItem
-returns c = rw (sym (c .before .before .is-short-reference .ensures) ∙ c .before .if1 .taken) (whole-part (c .part-from .result) ByteSort.blob (now (c .before .before .before .before .args .bytes)) (c .part-from .ensures))
+returns c = λ release. rw (sym (c .before .before .is-short-reference .ensures) ∙ c .before .if1 .taken) (whole-part release (c .part-from .result) ByteSort.blob (now (c .before .before .before .before .args .bytes)) (c .part-from .ensures release))
 
 bytes-are-likely-text-requires : tie.Need-bytes-are-likely-text-requires
 bytes-are-likely-text-requires c κs = search needs
@@ -25,14 +25,14 @@ text-from-requires c κs = search needs
 
 returns-2 : tie.Need-returns-2
 unfolding lobBytesItem
-returns-2 c = rw (sym (c .before .before .before .before .is-short-reference .ensures) ∙ c .before .before .before .if1 .left, sym (c .before .before .bytes-are-likely-text .ensures) ∙ c .before .if2 .taken) (c .text-from .ensures)
+returns-2 c = λ release. rw (sym (c .before .before .before .before .is-short-reference .ensures) ∙ c .before .before .before .if1 .left, sym (c .before .before .bytes-are-likely-text .ensures) ∙ c .before .if2 .taken) (c .text-from .ensures release)
 
 part-from-requires-2 : tie.Need-part-from-requires-2
 part-from-requires-2 c κs = search needs
 
 returns-3 : tie.Need-returns-3
 unfolding lobBytesItem
-returns-3 c = rw (sym (c .before .before .before .before .is-short-reference .ensures) ∙ c .before .before .before .if1 .left, sym (c .before .before .bytes-are-likely-text .ensures) ∙ c .before .if2 .left) (whole-part (c .part-from2 .result) ByteSort.blob (now (c .before .before .before .before .before .before .args .bytes)) (c .part-from2 .ensures))
+returns-3 c = λ release. rw (sym (c .before .before .before .before .is-short-reference .ensures) ∙ c .before .before .before .if1 .left, sym (c .before .before .bytes-are-likely-text .ensures) ∙ c .before .if2 .left) (whole-part release (c .part-from2 .result) ByteSort.blob (now (c .before .before .before .before .before .before .args .bytes)) (c .part-from2 .ensures release))
 
 pub lob-bytes-item-spec : {M : Type 1} → statement M
 lob-bytes-item-spec =

@@ -13,14 +13,14 @@ text-from-requires c κs = search needs
 
 returns : tie.Need-returns
 unfolding lobCharItem
-returns c = rw (sym (c .before .before .is-short-reference .ensures) ∙ c .before .if1 .taken) (c .text-from .ensures)
+returns c = λ release. rw (sym (c .before .before .is-short-reference .ensures) ∙ c .before .if1 .taken) (c .text-from .ensures release)
 
 text-from-requires-2 : tie.Need-text-from-requires-2
 text-from-requires-2 c κs = search needs
 
 returns-2 : tie.Need-returns-2
 unfolding lobCharItem
-returns-2 c = rw (sym (c .before .before .is-short-reference .ensures) ∙ c .before .if1 .left) (c .text-from2 .ensures)
+returns-2 c = λ release. rw (sym (c .before .before .is-short-reference .ensures) ∙ c .before .if1 .left) (c .text-from2 .ensures release)
 
 pub lob-char-item-spec : {M : Type 1} → statement M
 lob-char-item-spec =

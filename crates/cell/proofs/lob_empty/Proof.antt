@@ -23,7 +23,7 @@ empty-text-requires-2 c κs = search needs
 
 returns : tie.Need-returns
 unfolding lobEmpty
-returns c = rw (c .enum-told .given .1) (λ s. (refl, omega arith))
+returns c = rw (c .enum-told .given .1) (λ release s. (refl, omega arith))
 
 returns-2 : tie.Need-returns-2
 unfolding lobEmpty

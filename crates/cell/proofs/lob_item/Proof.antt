@@ -18,11 +18,11 @@ undeclared-lob-requires c κs = c .before .before .before .pre (c .enum-told2 .g
 
 returns : tie.Need-returns
 unfolding lobItem
-returns c = rw (c .before .enum-told .given .1) (c .declared-lob .ensures)
+returns c = λ release. rw (c .before .enum-told .given .1) (c .declared-lob .ensures release)
 
 returns-2 : tie.Need-returns-2
 unfolding lobItem
-returns-2 c = rw (c .before .enum-told2 .given .1) (c .undeclared-lob .ensures)
+returns-2 c = λ release. rw (c .before .enum-told2 .given .1) (c .undeclared-lob .ensures release)
 
 pub lob-item-spec : {M : Type 1} → statement M
 lob-item-spec =

@@ -23,15 +23,15 @@ text-from-requires-2 : tie.Need-text-from-requires-2
 text-from-requires-2 c κs = search needs
 
 returns : tie.Need-returns
-returns c = rw (c .before .enum-told .given .1) (c .first-four .ensures)
+returns c = λ release. rw (c .before .enum-told .given .1) (c .first-four .ensures release)
 
 returns-2 : tie.Need-returns-2
 unfolding lobReference
-returns-2 c = rw (c .before .enum-told2 .given .1) (c .text-from .ensures)
+returns-2 c = λ release. rw (c .before .enum-told2 .given .1) (c .text-from .ensures release)
 
 returns-3 : tie.Need-returns-3
 unfolding lobReference
-returns-3 c = rw (c .before .enum-told3 .given .1) (c .text-from2 .ensures)
+returns-3 c = λ release. rw (c .before .enum-told3 .given .1) (c .text-from2 .ensures release)
 
 pub lob-reference-spec : {M : Type 1} → statement M
 lob-reference-spec =

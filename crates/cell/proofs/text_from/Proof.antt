@@ -10,7 +10,7 @@ sub-t7 : tie.Need-sub-t7
 sub-t7 c = search needs
 
 returns : tie.Need-returns
-returns c = (rw (all-from (c .args .from) (now (c .args .bytes))), (omega arith, tt))
+returns c = λ release. (rw (all-from (c .args .from) (now (c .args .bytes))), (omega arith, tt))
 
 pub text-from-spec : {M : Type 1} → statement M
 text-from-spec = tie.close (tie.spec sub-t7 returns)

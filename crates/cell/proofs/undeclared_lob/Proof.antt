@@ -26,27 +26,27 @@ lob-empty-requires : tie.Need-lob-empty-requires
 lob-empty-requires c κs = search needs
 
 returns : tie.Need-returns
-returns c = let z = sym (ap allZero (all-from 1 (now (c .before .before .before .before .before .before .before .args .bytes)))) ∙ sym (c .before .before .all-zero .ensures) ∙ c .before .if2 .taken in
-    rw (sym (c .before .before .before .before .before .is-reference .ensures) ∙ c .before .before .before .before .if1 .taken, z) (c .lob-empty .ensures (now (c .before .before .before .before .before .before .before .args .bytes)))
+returns c = λ release. let z = sym (ap allZero (all-from 1 (now (c .before .before .before .before .before .before .before .args .bytes)))) ∙ sym (c .before .before .all-zero .ensures) ∙ c .before .if2 .taken in
+    rw (sym (c .before .before .before .before .before .is-reference .ensures) ∙ c .before .before .before .before .if1 .taken, z) (c .lob-empty .ensures release (now (c .before .before .before .before .before .before .before .args .bytes)))
 
 lob-reference-requires : tie.Need-lob-reference-requires
 lob-reference-requires c κs = search needs
 
 returns-2 : tie.Need-returns-2
-returns-2 c = let z = sym (ap allZero (all-from 1 (now (c .before .before .before .before .before .before .before .args .bytes)))) ∙ sym (c .before .before .all-zero .ensures) ∙ c .before .if2 .left in
-    rw (sym (c .before .before .before .before .before .is-reference .ensures) ∙ c .before .before .before .before .if1 .taken, z) (c .lob-reference .ensures)
+returns-2 c = λ release. let z = sym (ap allZero (all-from 1 (now (c .before .before .before .before .before .before .before .args .bytes)))) ∙ sym (c .before .before .all-zero .ensures) ∙ c .before .if2 .left in
+    rw (sym (c .before .before .before .before .before .is-reference .ensures) ∙ c .before .before .before .before .if1 .taken, z) (c .lob-reference .ensures release)
 
 lob-reference-requires-2 : tie.Need-lob-reference-requires-2
 lob-reference-requires-2 c κs = search needs
 
 returns-3 : tie.Need-returns-3
-returns-3 c = rw (sym (c .before .before .before .is-reference .ensures) ∙ c .before .before .if1 .left, c .before .if3 .taken) (c .lob-reference2 .ensures)
+returns-3 c = λ release. rw (sym (c .before .before .before .is-reference .ensures) ∙ c .before .before .if1 .left, c .before .if3 .taken) (c .lob-reference2 .ensures release)
 
 lob-inline-requires : tie.Need-lob-inline-requires
 lob-inline-requires c κs = search needs
 
 returns-4 : tie.Need-returns-4
-returns-4 c = rw (sym (c .before .before .before .is-reference .ensures) ∙ c .before .before .if1 .left, c .before .if3 .left) (c .lob-inline .ensures)
+returns-4 c = λ release. rw (sym (c .before .before .before .is-reference .ensures) ∙ c .before .before .if1 .left, c .before .if3 .left) (c .lob-inline .ensures release)
 
 pub undeclared-lob-spec : {M : Type 1} → statement M
 undeclared-lob-spec =

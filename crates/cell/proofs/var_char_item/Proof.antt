@@ -9,7 +9,7 @@ characters-requires c κs = search needs
 
 returns : tie.Need-returns
 unfolding varyingItem
-returns c = λ n b k s e l. rw (b, e) (c .characters .ensures s l)
+returns c = λ n b release k s e l. rw (b, e) (c .characters .ensures release s l)
 
 pub var-char-item-spec : {M : Type 1} → statement M
 var-char-item-spec = tie.close (tie.spec characters-requires returns)

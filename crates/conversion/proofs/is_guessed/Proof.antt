@@ -1,7 +1,6 @@
--- `conversion::is_guessed` meets its contract: the CCSID is none of those that a definition tests for. Assumes nothing.
-use mathlib.Core.Bool.{true, false}
+-- `conversion::is_guessed` meets its contract: the release is before 3, and the CCSID none of those that a definition tests for. Assumes nothing.
 use mathlib.Core.Logic.{inl, inr}
-use mathlib.Core.Path.{_≡_, sym, subst}
+use mathlib.Core.Path.{sym, subst}
 use borrow.Author.Tests.{ne-eqb}
 use lib.Dec.{T}
 use Rattle.conversion.specs.Conversion.{isUtf16}
@@ -22,7 +21,7 @@ returns-2 c e =
     let no1200 = ne-eqb (c .before .args .ccsid) 1200 (λ k. h (inr (inr (inr (inl k))))) in
     let no1208 = ne-eqb (c .before .args .ccsid) 1208 (λ k. h (inr (inr (inr (inr (inl k)))))) in
     let no13488 = ne-eqb (c .before .args .ccsid) 13488 (λ k. h (inr (inr (inr (inr (inr k)))))) in
-    record { characters = λ s. simp (no37, no500, no819, no1208); graphics = λ s. simp (no37, no500, no819, no1200, no1208, no13488) }
+    record { characters = λ s. simp (no37, no500, no819, no1208, e); graphics = λ s. simp (no37, no500, no819, no1200, no1208, no13488, e) }
 
 pub is-guessed-spec : {M : Type 1} → statement M
 is-guessed-spec = tie.close (tie.spec returns returns-2)

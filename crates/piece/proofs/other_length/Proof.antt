@@ -15,16 +15,16 @@ decode-other-value-requires : tie.Need-decode-other-value-requires
 decode-other-value-requires c κs = search needs
 
 slice-aggregate-item-len : tie.Need-slice-aggregate-item-len
-slice-aggregate-item-len c = sym (length-take-le (c .before .decode-other-value .result .used) (now (c .before .before .before .args .rest)) (omega (arith, c .before .decode-other-value .ensures .1 .0, c .before .before .before .pre .0)))
+slice-aggregate-item-len c = sym (length-take-le (c .before .decode-other-value .result .used) (now (c .before .before .before .args .rest)) (omega (arith, c .before .decode-other-value .ensures 2 .1 .0, c .before .before .before .pre .0)))
 
 text-start-requires : tie.Need-text-start-requires
 text-start-requires c κs = search needs
 
 item-len-requires : tie.Need-item-len-requires
-item-len-requires c κs = (omega (arith, length-take-le (c .before .before .decode-other-value .result .used) (now (c .before .before .before .before .args .rest)) (omega (arith, c .before .before .decode-other-value .ensures .1 .0, c .before .before .before .before .pre .0)), c .before .before .decode-other-value .ensures .1 .0, c .before .before .before .before .pre .0, c .before .before .before .before .pre .1 .0), found-within (c .before .before .decode-other-value .result) (c .before .before .before .before .args .column) (now (c .before .before .before .before .args .rest)) (c .before .before .decode-other-value .ensures))
+item-len-requires c κs = (omega (arith, length-take-le (c .before .before .decode-other-value .result .used) (now (c .before .before .before .before .args .rest)) (omega (arith, c .before .before .decode-other-value .ensures 2 .1 .0, c .before .before .before .before .pre .0)), c .before .before .decode-other-value .ensures 2 .1 .0, c .before .before .before .before .pre .0, c .before .before .before .before .pre .1 .0), found-within (c .before .before .before .before .args .release) (c .before .before .decode-other-value .result) (c .before .before .before .before .args .column) (now (c .before .before .before .before .args .rest)) (c .before .before .decode-other-value .ensures (c .before .before .before .before .args .release)))
 
 returns : tie.Need-returns
-returns c = (c .before .before .before .decode-other-value .ensures .1 .0, (c .item-len .ensures .0 ∙ ap length (found-text (c .before .before .before .decode-other-value .result) (c .before .before .before .before .before .args .column) (now (c .before .before .before .before .before .args .rest)) (c .before .before .before .decode-other-value .ensures)), λ h. found-plain (c .before .before .before .decode-other-value .result) (c .before .before .before .before .before .args .column) (now (c .before .before .before .before .before .args .rest)) (c .before .before .before .decode-other-value .ensures) (c .item-len .ensures .1 h ∙ ap (λ (f : ℕ). unreplaced (drop f (take (c .before .before .before .decode-other-value .result .used) (now (c .before .before .before .before .before .args .rest))))) (c .before .text-start .ensures))))
+returns c = (c .before .before .before .decode-other-value .ensures 2 .1 .0, (c .item-len .ensures .0 ∙ ap length (found-text (c .before .before .before .before .before .args .release) (c .before .before .before .decode-other-value .result) (c .before .before .before .before .before .args .column) (now (c .before .before .before .before .before .args .rest)) (c .before .before .before .decode-other-value .ensures (c .before .before .before .before .before .args .release))), λ h. found-plain (c .before .before .before .before .before .args .release) (c .before .before .before .decode-other-value .result) (c .before .before .before .before .before .args .column) (now (c .before .before .before .before .before .args .rest)) (c .before .before .before .decode-other-value .ensures (c .before .before .before .before .before .args .release)) (c .item-len .ensures .1 h ∙ ap (λ (f : ℕ). unreplaced (drop f (take (c .before .before .before .decode-other-value .result .used) (now (c .before .before .before .before .before .args .rest))))) (c .before .text-start .ensures))))
 
 pub other-length-spec : {M : Type 1} → statement M
 other-length-spec =

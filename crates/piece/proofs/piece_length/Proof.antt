@@ -14,7 +14,7 @@ is-null-requires : tie.Need-is-null-requires
 is-null-requires c κs = search needs
 
 returns : tie.Need-returns
-returns c = (sym (null-takes (c .before .before .before .args .column) (now (c .before .before .before .args .rest)) (sym (c .before .is-null .ensures) ∙ c .if1 .taken)), (sym (ap length (absent-text (c .before .before .before .args .column) (now (c .before .before .before .args .rest)) (sym (c .before .is-null .ensures) ∙ c .if1 .taken) (omega (arith, null-takes (c .before .before .before .args .column) (now (c .before .before .before .args .rest)) (sym (c .before .is-null .ensures) ∙ c .if1 .taken), c .before .before .before .pre .0)))), λ at h. absurd (true≢false (sym h))))
+returns c = (sym (null-takes (c .before .before .before .args .column) (now (c .before .before .before .args .rest)) (sym (c .before .is-null .ensures) ∙ c .if1 .taken)), (sym (ap length (absent-text (c .before .before .before .args .column) (now (c .before .before .before .args .rest)) (sym (c .before .is-null .ensures) ∙ c .if1 .taken) (c .before .before .before .args .release) (omega (arith, null-takes (c .before .before .before .args .column) (now (c .before .before .before .args .rest)) (sym (c .before .is-null .ensures) ∙ c .if1 .taken), c .before .before .before .pre .0)))), λ at h. absurd (true≢false (sym h))))
 
 lead-requires : tie.Need-lead-requires
 lead-requires c κs = search needs
@@ -35,7 +35,7 @@ add-used : tie.Need-add-used
 add-used c = let u = rw (all-after (c .before .before .before .lead .result) (now (c .before .before .before .before .before .before .before .args .rest)), c .before .before .before .lead .ensures .0) at (c .before .value-length .ensures .0) in record { fits = omega (arith, u, c .before .before .before .lead .ensures .0, value-takes (c .before .before .before .before .before .before .before .args .column) (now (c .before .before .before .before .before .before .before .args .rest)) (sym (c .before .before .before .before .before .is-null .ensures) ∙ c .before .before .before .before .if1 .left), c .before .before .before .before .before .before .before .pre .0, c .before .before .before .before .before .before .before .pre .1) }
 
 returns-2 : tie.Need-returns-2
-returns-2 c = let w = rw (all-after (c .before .before .before .lead .result) (now (c .before .before .before .before .before .before .before .args .rest)), c .before .before .before .lead .ensures .0) at (c .before .value-length .ensures) in (omega (arith, w .0, c .before .before .before .lead .ensures .0, value-takes (c .before .before .before .before .before .before .before .args .column) (now (c .before .before .before .before .before .before .before .args .rest)) (sym (c .before .before .before .before .before .is-null .ensures) ∙ c .before .before .before .before .if1 .left)), (w .1 .0 ∙ ap length (sym (value-reads (c .before .before .before .before .before .before .before .args .column) (now (c .before .before .before .before .before .before .before .args .rest)) (sym (c .before .before .before .before .before .is-null .ensures) ∙ c .before .before .before .before .if1 .left))), λ at h. subst PlainCell (sym (value-stands (c .before .before .before .before .before .before .before .args .column) (now (c .before .before .before .before .before .before .before .args .rest)) (sym (c .before .before .before .before .before .is-null .ensures) ∙ c .before .before .before .before .if1 .left) at)) (w .1 .1 h)))
+returns-2 c = let w = rw (all-after (c .before .before .before .lead .result) (now (c .before .before .before .before .before .before .before .args .rest)), c .before .before .before .lead .ensures .0) at (c .before .value-length .ensures) in (omega (arith, w .0, c .before .before .before .lead .ensures .0, value-takes (c .before .before .before .before .before .before .before .args .column) (now (c .before .before .before .before .before .before .before .args .rest)) (sym (c .before .before .before .before .before .is-null .ensures) ∙ c .before .before .before .before .if1 .left)), (w .1 .0 ∙ ap length (sym (value-reads (c .before .before .before .before .before .before .before .args .column) (now (c .before .before .before .before .before .before .before .args .rest)) (sym (c .before .before .before .before .before .is-null .ensures) ∙ c .before .before .before .before .if1 .left) (c .before .before .before .before .before .before .before .args .release))), λ at h. subst (PlainCell (c .before .before .before .before .before .before .before .args .release)) (sym (value-stands (c .before .before .before .before .before .before .before .args .column) (now (c .before .before .before .before .before .before .before .args .rest)) (sym (c .before .before .before .before .before .is-null .ensures) ∙ c .before .before .before .before .if1 .left) at)) (w .1 .1 h)))
 
 pub piece-length-spec : {M : Type 1} → statement M
 piece-length-spec =

@@ -25,7 +25,7 @@ other-length-requires c κs = (c .before .before .before .before .pre .0, (c .be
 returns : tie.Need-returns
 returns c =
     let w = subst (λ (w : NumberWidth). WidthOf w ((c .before .before .before .before .before .args .column) .«db2_type»)) (c .before .n .given .1) (c .before .before .before .number-width .ensures) in
-    (width-need (c .before .before .before .before .before .args .column) (c .before .n .given .0 .0) (w .0 (c .before .before .before .before .before .args .column)) (now (c .before .before .before .before .before .args .rest)), (width-text (c .before .before .before .before .before .args .column) (c .before .n .given .0 .0) (now (c .before .before .before .before .before .args .rest)) w, λ h. absurd (true≢false (sym h))))
+    (width-need (c .before .before .before .before .before .args .column) (c .before .n .given .0 .0) (w .0 (c .before .before .before .before .before .args .column)) (now (c .before .before .before .before .before .args .rest)), (width-text (c .before .before .before .before .before .args .release) (c .before .before .before .before .before .args .column) (c .before .n .given .0 .0) (now (c .before .before .before .before .before .args .rest)) w, λ h. absurd (true≢false (sym h))))
 
 returns-2 : tie.Need-returns-2
 returns-2 c = search needs

@@ -30,15 +30,15 @@ text-start-requires c κs = search needs
 
 other-write-requires : tie.Need-other-write-requires
 other-write-requires c κs =
-    let o = subst (λ (x : ColumnValue). ValueIs x (c .before .before .before .before .before .before .before .before .args .column) (now (c .before .before .before .before .before .before .before .before .args .rest))) (c .before .before .before .d .given .1) (c .before .before .before .before .before .decode-column-value .ensures) in (
+    let o = subst (λ (x : ColumnValue). ValueIs (c .before .before .before .before .before .before .before .before .args .release) x (c .before .before .before .before .before .before .before .before .args .column) (now (c .before .before .before .before .before .before .before .before .args .rest))) (c .before .before .before .d .given .1) (c .before .before .before .before .before .decode-column-value .ensures (c .before .before .before .before .before .before .before .before .args .release)) in (
       omega (arith, o .1 .0, c .before .before .before .before .before .before .before .before .pre .0),
       (
         c .before .before .before .before .before .before .before .before .pre .1 .0,
         (
-          found-within (c .before .before .before .d .given .0 .0) (c .before .before .before .before .before .before .before .before .args .column) (now (c .before .before .before .before .before .before .before .before .args .rest)) o,
+          found-within (c .before .before .before .before .before .before .before .before .args .release) (c .before .before .before .d .given .0 .0) (c .before .before .before .before .before .before .before .before .args .column) (now (c .before .before .before .before .before .before .before .before .args .rest)) o,
           (
-            subst (λ (t : List ℕ). length t ≤ length (now (c .before .before .before .before .before .before .before .before .args .out))) (sym (found-text (c .before .before .before .d .given .0 .0) (c .before .before .before .before .before .before .before .before .args .column) (now (c .before .before .before .before .before .before .before .before .args .rest)) o)) (c .before .before .before .before .before .before .before .before .pre .1 .1 .0),
-            (c .before .before .before .before .before .before .before .before .pre .1 .1 .1 .0, λ m. plain-found (c .before .before .before .d .given .0 .0) (c .before .before .before .before .before .before .before .before .args .column) (now (c .before .before .before .before .before .before .before .before .args .rest)) o (c .before .before .before .before .before .before .before .before .args .at) (c .before .before .before .before .before .before .before .before .pre .1 .1 .1 .1 m) ∙ ap (λ (f : ℕ). unreplaced (drop f (take ((c .before .before .before .d .given .0 .0) .used) (now (c .before .before .before .before .before .before .before .before .args .rest))))) (sym (c .before .text-start .ensures))),
+            subst (λ (t : List ℕ). length t ≤ length (now (c .before .before .before .before .before .before .before .before .args .out))) (sym (found-text (c .before .before .before .before .before .before .before .before .args .release) (c .before .before .before .d .given .0 .0) (c .before .before .before .before .before .before .before .before .args .column) (now (c .before .before .before .before .before .before .before .before .args .rest)) o)) (c .before .before .before .before .before .before .before .before .pre .1 .1 .0),
+            (c .before .before .before .before .before .before .before .before .pre .1 .1 .1 .0, λ m. plain-found (c .before .before .before .before .before .before .before .before .args .release) (c .before .before .before .d .given .0 .0) (c .before .before .before .before .before .before .before .before .args .column) (now (c .before .before .before .before .before .before .before .before .args .rest)) o (c .before .before .before .before .before .before .before .before .args .at) (c .before .before .before .before .before .before .before .before .pre .1 .1 .1 .1 m) ∙ ap (λ (f : ℕ). unreplaced (drop f (take ((c .before .before .before .d .given .0 .0) .used) (now (c .before .before .before .before .before .before .before .before .args .rest))))) (sym (c .before .text-start .ensures))),
           ),
         ),
       ),
@@ -46,12 +46,12 @@ other-write-requires c κs =
 
 returns : tie.Need-returns
 returns c =
-    let o = subst (λ (x : ColumnValue). ValueIs x (c .before .before .before .before .before .before .before .args .column) (now (c .before .before .before .before .before .before .before .args .rest))) (c .before .before .value .given .1) (c .before .before .before .before .decode-column-value .ensures) in
-    let text = number-text (c .before .before .value .given .0 .0) (c .before .before .before .before .before .before .before .args .column) (now (c .before .before .before .before .before .before .before .args .rest)) (o .0) in (
-      c .number-piece .ensures .0 ∙ number-place (c .before .before .value .given .0 .0) (c .before .before .before .before .before .before .before .args .column) (now (c .before .before .before .before .before .before .before .args .rest)) (o .0) (c .before .before .before .before .before .before .before .args .at) (c .before .before .before .before .before .before .before .args .next),
+    let o = subst (λ (x : ColumnValue). ValueIs (c .before .before .before .before .before .before .before .args .release) x (c .before .before .before .before .before .before .before .args .column) (now (c .before .before .before .before .before .before .before .args .rest))) (c .before .before .value .given .1) (c .before .before .before .before .decode-column-value .ensures (c .before .before .before .before .before .before .before .args .release)) in
+    let text = number-text (c .before .before .before .before .before .before .before .args .release) (c .before .before .value .given .0 .0) (c .before .before .before .before .before .before .before .args .column) (now (c .before .before .before .before .before .before .before .args .rest)) (o .0) in (
+      c .number-piece .ensures .0 ∙ number-place (c .before .before .before .before .before .before .before .args .release) (c .before .before .value .given .0 .0) (c .before .before .before .before .before .before .before .args .column) (now (c .before .before .before .before .before .before .before .args .rest)) (o .0) (c .before .before .before .before .before .before .before .args .at) (c .before .before .before .before .before .before .before .args .next),
       (
         c .number-piece .ensures .1 .0 ∙ o .1,
-        (c .number-piece .ensures .1 .1 .0 ∙ sym (ap length text), (ap (λ (t : List ℕ). overwritten t (now (c .before .before .before .before .before .before .before .args .out))) (sym text), c .number-piece .ensures .1 .1 .1 ∙ sym (number-replaced (c .before .before .value .given .0 .0) (c .before .before .before .before .before .before .before .args .column) (now (c .before .before .before .before .before .before .before .args .rest)) (o .0)))),
+        (c .number-piece .ensures .1 .1 .0 ∙ sym (ap length text), (ap (λ (t : List ℕ). overwritten t (now (c .before .before .before .before .before .before .before .args .out))) (sym text), c .number-piece .ensures .1 .1 .1 ∙ sym (number-replaced (c .before .before .before .before .before .before .before .args .release) (c .before .before .value .given .0 .0) (c .before .before .before .before .before .before .before .args .column) (now (c .before .before .before .before .before .before .before .args .rest)) (o .0)))),
       ),
     )
 
@@ -60,12 +60,12 @@ same-length c = search needs
 
 returns-2 : tie.Need-returns-2
 returns-2 c =
-    let o = subst (λ (x : ColumnValue). ValueIs x (c .before .before .before .before .before .before .before .before .before .before .before .args .column) (now (c .before .before .before .before .before .before .before .before .before .before .before .args .rest))) (c .before .before .before .before .before .before .d .given .1) (c .before .before .before .before .before .before .before .before .decode-column-value .ensures) in
-    let text = found-text (c .before .before .before .before .before .before .d .given .0 .0) (c .before .before .before .before .before .before .before .before .before .before .before .args .column) (now (c .before .before .before .before .before .before .before .before .before .before .before .args .rest)) o in (
-      c .before .before .other-write .ensures .0 ∙ found-place (c .before .before .before .before .before .before .d .given .0 .0) (c .before .before .before .before .before .before .before .before .before .before .before .args .column) (now (c .before .before .before .before .before .before .before .before .before .before .before .args .rest)) o (c .before .before .before .before .before .before .before .before .before .before .before .args .at) (c .before .before .before .before .before .before .before .before .before .before .before .args .next),
+    let o = subst (λ (x : ColumnValue). ValueIs (c .before .before .before .before .before .before .before .before .before .before .before .args .release) x (c .before .before .before .before .before .before .before .before .before .before .before .args .column) (now (c .before .before .before .before .before .before .before .before .before .before .before .args .rest))) (c .before .before .before .before .before .before .d .given .1) (c .before .before .before .before .before .before .before .before .decode-column-value .ensures (c .before .before .before .before .before .before .before .before .before .before .before .args .release)) in
+    let text = found-text (c .before .before .before .before .before .before .before .before .before .before .before .args .release) (c .before .before .before .before .before .before .d .given .0 .0) (c .before .before .before .before .before .before .before .before .before .before .before .args .column) (now (c .before .before .before .before .before .before .before .before .before .before .before .args .rest)) o in (
+      c .before .before .other-write .ensures .0 ∙ found-place (c .before .before .before .before .before .before .before .before .before .before .before .args .release) (c .before .before .before .before .before .before .d .given .0 .0) (c .before .before .before .before .before .before .before .before .before .before .before .args .column) (now (c .before .before .before .before .before .before .before .before .before .before .before .args .rest)) o (c .before .before .before .before .before .before .before .before .before .before .before .args .at) (c .before .before .before .before .before .before .before .before .before .before .before .args .next),
       (
         c .before .before .other-write .ensures .1 .0 ∙ o .1 .0,
-        (c .before .before .other-write .ensures .1 .1 .0 ∙ ap length text, (c .before .before .other-write .ensures .1 .1 .1 .0 ∙ ap (λ (t : List ℕ). overwritten t (now (c .before .before .before .before .before .before .before .before .before .before .before .args .out))) text, c .before .before .other-write .ensures .1 .1 .1 .1 ∙ found-replaced (c .before .before .before .before .before .before .d .given .0 .0) (c .before .before .before .before .before .before .before .before .before .before .before .args .column) (now (c .before .before .before .before .before .before .before .before .before .before .before .args .rest)) o)),
+        (c .before .before .other-write .ensures .1 .1 .0 ∙ ap length text, (c .before .before .other-write .ensures .1 .1 .1 .0 ∙ ap (λ (t : List ℕ). overwritten t (now (c .before .before .before .before .before .before .before .before .before .before .before .args .out))) text, c .before .before .other-write .ensures .1 .1 .1 .1 ∙ found-replaced (c .before .before .before .before .before .before .before .before .before .before .before .args .release) (c .before .before .before .before .before .before .d .given .0 .0) (c .before .before .before .before .before .before .before .before .before .before .before .args .column) (now (c .before .before .before .before .before .before .before .before .before .before .before .args .rest)) o)),
       ),
     )
 

@@ -11,7 +11,7 @@ use lib.Seq.{length-take-le}
 use Rattle.types.specs.declared.ColumnDescriptor.{ColumnDescriptor}
 use Rattle.rules.specs.Walk.{walkBody, done}
 use Rattle.rules.specs.Row.{covered, rowTexts, answerOf, textAfter}
-use Rattle.rules.specs.Conversions.{ported}
+use Rattle.rules.specs.Conversions.{conversionsOf}
 use Rattle.rules.proofs.Walks.{piecesOf}
 use Rattle.rules.proofs.Progress.{Walking, walking-start, walking-step, walking-short, walking-end, placing-there, placing-room, placing-within, covered-at, rest-is}
 use Rattle.rules.proofs.Replaced.{placing-few}
@@ -28,17 +28,17 @@ use Rattle.row.proofs.decode_row_body.Statement.{statement}
 use Rattle.row.proofs.decode_row_body.Tie as tie
 
 abbrev Inv-loop : tie.InvT-loop
-Inv-loop «data» start text columns count end₀ j₀ end j = (j ≤ columns .count) × Walking (covered columns) start «data» j end
+Inv-loop «data» start release text columns count end₀ j₀ end j = (j ≤ columns .count) × Walking (covered columns) start «data» j end
 
 abbrev μ-loop : tie.MeasureT-loop
-μ-loop «data» start text columns count end₀ j₀ end j = count - j
+μ-loop «data» start release text columns count end₀ j₀ end j = count - j
 
 abbrev Inv-loop2 : tie.InvT-loop2
-Inv-loop2 «data» start text₀ columns count end j room marks places₀ at₀ next₀ replaced₀ k₀ text places at next replaced k =
-    (k ≤ columns .count) × Filling (covered columns) start «data» end text₀ places k at next replaced text
+Inv-loop2 «data» start release text₀ columns count end j room marks places₀ at₀ next₀ replaced₀ k₀ text places at next replaced k =
+    (k ≤ columns .count) × Filling release (covered columns) start «data» end text₀ places k at next replaced text
 
 abbrev μ-loop2 : tie.MeasureT-loop2
-μ-loop2 «data» start text₀ columns count end j room marks places₀ at₀ next₀ replaced₀ k₀ text places at next replaced k = count - k
+μ-loop2 «data» start release text₀ columns count end j room marks places₀ at₀ next₀ replaced₀ k₀ text places at next replaced k = count - k
 
 -- what is known from the start
 module _ (c : tie.Start Inv-loop μ-loop Inv-loop2 μ-loop2) where
@@ -68,26 +68,26 @@ module _ (c : tie.After-loop Inv-loop μ-loop Inv-loop2 μ-loop2) where
   done-is : walkBody (covered (c .before .before .before .before .args .t3)) (c .before .before .before .before .args .start) (now (c .before .before .before .before .args .«data»)) ≡ done (piecesOf (walkBody (covered (c .before .before .before .before .args .t3)) (c .before .before .before .before .args .start) (now (c .before .before .before .before .args .«data»)))) (c .before .loop .end)
   done-is = whole-is whole
 
-  texts-is : length (textsOf (walkBody (covered (c .before .before .before .before .args .t3)) (c .before .before .before .before .args .start) (now (c .before .before .before .before .args .«data»)))) ≡ length (rowTexts ported (piecesOf (walkBody (covered (c .before .before .before .before .args .t3)) (c .before .before .before .before .args .start) (now (c .before .before .before .before .args .«data»)))))
-  texts-is = ap length (texts-are (walkBody (covered (c .before .before .before .before .args .t3)) (c .before .before .before .before .args .start) (now (c .before .before .before .before .args .«data»))))
+  texts-is : length (textsOf (c .before .before .before .before .args .release) (walkBody (covered (c .before .before .before .before .args .t3)) (c .before .before .before .before .args .start) (now (c .before .before .before .before .args .«data»)))) ≡ length (rowTexts (conversionsOf (c .before .before .before .before .args .release)) (piecesOf (walkBody (covered (c .before .before .before .before .args .t3)) (c .before .before .before .before .args .start) (now (c .before .before .before .before .args .«data»)))))
+  texts-is = ap length (texts-are (c .before .before .before .before .args .release) (walkBody (covered (c .before .before .before .before .args .t3)) (c .before .before .before .before .args .start) (now (c .before .before .before .before .args .«data»))))
 
-  bound : length (rowTexts ported (piecesOf (walkBody (covered (c .before .before .before .before .args .t3)) (c .before .before .before .before .args .start) (now (c .before .before .before .before .args .«data»))))) ≤ 3 * (c .before .loop .end - c .before .before .before .before .args .start) + 258 * c .before .before .before .before .args .t3 .count
-  bound = covered-bound (c .before .before .before .before .args .t3) (enough (c .before .before .before .before)) (owned-scaled (c .before .before .before .before .args .t3 .columns) _ (c .before .before .before .before .good .1 .1 .0 .1 .1 .0 .1 .1)) (c .before .before .before .before .args .start) (c .before .loop .end) (now (c .before .before .before .before .args .«data»)) (λ i. omega (arith, c .before .before .before .shared-slice-known .given i)) (c .before .before .before .before .pre .1 .0) whole
+  bound : length (rowTexts (conversionsOf (c .before .before .before .before .args .release)) (piecesOf (walkBody (covered (c .before .before .before .before .args .t3)) (c .before .before .before .before .args .start) (now (c .before .before .before .before .args .«data»))))) ≤ 3 * (c .before .loop .end - c .before .before .before .before .args .start) + 258 * c .before .before .before .before .args .t3 .count
+  bound = covered-bound (c .before .before .before .before .args .release) (c .before .before .before .before .args .t3) (enough (c .before .before .before .before)) (owned-scaled (c .before .before .before .before .args .t3 .columns) _ (c .before .before .before .before .good .1 .1 .0 .1 .1 .0 .1 .1)) (c .before .before .before .before .args .start) (c .before .loop .end) (now (c .before .before .before .before .args .«data»)) (λ i. omega (arith, c .before .before .before .shared-slice-known .given i)) (c .before .before .before .before .pre .1 .0) whole
 
 -- where the two ways meet: the texts fit, as measured or as no text can be longer
 module _ (c : tie.Joined2 Inv-loop μ-loop Inv-loop2 μ-loop2) where
-  fits : length (rowTexts ported (piecesOf (walkBody (covered (c .before .before .before .before .before .args .t3)) (c .before .before .before .before .before .args .start) (now (c .before .before .before .before .before .args .«data»))))) ≤ length (now (c .before .before .before .before .before .args .text))
+  fits : length (rowTexts (conversionsOf (c .before .before .before .before .before .args .release)) (piecesOf (walkBody (covered (c .before .before .before .before .before .args .t3)) (c .before .before .before .before .before .args .start) (now (c .before .before .before .before .before .args .«data»))))) ≤ length (now (c .before .before .before .before .before .args .text))
   fits =
       ⊎-elim
-      (λ w. let k : length (textsOf (walkBody (covered (c .before .before .before .before .before .args .t3)) (c .before .before .before .before .before .args .start) (now (c .before .before .before .before .before .args .«data»)))) ≤ length (now (c .before .before .before .before .before .args .text)) = needed-fits (length (now (c .before .before .before .before .before .args .text))) (w .2 .result) (textsOf (walkBody (covered (c .before .before .before .before .before .args .t3)) (c .before .before .before .before .before .args .start) (now (c .before .before .before .before .before .args .«data»)))) (w .2 .ensures .0) (w .3 .left) in omega (arith, k, texts-is (c .before)))
+      (λ w. let k : length (textsOf (c .before .before .before .before .before .args .release) (walkBody (covered (c .before .before .before .before .before .args .t3)) (c .before .before .before .before .before .args .start) (now (c .before .before .before .before .before .args .«data»)))) ≤ length (now (c .before .before .before .before .before .args .text)) = needed-fits (length (now (c .before .before .before .before .before .args .text))) (w .2 .result) (textsOf (c .before .before .before .before .before .args .release) (walkBody (covered (c .before .before .before .before .before .args .t3)) (c .before .before .before .before .before .args .start) (now (c .before .before .before .before .before .args .«data»)))) (w .2 .ensures .0) (w .3 .left) in omega (arith, k, texts-is (c .before)))
       (λ w. omega (arith, bound (c .before), w .0 .left))
       (c .if2 .came)
 
-  marked : PlainMarks (c .if2 .marks) (walkBody (covered (c .before .before .before .before .before .args .t3)) (c .before .before .before .before .before .args .start) (now (c .before .before .before .before .before .args .«data»)))
+  marked : PlainMarks (c .before .before .before .before .before .args .release) (c .if2 .marks) (walkBody (covered (c .before .before .before .before .before .args .t3)) (c .before .before .before .before .before .args .start) (now (c .before .before .before .before .before .args .«data»)))
   marked =
       ⊎-elim
-      (λ w. subst (λ (m : List ℕ). PlainMarks m (walkBody (covered (c .before .before .before .before .before .args .t3)) (c .before .before .before .before .before .args .start) (now (c .before .before .before .before .before .args .«data»)))) (sym (w .4)) (w .2 .ensures .1))
-      (λ w. subst (λ (m : List ℕ). PlainMarks m (walkBody (covered (c .before .before .before .before .before .args .t3)) (c .before .before .before .before .before .args .start) (now (c .before .before .before .before .before .args .«data»)))) (sym (w .1)) (plain-none (walkBody (covered (c .before .before .before .before .before .args .t3)) (c .before .before .before .before .before .args .start) (now (c .before .before .before .before .before .args .«data»)))))
+      (λ w. subst (λ (m : List ℕ). PlainMarks (c .before .before .before .before .before .args .release) m (walkBody (covered (c .before .before .before .before .before .args .t3)) (c .before .before .before .before .before .args .start) (now (c .before .before .before .before .before .args .«data»)))) (sym (w .4)) (w .2 .ensures .1))
+      (λ w. subst (λ (m : List ℕ). PlainMarks (c .before .before .before .before .before .args .release) m (walkBody (covered (c .before .before .before .before .before .args .t3)) (c .before .before .before .before .before .args .start) (now (c .before .before .before .before .before .args .«data»)))) (sym (w .1)) (plain-none (c .before .before .before .before .before .args .release) (walkBody (covered (c .before .before .before .before .before .args .t3)) (c .before .before .before .before .before .args .start) (now (c .before .before .before .before .before .args .«data»)))))
       (c .if2 .came)
 
 -- a turn of the second loop
@@ -133,7 +133,7 @@ unfolding answerOf textAfter
 returns c =
     let t = c .before .before .before .before .before .before in
     let w = walking-short _ _ _ (t .before .loop .inv .1) _ (here t _) _ (rest t) (rw (c .before .before .before .piece-need .ensures) at (c .before .before .if1 .taken)) _ _ (c .before .shortage .ensures) in
-    rw (decided-short _ _ _ _ w) (c .refused .ensures, refl)
+    rw (decided-short (c .before .before .before .before .before .before .before .before .before .before .args .release) _ _ _ _ w) (c .refused .ensures, refl)
 
 add-end : tie.Need-add-end Inv-loop μ-loop Inv-loop2 μ-loop2
 add-end c =
@@ -165,7 +165,7 @@ add-if2 : tie.Need-add-if2 Inv-loop μ-loop Inv-loop2 μ-loop2
 add-if2 c = omega (arith, c .before .loop .inv .1 .within, c .before .before .before .before .pre .1 .1, c .before .before .before .before .pre .0)
 
 text-needed-requires : tie.Need-text-needed-requires Inv-loop μ-loop Inv-loop2 μ-loop2
-text-needed-requires c κs = (c .before .before .before .before .before .before .pre .0, (c .before .before .before .before .before .before .pre .1 .0, (c .before .before .before .before .before .before .pre .1 .1, ((c .before .before .before .loop .end, whole (c .before .before)), plain-none (walkBody (covered (c .before .before .before .before .before .before .args .t3)) (c .before .before .before .before .before .before .args .start) (now (c .before .before .before .before .before .before .args .«data»)))))))
+text-needed-requires c κs = (c .before .before .before .before .before .before .pre .0, (c .before .before .before .before .before .before .pre .1 .0, (c .before .before .before .before .before .before .pre .1 .1, ((c .before .before .before .loop .end, whole (c .before .before)), plain-none (c .before .before .before .before .before .before .args .release) (walkBody (covered (c .before .before .before .before .before .before .args .t3)) (c .before .before .before .before .before .before .args .start) (now (c .before .before .before .before .before .before .args .«data»)))))))
 
 refused-requires-2 : tie.Need-refused-requires-2 Inv-loop μ-loop Inv-loop2 μ-loop2
 refused-requires-2 c κs = search needs
@@ -174,17 +174,17 @@ returns-2 : tie.Need-returns-2 Inv-loop μ-loop Inv-loop2 μ-loop2
 unfolding answerOf textAfter
 returns-2 c =
     let t = c .before .before .before .before .before in
-    let m = needed-more (length (now (c .before .before .before .before .before .before .before .before .before .args .text))) (c .before .before .text-needed .result) (textsOf (walkBody (covered (c .before .before .before .before .before .before .before .before .before .args .t3)) (c .before .before .before .before .before .before .before .before .before .args .start) (now (c .before .before .before .before .before .before .before .before .before .args .«data»)))) (c .before .before .text-needed .ensures .0) (c .before .if3 .taken) in
+    let m = needed-more (length (now (c .before .before .before .before .before .before .before .before .before .args .text))) (c .before .before .text-needed .result) (textsOf (c .before .before .before .before .before .before .before .before .before .args .release) (walkBody (covered (c .before .before .before .before .before .before .before .before .before .args .t3)) (c .before .before .before .before .before .before .before .before .before .args .start) (now (c .before .before .before .before .before .before .before .before .before .args .«data»)))) (c .before .before .text-needed .ensures .0) (c .before .if3 .taken) in
     let n = c .before .before .text-needed .result in
     let d = now (c .before .before .before .before .before .before .before .before .before .args .text) in
     let h : length d < n = omega (arith, m .0, m .1) in
-    rw (decided-lacking _ _ _ d (done-is t) (m .1 ∙ texts-is t) h) (c .refused2 .ensures, refl)
+    rw (decided-lacking (c .before .before .before .before .before .before .before .before .before .args .release) _ _ _ d (done-is t) (m .1 ∙ texts-is t) h) (c .refused2 .ensures, refl)
 
 blank-value-requires : tie.Need-blank-value-requires Inv-loop μ-loop Inv-loop2 μ-loop2
 blank-value-requires c κs = search needs
 
 loop2-holds : tie.Need-loop2-holds Inv-loop μ-loop Inv-loop2 μ-loop2
-loop2-holds c = (omega arith, filling-start _ _ _ _ _ (c .before .before .before .before .before .before .pre .1 .0) (done-is (c .before .before)) (fits (c .before)) _ (c .blank-value .ensures))
+loop2-holds c = (omega arith, filling-start _ _ _ _ _ _ (c .before .before .before .before .before .before .pre .1 .0) (done-is (c .before .before)) (fits (c .before)) _ (c .blank-value .ensures))
 
 mul-column-2 : tie.Need-mul-column-2 Inv-loop μ-loop Inv-loop2 μ-loop2
 mul-column-2 c = omega (arith, c .before .before .before .before .before .before .before .before .pre .0)
@@ -214,12 +214,12 @@ piece-write-requires : tie.Need-piece-write-requires Inv-loop μ-loop Inv-loop2 
 piece-write-requires c κs =
     let t = c .before .before .before .before in
     let p = t .before .loop2 .inv .1 .placing in (
-      placing-there ported _ _ _ _ _ _ p _ (here2 t _) _ (rest2 t),
+      placing-there _ _ _ _ _ _ _ p _ (here2 t _) _ (rest2 t),
       (
         omega (arith, ap length (rest2 t), length-drop (t .before .loop2 .at) (c .before .before .before .before .before .before .before .before .before .before .before .before .args .«data» .now), p .going .within, c .before .before .before .before .before .before .before .before .before .before .before .before .pre .1 .1),
         (
-          placing-room ported _ _ _ _ _ _ p _ (here2 t _) _ (rest2 t),
-          (omega (arith, c .before .before .before .before .before .before .before .before .before .before .before .before .pre .0), λ h. plain-here _ _ _ _ _ (done-is (c .before .before .before .before .before .before .before .before)) (p .going) _ (here2 t _) _ (rest2 t) (omega (arith, all-covered (c .before .before .before .before .before .before .before .before .before .before .before .before))) _ (marked (c .before .before .before .before .before .before .before)) (omega (arith, c .before .before .before .before .before .before .before .before .before .before .before .before .pre .0)) (markAt (c .before .before .before .before .before .before .before .if2 .marks) (t .before .loop2 .k)) refl h),
+          placing-room _ _ _ _ _ _ _ p _ (here2 t _) _ (rest2 t),
+          (omega (arith, c .before .before .before .before .before .before .before .before .before .before .before .before .pre .0), λ h. plain-here (c .before .before .before .before .before .before .before .before .before .before .before .before .args .release) _ _ _ _ _ (done-is (c .before .before .before .before .before .before .before .before)) (p .going) _ (here2 t _) _ (rest2 t) (omega (arith, all-covered (c .before .before .before .before .before .before .before .before .before .before .before .before))) _ (marked (c .before .before .before .before .before .before .before)) (omega (arith, c .before .before .before .before .before .before .before .before .before .before .before .before .pre .0)) (markAt (c .before .before .before .before .before .before .before .if2 .marks) (t .before .loop2 .k)) refl h),
         ),
       ),
     )
@@ -234,24 +234,24 @@ add-at : tie.Need-add-at Inv-loop μ-loop Inv-loop2 μ-loop2
 add-at c =
     let t = c .before .before .before .before .before .before .before .before .before in
     let w = c .before .before .before .before .piece-write .ensures in
-    let f = filling-step _ _ _ _ _ (t .before .loop2 .inv .1) _ (here2 t _) _ (rest2 t) (omega (arith, c .before .before .before .before .before .before .before .before .before .before .before .before .before .before .before .before .before .pre .0)) _ (w .0) _ _ _ (w .1 .0) (w .1 .1 .0) (w .1 .1 .1 .1) _ (w .1 .1 .1 .0) in
+    let f = filling-step _ _ _ _ _ _ (t .before .loop2 .inv .1) _ (here2 t _) _ (rest2 t) (omega (arith, c .before .before .before .before .before .before .before .before .before .before .before .before .before .before .before .before .before .pre .0)) _ (w .0) _ _ _ (w .1 .0) (w .1 .1 .0) (w .1 .1 .1 .1) _ (w .1 .1 .1 .0) in
     omega (arith, f .placing .going .within, c .before .before .before .before .before .before .before .before .before .before .before .before .before .before .before .before .before .pre .1 .1)
 
 add-next : tie.Need-add-next Inv-loop μ-loop Inv-loop2 μ-loop2
 add-next c =
     let t = c .before .before .before .before .before .before .before .before .before .before in
     let p = t .before .loop2 .inv .1 .placing in
-    let h = placing-within ported _ _ _ _ _ _ p _ (here2 t _) _ (rest2 t) _ (c .before .before .before .before .before .piece-write .ensures .1 .1 .0) in
-    omega (arith, h, c .before .before .before .before .before .before .before .before .before .before .before .before .before .before .before .before .before .before .good .1 .1 .1 .0 .0)
+    let h = placing-within _ _ _ _ _ _ _ p _ (here2 t _) _ (rest2 t) _ (c .before .before .before .before .before .piece-write .ensures .1 .1 .0) in
+    omega (arith, h, c .before .before .before .before .before .before .before .before .before .before .before .before .before .before .before .before .before .before .good .1 .1 .1 .1 .0 .0)
 
 add-replaced : tie.Need-add-replaced Inv-loop μ-loop Inv-loop2 μ-loop2
 add-replaced c =
     let t = c .before .before .before .before .before .before .before .before .before .before .before in
     let p = t .before .loop2 .inv .1 .placing in
     let w = c .before .before .before .before .before .before .piece-write .ensures in
-    let h = placing-within ported _ _ _ _ _ _ p _ (here2 t _) _ (rest2 t) _ (w .1 .1 .0) in
-    let few = placing-few _ _ _ _ _ _ p _ _ _ _ (w .1 .1 .0) (w .1 .1 .1 .1) in
-    omega (arith, h, few, c .before .before .before .before .before .before .before .before .before .before .before .before .before .before .before .before .before .before .before .good .1 .1 .1 .0 .0)
+    let h = placing-within _ _ _ _ _ _ _ p _ (here2 t _) _ (rest2 t) _ (w .1 .1 .0) in
+    let few = placing-few (c .before .before .before .before .before .before .before .before .before .before .before .before .before .before .before .before .before .before .before .args .release) _ _ _ _ _ _ p _ _ _ _ (w .1 .1 .0) (w .1 .1 .1 .1) in
+    omega (arith, h, few, c .before .before .before .before .before .before .before .before .before .before .before .before .before .before .before .before .before .before .before .good .1 .1 .1 .1 .0 .0)
 
 add-k : tie.Need-add-k Inv-loop μ-loop Inv-loop2 μ-loop2
 add-k c = omega (arith, c .before .before .before .before .before .before .before .before .before .before .before .before .before .before .before .before .before .before .before .pre .0)
@@ -263,7 +263,7 @@ loop2-again : tie.Need-loop2-again Inv-loop μ-loop Inv-loop2 μ-loop2
 loop2-again c =
     let t = c .before .before .before .before .before .before .before .before .before .before .before in
     let w = c .before .before .before .before .before .before .piece-write .ensures in
-    (omega arith, filling-step _ _ _ _ _ (t .before .loop2 .inv .1) _ (here2 t _) _ (rest2 t) (omega (arith, c .before .before .before .before .before .before .before .before .before .before .before .before .before .before .before .before .before .before .before .pre .0)) _ (w .0) _ _ _ (w .1 .0) (w .1 .1 .0) (w .1 .1 .1 .1) _ (w .1 .1 .1 .0))
+    (omega arith, filling-step _ _ _ _ _ _ (t .before .loop2 .inv .1) _ (here2 t _) _ (rest2 t) (omega (arith, c .before .before .before .before .before .before .before .before .before .before .before .before .before .before .before .before .before .before .before .pre .0)) _ (w .0) _ _ _ (w .1 .0) (w .1 .1 .0) (w .1 .1 .1 .1) _ (w .1 .1 .1 .0))
 
 same-length : tie.Need-same-length Inv-loop μ-loop Inv-loop2 μ-loop2
 same-length c = as-long (c .before .loop2 .inv .1 .placing .texts)
@@ -271,8 +271,8 @@ same-length c = as-long (c .before .loop2 .inv .1 .placing .texts)
 returns-3 : tie.Need-returns-3 Inv-loop μ-loop Inv-loop2 μ-loop2
 unfolding answerOf textAfter
 returns-3 c =
-    let e = filling-end _ _ _ _ _ (c .before .loop2 .inv .1) (omega (arith, all-covered (c .before .before .before .before .before .before .before .before))) in
-    rw (decided-accepted _ _ _ _ (done-is (c .before .before .before .before)) (fits (c .before .before .before)), e .0, e .1, e .3) (refl, e .2)
+    let e = filling-end _ _ _ _ _ _ (c .before .loop2 .inv .1) (omega (arith, all-covered (c .before .before .before .before .before .before .before .before))) in
+    rw (decided-accepted (c .before .before .before .before .before .before .before .before .args .release) _ _ _ _ (done-is (c .before .before .before .before)) (fits (c .before .before .before)), e .0, e .1, e .3) (refl, e .2)
 
 pub decode-row-body-spec : {M : Type 1} → statement M
 decode-row-body-spec =

@@ -10,7 +10,7 @@ use lib.Seq.{length-take-le}
 use Rattle.types.specs.declared.ColumnDescriptor.{ColumnDescriptor}
 use Rattle.rules.specs.Walk.{walkBody, done}
 use Rattle.rules.specs.Row.{covered, rowTexts}
-use Rattle.rules.specs.Conversions.{ported}
+use Rattle.rules.specs.Conversions.{conversionsOf}
 use Rattle.rules.proofs.Walks.{piecesOf}
 use Rattle.rules.proofs.Progress.{Measuring, measuring-start, measuring-there, measuring-bound, measuring-step, measuring-end, end-within, covered-at, rest-is}
 use Rattle.piece.proofs.Bound.{AreBytes}
@@ -24,11 +24,11 @@ use Rattle.row.proofs.text_needed.Statement.{statement}
 use Rattle.row.proofs.text_needed.Tie as tie
 
 abbrev Inv-loop : tie.InvT-loop
-Inv-loop «data» start room marks₀ columns count at₀ total₀ i₀ marks at total i =
-    (i ≤ columns .count) × (Measuring ported (covered columns) start «data» (piecesOf (walkBody (covered columns) start «data»)) (endOf (walkBody (covered columns) start «data»)) i at total × PlainMarks marks (walkBody (covered columns) start «data»))
+Inv-loop «data» start release room marks₀ columns count at₀ total₀ i₀ marks at total i =
+    (i ≤ columns .count) × (Measuring (conversionsOf release) (covered columns) start «data» (piecesOf (walkBody (covered columns) start «data»)) (endOf (walkBody (covered columns) start «data»)) i at total × PlainMarks release marks (walkBody (covered columns) start «data»))
 
 abbrev μ-loop : tie.MeasureT-loop
-μ-loop «data» start room marks₀ columns count at₀ total₀ i₀ marks at total i = count - i
+μ-loop «data» start release room marks₀ columns count at₀ total₀ i₀ marks at total i = count - i
 
 -- what is known from the start
 module _ (c : tie.Start Inv-loop μ-loop) where
@@ -44,11 +44,11 @@ module _ (c : tie.Start Inv-loop μ-loop) where
   all-covered : length (covered (c .args .t3)) ≡ c .args .t3 .count
   all-covered = length-take-le (c .args .t3 .count) (c .args .t3 .columns) enough
 
-  all-texts : length (textsOf (walkBody (covered (c .args .t3)) (c .args .start) (now (c .args .«data»)))) ≡ length (rowTexts ported (piecesOf (walkBody (covered (c .args .t3)) (c .args .start) (now (c .args .«data»)))))
-  all-texts = ap length (texts-are (walkBody (covered (c .args .t3)) (c .args .start) (now (c .args .«data»))))
+  all-texts : length (textsOf (c .args .release) (walkBody (covered (c .args .t3)) (c .args .start) (now (c .args .«data»)))) ≡ length (rowTexts (conversionsOf (c .args .release)) (piecesOf (walkBody (covered (c .args .t3)) (c .args .start) (now (c .args .«data»)))))
+  all-texts = ap length (texts-are (c .args .release) (walkBody (covered (c .args .t3)) (c .args .start) (now (c .args .«data»))))
 
-  bound : AreBytes (now (c .args .«data»)) → length (rowTexts ported (piecesOf (walkBody (covered (c .args .t3)) (c .args .start) (now (c .args .«data»))))) ≤ 3 * (endOf (walkBody (covered (c .args .t3)) (c .args .start) (now (c .args .«data»))) - c .args .start) + 258 * c .args .t3 .count
-  bound bytes = covered-bound (c .args .t3) enough (owned-scaled (c .args .t3 .columns) _ (c .good .1 .1 .0 .1 .1 .0 .1 .1)) (c .args .start) (endOf (walkBody (covered (c .args .t3)) (c .args .start) (now (c .args .«data»)))) (now (c .args .«data»)) bytes (c .pre .1 .0) (whole-ends (walkBody (covered (c .args .t3)) (c .args .start) (now (c .args .«data»))) (c .pre .1 .1 .1 .0))
+  bound : AreBytes (now (c .args .«data»)) → length (rowTexts (conversionsOf (c .args .release)) (piecesOf (walkBody (covered (c .args .t3)) (c .args .start) (now (c .args .«data»))))) ≤ 3 * (endOf (walkBody (covered (c .args .t3)) (c .args .start) (now (c .args .«data»))) - c .args .start) + 258 * c .args .t3 .count
+  bound bytes = covered-bound (c .args .release) (c .args .t3) enough (owned-scaled (c .args .t3 .columns) _ (c .good .1 .1 .0 .1 .1 .0 .1 .1)) (c .args .start) (endOf (walkBody (covered (c .args .t3)) (c .args .start) (now (c .args .«data»)))) (now (c .args .«data»)) bytes (c .pre .1 .0) (whole-ends (walkBody (covered (c .args .t3)) (c .args .start) (now (c .args .«data»))) (c .pre .1 .1 .1 .0))
 
 -- a turn: the column, and what is lent of the input
 module _ (c : tie.In-loop Inv-loop μ-loop) where
@@ -59,7 +59,7 @@ module _ (c : tie.In-loop Inv-loop μ-loop) where
   rest = rest-is (c .before .before .before .args .«data» .now) (c .before .loop .at)
 
 loop-holds : tie.Need-loop-holds Inv-loop μ-loop
-loop-holds c = (omega arith, (measuring-start ported _ _ _ _ _ (c .before .pre .1 .0) (whole (c .before)), c .before .pre .1 .1 .1 .1))
+loop-holds c = (omega arith, (measuring-start _ _ _ _ _ _ (c .before .pre .1 .0) (whole (c .before)), c .before .pre .1 .1 .1 .1))
 
 mul-column : tie.Need-mul-column Inv-loop μ-loop
 mul-column c = omega (arith, c .before .before .before .pre .0)
@@ -78,7 +78,7 @@ part-piece-length-end c = search needs
 
 piece-length-requires : tie.Need-piece-length-requires Inv-loop μ-loop
 piece-length-requires c κs = (
-  measuring-there ported _ _ _ _ _ (c .before .before .before .loop .inv .1 .0) _ (here (c .before .before) _) _ (rest (c .before .before)),
+  measuring-there _ _ _ _ _ _ (c .before .before .before .loop .inv .1 .0) _ (here (c .before .before) _) _ (rest (c .before .before)),
   omega (arith, ap length (rest (c .before .before)), length-drop (c .before .before .before .loop .at) (c .before .before .before .before .before .args .«data» .now), c .before .before .before .before .before .pre .1 .1 .0),
 )
 
@@ -88,13 +88,13 @@ mark-requires c κs = omega (arith, c .before .before .before .before .before .b
 add-at : tie.Need-add-at Inv-loop μ-loop
 add-at c =
     let t = c .before .before .before .before .before .before in
-    let m = measuring-step ported _ _ _ _ _ (t .before .loop .inv .1 .0) _ (here t _) _ (rest t) _ _ (c .before .before .before .piece-length .ensures .0) (c .before .before .before .piece-length .ensures .1 .0) in
+    let m = measuring-step _ _ _ _ _ _ (t .before .loop .inv .1 .0) _ (here t _) _ (rest t) _ _ (c .before .before .before .piece-length .ensures .0) (c .before .before .before .piece-length .ensures .1 .0) in
     omega (arith, m .going .within, t .before .before .before .pre .1 .1 .0)
 
 add-total : tie.Need-add-total Inv-loop μ-loop
 add-total c =
     let t = c .before .before .before .before .before .before .before in
-    let m = measuring-bound ported _ _ _ _ _ (t .before .loop .inv .1 .0) _ (here t _) _ (rest t) _ (c .before .before .before .before .piece-length .ensures .1 .0) in
+    let m = measuring-bound _ _ _ _ _ _ (t .before .loop .inv .1 .0) _ (here t _) _ (rest t) _ (c .before .before .before .before .piece-length .ensures .1 .0) in
     omega (arith, bound (t .before .before .before) (λ i. omega (arith, t .before .before .shared-slice-known .given i)), ends (t .before .before .before), t .before .before .before .pre .1 .1 .0, t .before .before .before .pre .0)
 
 add-i : tie.Need-add-i Inv-loop μ-loop
@@ -108,21 +108,21 @@ loop-again c =
     let t = c .before .before .before .before .before .before .before in (
       omega arith,
       (
-        measuring-step ported _ _ _ _ _ (t .before .loop .inv .1 .0) _ (here t _) _ (rest t) _ _ (c .before .before .before .before .piece-length .ensures .0) (c .before .before .before .before .piece-length .ensures .1 .0),
-        plain-more _ _ _ _ _ (whole (c .before .before .before .before .before .before .before .before .before .before)) (t .before .loop .inv .1 .0 .going) _ (here t _) _ (rest t) (omega (arith, all-covered (c .before .before .before .before .before .before .before .before .before .before))) _ _ (t .before .loop .inv .1 .1) _ (c .before .before .mark .ensures) (c .before .before .before .before .piece-length .ensures .1 .1 (t .before .loop .at)),
+        measuring-step _ _ _ _ _ _ (t .before .loop .inv .1 .0) _ (here t _) _ (rest t) _ _ (c .before .before .before .before .piece-length .ensures .0) (c .before .before .before .before .piece-length .ensures .1 .0),
+        plain-more (c .before .before .before .before .before .before .before .before .before .before .args .release) _ _ _ _ _ (whole (c .before .before .before .before .before .before .before .before .before .before)) (t .before .loop .inv .1 .0 .going) _ (here t _) _ (rest t) (omega (arith, all-covered (c .before .before .before .before .before .before .before .before .before .before))) _ _ (t .before .loop .inv .1 .1) _ (c .before .before .mark .ensures) (c .before .before .before .before .piece-length .ensures .1 .1 (t .before .loop .at)),
       ),
     )
 
 -- all texts are measured
 module _ (c : tie.After-loop Inv-loop μ-loop) where
-  total-is : c .before .loop .total ≡ length (textsOf (walkBody (covered (c .before .before .before .args .t3)) (c .before .before .before .args .start) (now (c .before .before .before .args .«data»))))
-  total-is = measuring-end ported _ _ _ _ _ (c .before .loop .inv .1 .0) (omega (arith, all-covered (c .before .before .before))) ∙ sym (all-texts (c .before .before .before))
+  total-is : c .before .loop .total ≡ length (textsOf (c .before .before .before .args .release) (walkBody (covered (c .before .before .before .args .t3)) (c .before .before .before .args .start) (now (c .before .before .before .args .«data»))))
+  total-is = measuring-end _ _ _ _ _ _ (c .before .loop .inv .1 .0) (omega (arith, all-covered (c .before .before .before))) ∙ sym (all-texts (c .before .before .before))
 
 returns : tie.Need-returns Inv-loop μ-loop
-returns c = (needed-none _ _ (textsOf (walkBody (covered (c .before .before .before .before .args .t3)) (c .before .before .before .before .args .start) (now (c .before .before .before .before .args .«data»)))) (total-is (c .before)) (c .if1 .taken), c .before .before .loop .inv .1 .1)
+returns c = (needed-none _ _ (textsOf (c .before .before .before .before .args .release) (walkBody (covered (c .before .before .before .before .args .t3)) (c .before .before .before .before .args .start) (now (c .before .before .before .before .args .«data»)))) (total-is (c .before)) (c .if1 .taken), c .before .before .loop .inv .1 .1)
 
 returns-2 : tie.Need-returns-2 Inv-loop μ-loop
-returns-2 c = (needed-some _ _ (textsOf (walkBody (covered (c .before .before .before .before .args .t3)) (c .before .before .before .before .args .start) (now (c .before .before .before .before .args .«data»)))) (total-is (c .before)) (c .if1 .left), c .before .before .loop .inv .1 .1)
+returns-2 c = (needed-some _ _ (textsOf (c .before .before .before .before .args .release) (walkBody (covered (c .before .before .before .before .args .t3)) (c .before .before .before .before .args .start) (now (c .before .before .before .before .args .«data»)))) (total-is (c .before)) (c .if1 .left), c .before .before .loop .inv .1 .1)
 
 pub text-needed-spec : {M : Type 1} → statement M
 text-needed-spec =

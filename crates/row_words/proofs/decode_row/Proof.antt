@@ -27,16 +27,16 @@ enum-known-end : tie.Need-enum-known-end
 enum-known-end c = search needs
 
 text-needed-requires : tie.Need-text-needed-requires
-text-needed-requires c κs = (c .before .before .before .before .before .before .before .before .before .before .pre .0, (omega (arith, c .before .before .before .before .before .skip-of .ensures, skip-fits (now (c .before .before .before .before .before .before .before .before .before .before .args .«data»))), (c .before .before .before .before .before .before .before .before .before .before .pre .1 .0, (sym (c .before .before .end .given .1) ∙ c .before .before .before .before .walk-columns .ensures, plain-none (walkBody (columnsNamed (now (c .before .before .before .before .before .before .before .before .before .before .args .columns))) (c .before .before .before .before .before .skip-of .result) (now (c .before .before .before .before .before .before .before .before .before .before .args .«data»)))))))
+text-needed-requires c κs = (c .before .before .before .before .before .before .before .before .before .before .pre .0, (omega (arith, c .before .before .before .before .before .skip-of .ensures, skip-fits (now (c .before .before .before .before .before .before .before .before .before .before .args .«data»))), (c .before .before .before .before .before .before .before .before .before .before .pre .1 .0, (sym (c .before .before .end .given .1) ∙ c .before .before .before .before .walk-columns .ensures, plain-none (c .before .before .before .before .before .before .before .before .before .before .args .release) (walkBody (columnsNamed (now (c .before .before .before .before .before .before .before .before .before .before .args .columns))) (c .before .before .before .before .before .skip-of .result) (now (c .before .before .before .before .before .before .before .before .before .before .args .«data»)))))))
 
 returns : tie.Need-returns
-returns c = told-text (columnsNamed (now (c .before .before .before .before .before .before .before .before .before .before .before .before .args .columns))) (now (c .before .before .before .before .before .before .before .before .before .before .before .before .args .«data»)) (now (c .before .before .before .before .before .before .before .before .before .before .before .before .args .text)) (now (c .before .before .before .before .before .before .before .before .before .before .before .before .args .values)) (c .before .before .before .before .before .before .before .skip-of .result) (c .before .before .before .before .before .before .before .skip-of .ensures) _ (sym (c .before .before .before .before .end .given .1) ∙ c .before .before .before .before .before .before .walk-columns .ensures) (c .before .text-needed .result) (c .before .text-needed .ensures .0) (c .if1 .taken)
+returns c = told-text (c .before .before .before .before .before .before .before .before .before .before .before .before .args .release) (columnsNamed (now (c .before .before .before .before .before .before .before .before .before .before .before .before .args .columns))) (now (c .before .before .before .before .before .before .before .before .before .before .before .before .args .«data»)) (now (c .before .before .before .before .before .before .before .before .before .before .before .before .args .text)) (now (c .before .before .before .before .before .before .before .before .before .before .before .before .args .values)) (c .before .before .before .before .before .before .before .skip-of .result) (c .before .before .before .before .before .before .before .skip-of .ensures) _ (sym (c .before .before .before .before .end .given .1) ∙ c .before .before .before .before .before .before .walk-columns .ensures) (c .before .text-needed .result) (c .before .text-needed .ensures .0) (c .if1 .taken)
 
 write-columns-requires : tie.Need-write-columns-requires
-write-columns-requires c κs = (omega (arith, c .before .before .before .before .before .before .before .before .before .before .skip-of .ensures, skip-fits (now (c .before .before .before .before .before .before .before .before .before .before .before .before .before .before .before .args .«data»))), (c .before .before .before .before .before .before .before .before .before .before .before .before .before .before .before .pre .1 .0, ((c .before .before .before .before .before .before .before .end .given .0 .0, sym (c .before .before .before .before .before .before .before .end .given .1) ∙ c .before .before .before .before .before .before .before .before .before .walk-columns .ensures), (c .before .before .before .before .before .before .before .before .before .before .before .before .before .before .before .pre .1 .1, (needed-fits (length (now (c .before .before .before .before .before .before .before .before .before .before .before .before .before .before .before .args .text))) (c .before .before .before .before .text-needed .result) (textsOf (walkBody (columnsNamed (now (c .before .before .before .before .before .before .before .before .before .before .before .before .before .before .before .args .columns))) (c .before .before .before .before .before .before .before .before .before .before .skip-of .result) (now (c .before .before .before .before .before .before .before .before .before .before .before .before .before .before .before .args .«data»)))) (c .before .before .before .before .text-needed .ensures .0) (c .before .before .before .if1 .left), (c .before .before .before .before .before .before .before .before .before .before .before .before .before .before .before .pre .0, c .before .before .before .before .text-needed .ensures .1))))))
+write-columns-requires c κs = (omega (arith, c .before .before .before .before .before .before .before .before .before .before .skip-of .ensures, skip-fits (now (c .before .before .before .before .before .before .before .before .before .before .before .before .before .before .before .args .«data»))), (c .before .before .before .before .before .before .before .before .before .before .before .before .before .before .before .pre .1 .0, ((c .before .before .before .before .before .before .before .end .given .0 .0, sym (c .before .before .before .before .before .before .before .end .given .1) ∙ c .before .before .before .before .before .before .before .before .before .walk-columns .ensures), (c .before .before .before .before .before .before .before .before .before .before .before .before .before .before .before .pre .1 .1, (needed-fits (length (now (c .before .before .before .before .before .before .before .before .before .before .before .before .before .before .before .args .text))) (c .before .before .before .before .text-needed .result) (textsOf (c .before .before .before .before .before .before .before .before .before .before .before .before .before .before .before .args .release) (walkBody (columnsNamed (now (c .before .before .before .before .before .before .before .before .before .before .before .before .before .before .before .args .columns))) (c .before .before .before .before .before .before .before .before .before .before .skip-of .result) (now (c .before .before .before .before .before .before .before .before .before .before .before .before .before .before .before .args .«data»)))) (c .before .before .before .before .text-needed .ensures .0) (c .before .before .before .if1 .left), (c .before .before .before .before .before .before .before .before .before .before .before .before .before .before .before .pre .0, c .before .before .before .before .text-needed .ensures .1))))))
 
 returns-2 : tie.Need-returns-2
-returns-2 c = told-short (columnsNamed (now (c .before .before .before .before .before .before .before .before .before .args .columns))) (now (c .before .before .before .before .before .before .before .before .before .args .«data»)) (now (c .before .before .before .before .before .before .before .before .before .args .text)) (now (c .before .before .before .before .before .before .before .before .before .args .values)) (c .before .before .before .before .skip-of .result) (c .before .before .before .before .skip-of .ensures) _ _ (sym (c .before .expected .given .1) ∙ c .before .before .before .walk-columns .ensures)
+returns-2 c = told-short (c .before .before .before .before .before .before .before .before .before .args .release) (columnsNamed (now (c .before .before .before .before .before .before .before .before .before .args .columns))) (now (c .before .before .before .before .before .before .before .before .before .args .«data»)) (now (c .before .before .before .before .before .before .before .before .before .args .text)) (now (c .before .before .before .before .before .before .before .before .before .args .values)) (c .before .before .before .before .skip-of .result) (c .before .before .before .before .skip-of .ensures) _ _ (sym (c .before .expected .given .1) ∙ c .before .before .before .walk-columns .ensures)
 
 same-length : tie.Need-same-length
 same-length c = search needs
@@ -45,7 +45,7 @@ same-length-2 : tie.Need-same-length-2
 same-length-2 c = search needs
 
 returns-3 : tie.Need-returns-3
-returns-3 c = told-accepted (columnsNamed (now (c .before .before .before .before .before .before .before .before .before .before .before .before .before .before .before .before .before .before .before .before .args .columns))) (now (c .before .before .before .before .before .before .before .before .before .before .before .before .before .before .before .before .before .before .before .before .args .«data»)) (now (c .before .before .before .before .before .before .before .before .before .before .before .before .before .before .before .before .before .before .before .before .args .text)) (now (c .before .before .before .before .before .before .before .before .before .before .before .before .before .before .before .before .before .before .before .before .args .values)) (c .before .before .before .before .before .before .before .before .before .before .before .before .before .before .before .skip-of .result) (c .before .before .before .before .before .before .before .before .before .before .before .before .before .before .before .skip-of .ensures) _ (sym (c .before .before .before .before .before .before .before .before .before .before .before .before .end .given .1) ∙ c .before .before .before .before .before .before .before .before .before .before .before .before .before .before .walk-columns .ensures) (c .before .before .before .before .before .before .before .before .before .text-needed .result) (c .before .before .before .before .before .before .before .before .before .text-needed .ensures .0) (c .before .before .before .before .before .before .before .before .if1 .left) (c .before .before .before .before .write-columns .result .len) (c .before .before .before .before .write-columns .ensures .0) (c .before .before .before .before .write-columns .result .replaced) (c .before .before .before .before .write-columns .ensures .1 .1 .1) _ _ (c .before .before .before .before .write-columns .ensures .1 .0) (c .before .before .before .before .write-columns .ensures .1 .1 .0)
+returns-3 c = told-accepted (c .before .before .before .before .before .before .before .before .before .before .before .before .before .before .before .before .before .before .before .before .args .release) (columnsNamed (now (c .before .before .before .before .before .before .before .before .before .before .before .before .before .before .before .before .before .before .before .before .args .columns))) (now (c .before .before .before .before .before .before .before .before .before .before .before .before .before .before .before .before .before .before .before .before .args .«data»)) (now (c .before .before .before .before .before .before .before .before .before .before .before .before .before .before .before .before .before .before .before .before .args .text)) (now (c .before .before .before .before .before .before .before .before .before .before .before .before .before .before .before .before .before .before .before .before .args .values)) (c .before .before .before .before .before .before .before .before .before .before .before .before .before .before .before .skip-of .result) (c .before .before .before .before .before .before .before .before .before .before .before .before .before .before .before .skip-of .ensures) _ (sym (c .before .before .before .before .before .before .before .before .before .before .before .before .end .given .1) ∙ c .before .before .before .before .before .before .before .before .before .before .before .before .before .before .walk-columns .ensures) (c .before .before .before .before .before .before .before .before .before .text-needed .result) (c .before .before .before .before .before .before .before .before .before .text-needed .ensures .0) (c .before .before .before .before .before .before .before .before .if1 .left) (c .before .before .before .before .write-columns .result .len) (c .before .before .before .before .write-columns .ensures .0) (c .before .before .before .before .write-columns .result .replaced) (c .before .before .before .before .write-columns .ensures .1 .1 .1) _ _ (c .before .before .before .before .write-columns .ensures .1 .0) (c .before .before .before .before .write-columns .ensures .1 .1 .0)
 
 pub decode-row-spec : {M : Type 1} → statement M
 decode-row-spec =

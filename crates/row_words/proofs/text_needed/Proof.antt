@@ -8,7 +8,7 @@ use denote.Ref.{now}
 use lib.ListN.{length, drop, length-drop}
 use Rattle.rules.specs.Walk.{Walk, done, walkBody}
 use Rattle.rules.specs.Row.{rowTexts}
-use Rattle.rules.specs.Conversions.{ported}
+use Rattle.rules.specs.Conversions.{conversionsOf}
 use Rattle.rules.proofs.Walks.{piecesOf}
 use Rattle.rules.proofs.Progress.{Measuring, measuring-start, measuring-there, measuring-bound, measuring-step, measuring-end, end-within, rest-is}
 use Rattle.piece.proofs.Bound.{AreBytes}
@@ -24,11 +24,11 @@ use Rattle.row_words.proofs.text_needed.Statement.{statement}
 use Rattle.row_words.proofs.text_needed.Tie as tie
 
 abbrev Inv-loop : tie.InvT-loop
-Inv-loop columns «data» start end room marks₀ count at₀ total₀ i₀ marks at total i =
-    (i ≤ length columns / 2) × (Measuring ported (columnsNamed columns) start «data» (piecesOf (walkBody (columnsNamed columns) start «data»)) end i at total × PlainMarks marks (walkBody (columnsNamed columns) start «data»))
+Inv-loop columns «data» release start end room marks₀ count at₀ total₀ i₀ marks at total i =
+    (i ≤ length columns / 2) × (Measuring (conversionsOf release) (columnsNamed columns) start «data» (piecesOf (walkBody (columnsNamed columns) start «data»)) end i at total × PlainMarks release marks (walkBody (columnsNamed columns) start «data»))
 
 abbrev μ-loop : tie.MeasureT-loop
-μ-loop columns «data» start end room marks₀ count at₀ total₀ i₀ marks at total i = length columns / 2 - i
+μ-loop columns «data» release start end room marks₀ count at₀ total₀ i₀ marks at total i = length columns / 2 - i
 
 -- what is known from the start
 module _ (c : tie.Start Inv-loop μ-loop) where
@@ -41,11 +41,11 @@ module _ (c : tie.Start Inv-loop μ-loop) where
   ends : (c .args .start ≤ c .args .end) × (c .args .end ≤ length (now (c .args .«data»)))
   ends = end-within (columnsNamed (now (c .args .columns))) (c .args .start) (now (c .args .«data»)) (piecesOf walked) (c .args .end) (c .pre .1 .0) whole
 
-  bound : AreBytes (now (c .args .«data»)) → length (rowTexts ported (piecesOf walked)) ≤ 3 * (c .args .end - c .args .start) + 258 * (length (now (c .args .columns)) / 2)
-  bound h = rw (named-length (now (c .args .columns))) at (named-bound (now (c .args .columns)) (c .args .start) (now (c .args .«data»)) (piecesOf walked) (c .args .end) h (ends .0) whole)
+  bound : AreBytes (now (c .args .«data»)) → length (rowTexts (conversionsOf (c .args .release)) (piecesOf walked)) ≤ 3 * (c .args .end - c .args .start) + 258 * (length (now (c .args .columns)) / 2)
+  bound h = rw (named-length (now (c .args .columns))) at (named-bound (c .args .release) (now (c .args .columns)) (c .args .start) (now (c .args .«data»)) (piecesOf walked) (c .args .end) h (ends .0) whole)
 
-  texts : length (rowTexts ported (piecesOf walked)) ≡ length (textsOf walked)
-  texts = ap length (sym (texts-are walked))
+  texts : length (rowTexts (conversionsOf (c .args .release)) (piecesOf walked)) ≡ length (textsOf (c .args .release) walked)
+  texts = ap length (sym (texts-are (c .args .release) walked))
 
 sub-if1 : tie.Need-sub-if1 Inv-loop μ-loop
 sub-if1 c = ends (c .before .before) .0
@@ -60,10 +60,10 @@ add-if1 : tie.Need-add-if1 Inv-loop μ-loop
 add-if1 c = omega (arith, ends (c .before .before), c .before .before .pre .1 .1 .0, c .before .before .pre .0)
 
 returns : tie.Need-returns Inv-loop μ-loop
-returns c = (needed-none (c .before .before .before .args .room) _ (textsOf (walked (c .before .before .before))) refl (omega (arith, bound (c .before .before .before) (λ j. omega (arith, c .before .shared-slice-known2 .given j)), texts (c .before .before .before), c .if1 .taken)), c .before .before .before .pre .1 .1 .1 .1)
+returns c = (needed-none (c .before .before .before .args .room) _ (textsOf (c .before .before .before .args .release) (walked (c .before .before .before))) refl (omega (arith, bound (c .before .before .before) (λ j. omega (arith, c .before .shared-slice-known2 .given j)), texts (c .before .before .before), c .if1 .taken)), c .before .before .before .pre .1 .1 .1 .1)
 
 loop-holds : tie.Need-loop-holds Inv-loop μ-loop
-loop-holds c = (omega arith, (measuring-start ported _ _ _ _ _ (c .before .before .before .pre .1 .0) (whole (c .before .before .before)), c .before .before .before .pre .1 .1 .1 .1))
+loop-holds c = (omega arith, (measuring-start _ _ _ _ _ _ (c .before .before .before .pre .1 .0) (whole (c .before .before .before)), c .before .before .before .pre .1 .1 .1 .1))
 
 mul-k : tie.Need-mul-k Inv-loop μ-loop
 mul-k c = omega (arith, c .loop-test .taken)
@@ -96,16 +96,16 @@ part-piece-length-end : tie.Need-part-piece-length-end Inv-loop μ-loop
 part-piece-length-end c = search needs
 
 piece-length-requires : tie.Need-piece-length-requires Inv-loop μ-loop
-piece-length-requires c κs = (measuring-there ported _ _ _ _ _ (c .before .before .before .before .before .loop .inv .1 .0) (c .before .column-named .result) (named-at _ _ (c .before .before .before .before .loop-test .taken) (c .before .column-named .ensures)) _ (rest-is (c .before .before .before .before .before .before .before .before .before .args .«data» .now) (c .before .before .before .before .before .loop .at)), omega (arith, c .before .before .before .before .before .before .before .before .before .pre .1 .1 .0, c .before .before .before .before .before .loop .inv .1 .0 .going .within, ap length (rest-is (c .before .before .before .before .before .before .before .before .before .args .«data» .now) (c .before .before .before .before .before .loop .at)), length-drop (c .before .before .before .before .before .loop .at) (c .before .before .before .before .before .before .before .before .before .args .«data» .now)))
+piece-length-requires c κs = (measuring-there _ _ _ _ _ _ (c .before .before .before .before .before .loop .inv .1 .0) (c .before .column-named .result) (named-at _ _ (c .before .before .before .before .loop-test .taken) (c .before .column-named .ensures)) _ (rest-is (c .before .before .before .before .before .before .before .before .before .args .«data» .now) (c .before .before .before .before .before .loop .at)), omega (arith, c .before .before .before .before .before .before .before .before .before .pre .1 .1 .0, c .before .before .before .before .before .loop .inv .1 .0 .going .within, ap length (rest-is (c .before .before .before .before .before .before .before .before .before .args .«data» .now) (c .before .before .before .before .before .loop .at)), length-drop (c .before .before .before .before .before .loop .at) (c .before .before .before .before .before .before .before .before .before .args .«data» .now)))
 
 mark-requires : tie.Need-mark-requires Inv-loop μ-loop
 mark-requires c κs = omega (arith, c .before .before .before .before .before .before .loop-test .taken, c .before .before .before .before .before .before .before .before .before .before .before .pre .0)
 
 add-at : tie.Need-add-at Inv-loop μ-loop
-add-at c = omega (arith, measuring-there ported _ _ _ _ _ (c .before .before .before .before .before .before .before .before .before .loop .inv .1 .0) (c .before .before .before .before .before .column-named .result) (named-at _ _ (c .before .before .before .before .before .before .before .before .loop-test .taken) (c .before .before .before .before .before .column-named .ensures)) _ (rest-is (c .before .before .before .before .before .before .before .before .before .before .before .before .before .args .«data» .now) (c .before .before .before .before .before .before .before .before .before .loop .at)), c .before .before .before .piece-length .ensures .0, c .before .before .before .before .before .before .before .before .before .loop .inv .1 .0 .going .within, ap length (rest-is (c .before .before .before .before .before .before .before .before .before .before .before .before .before .args .«data» .now) (c .before .before .before .before .before .before .before .before .before .loop .at)), length-drop (c .before .before .before .before .before .before .before .before .before .loop .at) (c .before .before .before .before .before .before .before .before .before .before .before .before .before .args .«data» .now))
+add-at c = omega (arith, measuring-there _ _ _ _ _ _ (c .before .before .before .before .before .before .before .before .before .loop .inv .1 .0) (c .before .before .before .before .before .column-named .result) (named-at _ _ (c .before .before .before .before .before .before .before .before .loop-test .taken) (c .before .before .before .before .before .column-named .ensures)) _ (rest-is (c .before .before .before .before .before .before .before .before .before .before .before .before .before .args .«data» .now) (c .before .before .before .before .before .before .before .before .before .loop .at)), c .before .before .before .piece-length .ensures .0, c .before .before .before .before .before .before .before .before .before .loop .inv .1 .0 .going .within, ap length (rest-is (c .before .before .before .before .before .before .before .before .before .before .before .before .before .args .«data» .now) (c .before .before .before .before .before .before .before .before .before .loop .at)), length-drop (c .before .before .before .before .before .before .before .before .before .loop .at) (c .before .before .before .before .before .before .before .before .before .before .before .before .before .args .«data» .now))
 
 add-total : tie.Need-add-total Inv-loop μ-loop
-add-total c = omega (arith, measuring-bound ported _ _ _ _ _ (c .before .before .before .before .before .before .before .before .before .before .loop .inv .1 .0) (c .before .before .before .before .before .before .column-named .result) (named-at _ _ (c .before .before .before .before .before .before .before .before .before .loop-test .taken) (c .before .before .before .before .before .before .column-named .ensures)) _ (rest-is (c .before .before .before .before .before .before .before .before .before .before .before .before .before .before .args .«data» .now) (c .before .before .before .before .before .before .before .before .before .before .loop .at)) _ (c .before .before .before .before .piece-length .ensures .1 .0), bound (c .before .before .before .before .before .before .before .before .before .before .before .before .before .before) (λ j. omega (arith, c .before .before .before .before .before .before .before .before .before .before .before .before .shared-slice-known2 .given j)), ends (c .before .before .before .before .before .before .before .before .before .before .before .before .before .before), c .before .before .before .before .before .before .before .before .before .before .before .before .before .before .pre .0, c .before .before .before .before .before .before .before .before .before .before .before .before .before .before .pre .1 .1 .0)
+add-total c = omega (arith, measuring-bound _ _ _ _ _ _ (c .before .before .before .before .before .before .before .before .before .before .loop .inv .1 .0) (c .before .before .before .before .before .before .column-named .result) (named-at _ _ (c .before .before .before .before .before .before .before .before .before .loop-test .taken) (c .before .before .before .before .before .before .column-named .ensures)) _ (rest-is (c .before .before .before .before .before .before .before .before .before .before .before .before .before .before .args .«data» .now) (c .before .before .before .before .before .before .before .before .before .before .loop .at)) _ (c .before .before .before .before .piece-length .ensures .1 .0), bound (c .before .before .before .before .before .before .before .before .before .before .before .before .before .before) (λ j. omega (arith, c .before .before .before .before .before .before .before .before .before .before .before .before .shared-slice-known2 .given j)), ends (c .before .before .before .before .before .before .before .before .before .before .before .before .before .before), c .before .before .before .before .before .before .before .before .before .before .before .before .before .before .pre .0, c .before .before .before .before .before .before .before .before .before .before .before .before .before .before .pre .1 .1 .0)
 
 add-i : tie.Need-add-i Inv-loop μ-loop
 add-i c = omega (arith, c .before .before .before .before .before .before .before .before .before .loop-test .taken)
@@ -114,13 +114,13 @@ loop-less : tie.Need-loop-less Inv-loop μ-loop
 loop-less c = omega (arith, c .before .before .before .before .before .before .before .before .before .loop-test .taken)
 
 loop-again : tie.Need-loop-again Inv-loop μ-loop
-loop-again c = (omega (arith, c .before .before .before .before .before .before .before .before .before .loop-test .taken), (measuring-step ported _ _ _ _ _ (c .before .before .before .before .before .before .before .before .before .before .loop .inv .1 .0) (c .before .before .before .before .before .before .column-named .result) (named-at _ _ (c .before .before .before .before .before .before .before .before .before .loop-test .taken) (c .before .before .before .before .before .before .column-named .ensures)) _ (rest-is (c .before .before .before .before .before .before .before .before .before .before .before .before .before .before .args .«data» .now) (c .before .before .before .before .before .before .before .before .before .before .loop .at)) _ _ (c .before .before .before .before .piece-length .ensures .0) (c .before .before .before .before .piece-length .ensures .1 .0), plain-more (columnsNamed (c .before .before .before .before .before .before .before .before .before .before .before .before .before .before .args .columns .now)) (c .before .before .before .before .before .before .before .before .before .before .before .before .before .before .args .start) (c .before .before .before .before .before .before .before .before .before .before .before .before .before .before .args .«data» .now) (piecesOf (walked (c .before .before .before .before .before .before .before .before .before .before .before .before .before .before))) (c .before .before .before .before .before .before .before .before .before .before .before .before .before .before .args .end) (whole (c .before .before .before .before .before .before .before .before .before .before .before .before .before .before)) (c .before .before .before .before .before .before .before .before .before .before .loop .inv .1 .0 .going) (c .before .before .before .before .before .before .column-named .result) (named-at _ _ (c .before .before .before .before .before .before .before .before .before .loop-test .taken) (c .before .before .before .before .before .before .column-named .ensures)) _ (rest-is (c .before .before .before .before .before .before .before .before .before .before .before .before .before .before .args .«data» .now) (c .before .before .before .before .before .before .before .before .before .before .loop .at)) (omega (arith, c .before .before .before .before .before .before .before .before .before .loop-test .taken, named-length (c .before .before .before .before .before .before .before .before .before .before .before .before .before .before .args .columns .now))) _ _ (c .before .before .before .before .before .before .before .before .before .before .loop .inv .1 .1) _ (c .before .before .mark .ensures) (c .before .before .before .before .piece-length .ensures .1 .1 (c .before .before .before .before .before .before .before .before .before .before .loop .at))))
+loop-again c = (omega (arith, c .before .before .before .before .before .before .before .before .before .loop-test .taken), (measuring-step _ _ _ _ _ _ (c .before .before .before .before .before .before .before .before .before .before .loop .inv .1 .0) (c .before .before .before .before .before .before .column-named .result) (named-at _ _ (c .before .before .before .before .before .before .before .before .before .loop-test .taken) (c .before .before .before .before .before .before .column-named .ensures)) _ (rest-is (c .before .before .before .before .before .before .before .before .before .before .before .before .before .before .args .«data» .now) (c .before .before .before .before .before .before .before .before .before .before .loop .at)) _ _ (c .before .before .before .before .piece-length .ensures .0) (c .before .before .before .before .piece-length .ensures .1 .0), plain-more (c .before .before .before .before .before .before .before .before .before .before .before .before .before .before .args .release) (columnsNamed (c .before .before .before .before .before .before .before .before .before .before .before .before .before .before .args .columns .now)) (c .before .before .before .before .before .before .before .before .before .before .before .before .before .before .args .start) (c .before .before .before .before .before .before .before .before .before .before .before .before .before .before .args .«data» .now) (piecesOf (walked (c .before .before .before .before .before .before .before .before .before .before .before .before .before .before))) (c .before .before .before .before .before .before .before .before .before .before .before .before .before .before .args .end) (whole (c .before .before .before .before .before .before .before .before .before .before .before .before .before .before)) (c .before .before .before .before .before .before .before .before .before .before .loop .inv .1 .0 .going) (c .before .before .before .before .before .before .column-named .result) (named-at _ _ (c .before .before .before .before .before .before .before .before .before .loop-test .taken) (c .before .before .before .before .before .before .column-named .ensures)) _ (rest-is (c .before .before .before .before .before .before .before .before .before .before .before .before .before .before .args .«data» .now) (c .before .before .before .before .before .before .before .before .before .before .loop .at)) (omega (arith, c .before .before .before .before .before .before .before .before .before .loop-test .taken, named-length (c .before .before .before .before .before .before .before .before .before .before .before .before .before .before .args .columns .now))) _ _ (c .before .before .before .before .before .before .before .before .before .before .loop .inv .1 .1) _ (c .before .before .mark .ensures) (c .before .before .before .before .piece-length .ensures .1 .1 (c .before .before .before .before .before .before .before .before .before .before .loop .at))))
 
 returns-2 : tie.Need-returns-2 Inv-loop μ-loop
-returns-2 c = (needed-none (c .before .before .before .before .before .before .args .room) _ (textsOf (walked (c .before .before .before .before .before .before))) refl (omega (arith, measuring-end ported _ _ _ _ _ (c .before .before .loop .inv .1 .0) (omega (arith, c .before .loop-test .left, named-length (c .before .before .before .before .before .before .args .columns .now))), texts (c .before .before .before .before .before .before), c .if2 .taken)), c .before .before .loop .inv .1 .1)
+returns-2 c = (needed-none (c .before .before .before .before .before .before .args .room) _ (textsOf (c .before .before .before .before .before .before .args .release) (walked (c .before .before .before .before .before .before))) refl (omega (arith, measuring-end _ _ _ _ _ _ (c .before .before .loop .inv .1 .0) (omega (arith, c .before .loop-test .left, named-length (c .before .before .before .before .before .before .args .columns .now))), texts (c .before .before .before .before .before .before), c .if2 .taken)), c .before .before .loop .inv .1 .1)
 
 returns-3 : tie.Need-returns-3 Inv-loop μ-loop
-returns-3 c = (needed-some (c .before .before .before .before .before .before .args .room) (c .before .before .loop .total) (textsOf (walked (c .before .before .before .before .before .before))) (measuring-end ported _ _ _ _ _ (c .before .before .loop .inv .1 .0) (omega (arith, c .before .loop-test .left, named-length (c .before .before .before .before .before .before .args .columns .now))) ∙ texts (c .before .before .before .before .before .before)) (c .if2 .left), c .before .before .loop .inv .1 .1)
+returns-3 c = (needed-some (c .before .before .before .before .before .before .args .room) (c .before .before .loop .total) (textsOf (c .before .before .before .before .before .before .args .release) (walked (c .before .before .before .before .before .before))) (measuring-end _ _ _ _ _ _ (c .before .before .loop .inv .1 .0) (omega (arith, c .before .loop-test .left, named-length (c .before .before .before .before .before .before .args .columns .now))) ∙ texts (c .before .before .before .before .before .before)) (c .if2 .left), c .before .before .loop .inv .1 .1)
 
 pub text-needed-spec : {M : Type 1} → statement M
 text-needed-spec =

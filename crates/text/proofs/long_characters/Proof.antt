@@ -26,7 +26,7 @@ same-length c = search needs
 returns-2 : tie.Need-returns-2
 returns-2 c =
     let g = c .before .before .before .before .before .is-roomy-guess .ensures (c .before .before .before .before .if2 .taken) .1 in
-    picked _ _ (sym (guess-unreplaced (now (c .before .before .before .before .before .before .before .before .before .args .s))) ∙ characters-by _ _ (sym (g .characters (now (c .before .before .before .before .before .before .before .before .before .args .s))))) (c .before .before .before .before .before .before .if1 .left) _ (c .before .before .convert-guess .ensures)
+    picked _ _ (sym (guess-unreplaced (now (c .before .before .before .before .before .before .before .before .before .args .s))) ∙ characters-by _ _ _ (sym (g .characters (now (c .before .before .before .before .before .before .before .before .before .args .s))))) (c .before .before .before .before .before .before .if1 .left) _ (c .before .before .convert-guess .ensures)
 
 character-conversion-requires : tie.Need-character-conversion-requires
 character-conversion-requires c κs = search needs
@@ -38,7 +38,7 @@ same-length-2 : tie.Need-same-length-2
 same-length-2 c = search needs
 
 returns-3 : tie.Need-returns-3
-returns-3 c = picked _ _ (characters-by _ _ (c .before .before .before .before .character-conversion .ensures)) (c .before .before .before .before .before .before .before .if1 .left) _ (c .before .before .convert .ensures)
+returns-3 c = picked _ _ (characters-by _ _ _ (c .before .before .before .before .character-conversion .ensures)) (c .before .before .before .before .before .before .before .if1 .left) _ (c .before .before .convert .ensures)
 
 pub long-characters-spec : {M : Type 1} → statement M
 long-characters-spec =

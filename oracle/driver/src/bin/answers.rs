@@ -38,15 +38,19 @@ fn rust_answer(form: Form, request: &Request) -> String {
         Request::Leaf(Call { leaf, data }) => {
             format!("A {}", rust_side::answer(*leaf, data).shown(form))
         }
-        Request::Description { data, row } => {
+        Request::Description { data, row, release } => {
             let description = descriptions::rust_side::answers(data).ported;
             described(form, &description, |list| {
-                rows::rust_side::answer(list, row).shown(form, row)
+                rows::rust_side::answer(list, row, *release).shown(form, row)
             })
         }
         Request::WholeDescription(data) => descriptions::rust_side::answers(data).whole.listed(),
-        Request::Row { columns, data } => {
-            let answer = rows::rust_side::answer(&List::of(columns), data);
+        Request::Row {
+            columns,
+            data,
+            release,
+        } => {
+            let answer = rows::rust_side::answer(&List::of(columns), data, *release);
             format!("A {}", answer.shown(form, data))
         }
         Request::FixedLength(asked) => descriptions::rust_side::fixed_length(*asked).to_string(),
@@ -66,17 +70,23 @@ impl Port {
             Request::Leaf(Call { leaf, data }) => {
                 format!("A {}", self.texts.answer(*leaf, data).shown(form))
             }
-            Request::Description { data, row } => {
+            Request::Description { data, row, release } => {
                 let description = self.descriptions.describe(Parser::Ported, data);
                 described(form, &description, |list| {
-                    self.rows.answer(&list.words, row).shown(form, row)
+                    let asked = list.asked(row, *release);
+                    self.rows.answer(asked).shown(form, row)
                 })
             }
             Request::WholeDescription(data) => {
                 self.descriptions.describe(Parser::Whole, data).listed()
             }
-            Request::Row { columns, data } => {
-                let answer = self.rows.answer(&List::of(columns).words, data);
+            Request::Row {
+                columns,
+                data,
+                release,
+            } => {
+                let list = List::of(columns);
+                let answer = self.rows.answer(list.asked(data, *release));
                 format!("A {}", answer.shown(form, data))
             }
             Request::FixedLength(asked) => self.descriptions.fixed_length(asked.word()).to_string(),

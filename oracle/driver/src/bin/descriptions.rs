@@ -11,9 +11,12 @@ use std::process::ExitCode;
 
 fn main() -> ExitCode {
     let named = |name: &str| command::named(&FAULTS, name);
-    command::main("descriptions", named, |until, seed, fault| match fault {
-        None => run(Archive, until, seed),
-        Some(fault) => run(Faulty::new(fault), until, seed),
+    command::main("descriptions", &[], named, |options| {
+        let (until, seed) = (options.until, options.seed);
+        match options.fault {
+            None => run(Archive, until, seed),
+            Some(fault) => run(Faulty::new(fault), until, seed),
+        }
     })
 }
 

@@ -2,10 +2,11 @@
 //! ASCII, or three bytes later. So each thing stands at every place of the first blocks, and around every multiple of 32 in those after them.
 use crate::inputs::Case;
 use crate::leaf::Leaf;
+use crate::releases::PORTED;
 use crate::run::Flow;
 use std::ops::ControlFlow::Continue;
 
-const UTF8: Leaf = Leaf::Character { ccsid: 1208 };
+const UTF8: Leaf = Leaf::character(1208);
 
 /// Malformed UTF-8: a trail byte alone, bytes that no sequence has, sequences that are cut, too long, surrogates, too large, and with a byte too many.
 const MALFORMED: [&[u8]; 25] = [
@@ -248,7 +249,7 @@ fn two_parts(case: Case) -> Flow {
 
 /// UTF-16: every part at every place where a unit begins, and texts of every length.
 pub fn utf16(case: Case) -> Flow {
-    let leaf = Leaf::Graphic { ccsid: 1200 };
+    let leaf = Leaf::graphic(1200);
     let even = |number: &usize| number.is_multiple_of(2);
     for character in FILLINGS_16 {
         let filling = Filling {
@@ -268,7 +269,7 @@ pub fn utf16(case: Case) -> Flow {
             let mut text = filling.around(0, b"", length + 4);
             text.truncate(length);
             case(leaf, &text)?;
-            case(Leaf::Graphic { ccsid: 13488 }, &text)?;
+            case(Leaf::graphic(13488), &text)?;
         }
     }
     alternating(case)
@@ -278,7 +279,7 @@ pub fn utf16(case: Case) -> Flow {
 /// and of the text.
 fn alternating(case: Case) -> Flow {
     const LONG: usize = 16_384;
-    let leaf = Leaf::Graphic { ccsid: 1200 };
+    let leaf = Leaf::graphic(1200);
     let filling = Filling {
         first: b"",
         character: b"\x00\x61\x00\xE9\x9A\xD8\xD8\x3E\xDD\xF6",
@@ -305,9 +306,14 @@ fn alternating(case: Case) -> Flow {
     Continue(())
 }
 
-/// A byte for a character: one byte among others at every place. In an unnamed CCSID one byte from 80 on decides for the whole text.
-pub fn bytes(case: Case) -> Flow {
-    for ccsid in [37, 819, 0] {
+/// A byte for a character: one byte among others at every place. In an unnamed CCSID one byte from 80 on decides for the whole text, or, by the release, none
+/// does.
+pub fn bytes(release: u32, case: Case) -> Flow {
+    let mut leaves = [37, 819, 0].map(Leaf::character).to_vec();
+    if release != PORTED {
+        leaves.push(Leaf::graphic(1200));
+    }
+    for leaf in leaves.into_iter().map(|leaf| leaf.at(release)) {
         for other in [b"\x61", b"\xE1"] {
             let filling = Filling {
                 first: b"",
@@ -318,7 +324,7 @@ pub fn bytes(case: Case) -> Flow {
                 for before in places() {
                     for after in [0, 40, 200] {
                         let text = filling.around(before, &[byte], after);
-                        case(Leaf::Character { ccsid }, &text)?;
+                        case(leaf, &text)?;
                     }
                 }
             }

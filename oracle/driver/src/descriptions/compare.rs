@@ -6,6 +6,7 @@ use super::port_side::{Library, PortSide};
 use super::wholeness::Zeros;
 use super::{by_value, rust_side, Answers, Description, FixedLength, BREAKS_OFF};
 use crate::random::Random;
+use crate::releases::PORTED;
 use crate::request::{Form, Request};
 use crate::run::{self, Difference, End, Flow, Until};
 use crate::shrink::Shrinking;
@@ -324,7 +325,12 @@ fn lines(data: Vec<u8>, rust: &Answers, port: &Answers) -> [String; 2] {
     let (rust, port) = (&rust.ported, &port.ported);
     let form = Form::telling(rust.shown(Form::Shared) != port.shown(Form::Shared));
     let row = Vec::new();
-    let request = Request::Description { data, row }.shown(form);
+    let request = Request::Description {
+        data,
+        row,
+        release: PORTED,
+    };
+    let request = request.shown(form);
     [rust, port].map(|answer| format!("{request} {}", answer.shown(form)))
 }
 

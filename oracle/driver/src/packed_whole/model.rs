@@ -325,6 +325,7 @@ mod tests {
     use crate::leaf::Leaf;
     use crate::packed_whole::inputs::by_rule;
     use crate::port_side::{Archive, Library};
+    use crate::releases::PORTED;
     use crate::run::Until;
     use crate::shrink::{held_to, middle_left_out};
     use std::ops::ControlFlow::Continue;
@@ -344,7 +345,7 @@ mod tests {
     /// A fault, after how many cases it was noticed, and the smallest input that shows it, as the wrong library answers it.
     fn noticed(misread: Misread) -> String {
         let library = Faulty(Fault::Misread(misread));
-        let mut run = Run::new(library, 1, Until::Cases(1_000_000));
+        let mut run = Run::new(library, 1, Until::Cases(1_000_000), PORTED);
         let difference = run.from(Stage::PackedWholes).difference();
         let difference = difference.unwrap_or_else(|| panic!("{misread:?} was not noticed"));
         let line = middle_left_out(&difference.port);

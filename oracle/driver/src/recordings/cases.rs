@@ -90,7 +90,7 @@ fn char_text(ours: &Shown, theirs: &Shown) -> Option<Case> {
     if theirs.is_ascii() {
         return (ours == theirs).then_some(Case::CharAsVarChar);
     }
-    let by_037 = rust_side::text(Leaf::Character { ccsid: 37 }, &theirs);
+    let by_037 = rust_side::text(Leaf::character(37), &theirs);
     (ours == by_037.as_bytes()).then_some(Case::CharAbove7F)
 }
 

@@ -1,6 +1,6 @@
 //! Wrong libraries, each the archive with one fault in its answers. Each is wrong in the same way for every buffer, so that only what a row is compared with can show it. The
 //! tests also put faults into the recordings themselves, where port and Rust still agree.
-use crate::rows::port_side::{Archive, Library};
+use crate::rows::port_side::{Archive, Asked, Library};
 use port::value::{Held, Value, VALUE_WORDS};
 use port::Decoded;
 
@@ -45,19 +45,14 @@ pub struct Faulty(pub Fault);
 const EXTERNAL: u64 = 1 << 8;
 
 impl Library for Faulty {
-    fn decode_row(
-        &self,
-        columns: &[u64],
-        data: &[u8],
-        values: &mut [u64],
-        text: &mut [u8],
-    ) -> Decoded {
+    fn decode_row(&self, asked: Asked, values: &mut [u64], text: &mut [u8]) -> Decoded {
+        let data = asked.data;
         let (before, text_before) = (values.to_vec(), text.to_vec());
-        let mut decoded = Archive.decode_row(columns, data, values, text);
+        let mut decoded = Archive.decode_row(asked, values, text);
         if decoded.number != 0 {
             return decoded;
         }
-        let count = VALUE_WORDS * (columns.len() / 2);
+        let count = VALUE_WORDS * (asked.columns.len() / 2);
         let (rows, _) = values[..count].as_chunks_mut::<VALUE_WORDS>();
         match self.0 {
             Fault::WrongNumber => {
@@ -90,8 +85,14 @@ impl Library for Faulty {
         decoded
     }
 
-    fn replaced_by_value(&self, description: &[u8], data: &[u8], text: &mut [u8]) -> usize {
-        Archive.replaced_by_value(description, data, text)
+    fn replaced_by_value(
+        &self,
+        description: &[u8],
+        data: &[u8],
+        release: u32,
+        text: &mut [u8],
+    ) -> usize {
+        Archive.replaced_by_value(description, data, release, text)
     }
 }
 

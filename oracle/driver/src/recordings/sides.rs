@@ -1,5 +1,6 @@
 //! The port and the Rust, asked the same. They must agree in everything, and the port's own checks must find nothing.
 use crate::descriptions::{self, Description};
+use crate::releases::PORTED;
 use crate::request::{Form, Request};
 use crate::rows::port_side::Library;
 use crate::rows::{self, Answer, List};
@@ -36,10 +37,11 @@ impl<L: Library> Sides<L> {
 
     /// The answer to a row with a description's columns, by the calls on words and by value.
     pub fn answer(&mut self, list: &List, data: &[u8]) -> Result<Answer, String> {
-        let port = self.rows.answer(&list.words, data).clone();
-        let rust = rows::rust_side::answer(list, data);
+        let port = self.rows.answer(list.asked(data, PORTED)).clone();
+        let rust = rows::rust_side::answer(list, data, PORTED);
         let description = list.description.as_deref().unwrap_or_default();
-        let by_value = self.rows.by_value(description, list.count(), data, &rust);
+        let count = list.count();
+        let by_value = self.rows.by_value(description, count, data, PORTED, &rust);
         if port == rust && by_value == rust.outcome {
             return Ok(rust);
         }
@@ -57,6 +59,7 @@ pub fn request(list: &List, row: &[u8]) -> String {
     let request = Request::Description {
         data: list.description.clone().unwrap_or_default(),
         row: row.to_vec(),
+        release: PORTED,
     };
     request.shown(Form::Whole)
 }

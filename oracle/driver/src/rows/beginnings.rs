@@ -27,11 +27,13 @@ impl<L: Library> Run<L> {
             return Continue(());
         };
         let used = used as usize;
+        let release = self.release;
         if data.len() < 2 || used == 0 {
             return Continue(());
         }
         self.counts.alone += 1;
-        if !self.port.gives(&list.words, &data[..used], &self.rust) {
+        let asked = |data| list.asked(data, release);
+        if !self.port.gives(asked(&data[..used]), &self.rust) {
             return self.broken("the bytes used, alone", list, data, &data[..used]);
         }
         if !list.columns.iter().all(carries_own_end) {
@@ -40,13 +42,13 @@ impl<L: Library> Run<L> {
         let mut longer = data[..used].to_vec();
         inputs::extend(&mut self.random, &mut longer);
         self.counts.longer += 1;
-        if !self.port.gives(&list.words, &longer, &self.rust) {
+        if !self.port.gives(list.asked(&longer, release), &self.rust) {
             return self.broken("a longer input", list, data, &longer);
         }
         let text = self.rust.text.len();
         for length in (2..used).filter(|length| *length < 40 || used - length < 40) {
             self.counts.shorter += 1;
-            if !self.port.is_too_short(&list.words, &data[..length], text) {
+            if !self.port.is_too_short(asked(&data[..length]), text) {
                 return self.broken("a shorter beginning", list, data, &data[..length]);
             }
         }
@@ -56,9 +58,10 @@ impl<L: Library> Run<L> {
     /// An input on which demand 3 fails: either the two sides differ there, or the Rust breaks it too.
     fn broken(&mut self, what: &str, list: &List, data: &[u8], other: &[u8]) -> Flow {
         self.row(list, other)?;
+        let release = self.release;
         let line = |data: &[u8]| {
-            let answer = rust_side::answer(list, data).shown(Form::Whole, data);
-            format!("{} A {answer}", request(Form::Whole, list, data))
+            let answer = rust_side::answer(list, data, release).shown(Form::Whole, data);
+            format!("{} A {answer}", request(Form::Whole, list, data, release))
         };
         Break(End::Different(Box::new(Difference {
             rust: line(data),

@@ -15,55 +15,64 @@ const OF_ROWS: u64 = 4;
 const BUDGET: usize = 1_000_000;
 
 impl<L: Library> Run<L> {
-    /// Asks about a row to which `self.rust` is the answer.
+    /// Asks about a row to which `self.rust` is the answer, where it is its turn.
     pub(super) fn by_value(&mut self, list: &List, data: &[u8]) -> Flow {
+        match self.counts.rows().is_multiple_of(OF_ROWS) {
+            true => self.by_value_now(list, data),
+            false => Continue(()),
+        }
+    }
+
+    /// The same, whether it is or not.
+    pub(super) fn by_value_now(&mut self, list: &List, data: &[u8]) -> Flow {
         let Some(description) = &list.description else {
             return Continue(());
         };
-        if !self.counts.rows().is_multiple_of(OF_ROWS) {
-            return Continue(());
-        }
         self.counts.by_value += 1;
         let replaced =
             matches!(self.rust.outcome, Outcome::Accepted { replaced, .. } if replaced > 0);
         self.counts.replaced_by_value += u64::from(replaced);
-        let outcome = self
-            .port
-            .by_value(description, list.count(), data, &self.rust);
+        let release = self.release;
+        let (count, rust) = (list.count(), &self.rust);
+        let outcome = self.port.by_value(description, count, data, release, rust);
         if outcome == self.rust.outcome {
             return Continue(());
         }
-        Break(End::Different(Box::new(smallest(
-            &mut self.port,
-            description,
-            data,
-        ))))
+        let found = smallest(&mut self.port, description, data, release);
+        Break(End::Different(Box::new(found)))
     }
 }
 
 /// The smallest row and description found that still differ.
-fn smallest<L: Library>(port: &mut PortSide<L>, description: &[u8], data: &[u8]) -> Difference {
+fn smallest<L: Library>(
+    port: &mut PortSide<L>,
+    description: &[u8],
+    data: &[u8],
+    release: u32,
+) -> Difference {
     let first = data.len();
     let (mut description, mut data) = (description.to_vec(), data.to_vec());
     loop {
         let before = (description.clone(), data.clone());
-        let differs = |data: &[u8]| differing(port, &description, data).is_some();
+        let differs = |data: &[u8]| differing(port, &description, data, release).is_some();
         data = shrunk(&data, differs);
-        let differs = |description: &[u8]| differing(port, description, &data).is_some();
+        let differs = |description: &[u8]| differing(port, description, &data, release).is_some();
         description = shrunk(&description, differs);
         if before == (description.clone(), data.clone()) {
             break;
         }
     }
     let columns = described::answers(&description).ported;
-    let rust = rust_side::answer(&listed(&description).unwrap_or_default(), &data);
-    let port = differing(port, &description, &data).unwrap_or_else(|| rust.clone());
+    let list = listed(&description).unwrap_or_default();
+    let rust = rust_side::answer(&list, &data, release);
+    let port = differing(port, &description, &data, release).unwrap_or_else(|| rust.clone());
     let lengths = Some((data.len(), first));
     let columns = columns.shown(Form::Whole);
     let line = |answer: &Answer| {
         let asked = Request::Description {
             data: description.clone(),
             row: data.clone(),
+            release,
         };
         let asked = asked.shown(Form::Whole);
         format!("{asked} {columns} A {}", answer.shown(Form::Whole, &data))
@@ -92,10 +101,12 @@ fn differing<L: Library>(
     port: &mut PortSide<L>,
     description: &[u8],
     data: &[u8],
+    release: u32,
 ) -> Option<Answer> {
     let list = listed(description)?;
-    let rust = rust_side::answer(&list, data);
-    let mut outcomes = (0..4).map(|_| port.by_value(description, list.count(), data, &rust));
+    let rust = rust_side::answer(&list, data, release);
+    let count = list.count();
+    let mut outcomes = (0..4).map(|_| port.by_value(description, count, data, release, &rust));
     let outcome = outcomes.find(|outcome| *outcome != rust.outcome)?;
     Some(Answer { outcome, ..rust })
 }

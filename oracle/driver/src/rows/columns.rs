@@ -1,8 +1,9 @@
 //! Columns to ask about.
 use super::List;
 use crate::descriptions::COLUMN_LIMIT;
-use crate::inputs::{random_ccsid, random_scale, CCSIDS};
+use crate::inputs::{ccsids, random_ccsid, random_scale, CCSIDS};
 use crate::random::Random;
+use crate::releases::PORTED;
 use port::column::{Column, Name, Numbers, Order, Origin, Type, NAMES, ORIGINS};
 
 /// Lengths that a type holds, around those that matter to some type.
@@ -54,7 +55,7 @@ fn is_materialized(name: Name) -> bool {
 }
 
 /// Whether the CCSID has a part in the values of a type.
-fn has_text(name: Name) -> bool {
+pub fn has_text(name: Name) -> bool {
     matches!(
         name,
         Name::Char
@@ -95,8 +96,16 @@ pub fn plain(db2_type: Type) -> Column {
     }
 }
 
+/// The code page of some texts among others: 037, by its name or, above release 2, without.
+fn other_ccsid(release: u32) -> u16 {
+    match release {
+        PORTED => 37,
+        _ => 273,
+    }
+}
+
 /// So many columns: texts of one type, and texts of several types among numbers.
-pub fn texts(count: usize) -> [List; 2] {
+pub fn texts(count: usize, release: u32) -> [List; 2] {
     let text = Column {
         ccsid: 1208,
         ..plain(Name::VarChar.with(100))
@@ -112,22 +121,26 @@ pub fn texts(count: usize) -> [List; 2] {
             length: 1,
             ..plain(Name::Clob.plain())
         },
-        Column { ccsid: 37, ..text },
+        Column {
+            ccsid: other_ccsid(release),
+            ..text
+        },
     ];
     let several = several.into_iter().cycle().take(count).collect();
     [vec![text; count], several].map(List::numbered)
 }
 
 /// A description of so many columns, texts of several types among numbers.
-pub fn described_texts(count: usize) -> Vec<u8> {
-    const SEVERAL: [[u8; 7]; 5] = [
+pub fn described_texts(count: usize, release: u32) -> Vec<u8> {
+    let [high, low] = other_ccsid(release).to_be_bytes();
+    let several: [[u8; 7]; 5] = [
         [7, 0x70, 0x32, 0, 100, 0x04, 0xB8],
         [7, 0x70, 0x04, 0, 2, 0, 0],
         [7, 0x70, 0x33, 0, 100, 0x04, 0xB8],
         [7, 0x70, 0xCA, 0, 1, 0, 0],
-        [7, 0x70, 0x32, 0, 100, 0, 37],
+        [7, 0x70, 0x32, 0, 100, high, low],
     ];
-    let triplets = SEVERAL.iter().cycle().take(count);
+    let triplets = several.iter().cycle().take(count);
     triplets.flatten().copied().collect()
 }
 
@@ -156,10 +169,13 @@ fn varies(name: Name) -> bool {
     )
 }
 
-/// Every type with numbers, lengths, CCSIDs, orders and reference lengths of every class that matters to it, nullable and not.
-pub fn shapes() -> Vec<Column> {
+/// Every type with numbers, lengths, CCSIDs, orders and reference lengths of every class that matters to it, nullable and not. Above release 2 those in which a
+/// text may be.
+pub fn shapes(release: u32) -> Vec<Column> {
     let mut all = Vec::new();
-    for db2_type in NAMES.into_iter().flat_map(types) {
+    let names = NAMES.into_iter();
+    let names = names.filter(|name| release == PORTED || has_text(*name));
+    for db2_type in names.flat_map(types) {
         let name = db2_type.name;
         let own = [db2_type.numbers, db2_type.numbers ^ 5];
         let lengths = if looks_at_length(name) {
@@ -167,9 +183,10 @@ pub fn shapes() -> Vec<Column> {
         } else {
             &own
         };
-        let ccsids = match name {
-            _ if is_lob(name) => &CCSIDS[..4],
-            _ if has_text(name) => &CCSIDS[..],
+        let ccsids = match (name, release) {
+            _ if is_lob(name) && release == PORTED => &CCSIDS[..4],
+            _ if is_lob(name) => &[273, 1200],
+            _ if has_text(name) => ccsids(release),
             _ => &[0, 1200],
         };
         let references = if is_lob(name) {
@@ -249,6 +266,22 @@ pub fn one_of_each() -> Vec<Column> {
     all
 }
 
+/// The same to be asked about at a release: above release 2 columns in which a text may be, by an unnamed CCSID.
+pub fn one_of_each_at(release: u32) -> Vec<Column> {
+    let mut all = one_of_each();
+    if release != PORTED {
+        all.retain(|column| has_text(column.db2_type.name) && column.reference.is_none());
+        for column in &mut all {
+            column.ccsid = if column.ccsid == 1208 {
+                273
+            } else {
+                column.ccsid
+            };
+        }
+    }
+    all
+}
+
 fn random_own_length(random: &mut Random, name: Name) -> u16 {
     let most = if random.one_in(64) { 600 } else { 12 };
     match random.below(16) {
@@ -289,7 +322,7 @@ fn random_type(random: &mut Random) -> Type {
     }
 }
 
-pub fn random_column(random: &mut Random) -> Column {
+pub fn random_column(random: &mut Random, release: u32) -> Column {
     let db2_type = random_type(random);
     let name = db2_type.name;
     let reference = match random.below(16) {
@@ -313,7 +346,7 @@ pub fn random_column(random: &mut Random) -> Column {
         precision: random.byte(),
         scale: random.byte(),
         nullable: random.one_in(3),
-        ccsid: random_ccsid(random),
+        ccsid: random_ccsid(random, release),
         reference,
         order: random.pick(&[Order::Big, Order::Little]),
         origin: random.pick(&ORIGINS),
@@ -322,7 +355,7 @@ pub fn random_column(random: &mut Random) -> Column {
 }
 
 /// A caller's own list: mostly a few columns; now and then many, or around the limit.
-pub fn random_list(random: &mut Random) -> List {
+pub fn random_list(random: &mut Random, release: u32) -> List {
     let count = match random.below(4096) {
         0..=3 => COLUMN_LIMIT - 2 + random.below(5),
         4..=63 => random.below(40),
@@ -330,7 +363,8 @@ pub fn random_list(random: &mut Random) -> List {
         128..=1400 => 1,
         _ => 1 + random.below(5),
     };
-    let list = List::numbered((0..count).map(|_| random_column(random)).collect());
+    let columns = (0..count).map(|_| random_column(random, release));
+    let list = List::numbered(columns.collect());
     match random.below(512) {
         0..=3 => damaged(random, list),
         4..=7 => renumbered(random, list),
@@ -346,7 +380,7 @@ const CODES: [u8; 34] = [
 ];
 
 /// A description whose columns have short values: SDAs, groups, and LIDs declared before them.
-pub fn random_description(random: &mut Random, data: &mut Vec<u8>) {
+pub fn random_description(random: &mut Random, release: u32, data: &mut Vec<u8>) {
     data.clear();
     for _ in 0..1 + random.below(4) {
         let code = random.pick(&CODES) | random.byte() & 1;
@@ -356,7 +390,7 @@ pub fn random_description(random: &mut Random, data: &mut Vec<u8>) {
             _ => random.below(12) as u16,
         };
         let [high, low] = length.to_be_bytes();
-        let [ccsid_high, ccsid_low] = random_ccsid(random).to_be_bytes();
+        let [ccsid_high, ccsid_low] = random_ccsid(random, release).to_be_bytes();
         match random.below(4) {
             0 => data.extend([6, 0x76, 0xD0, code, high, low]),
             1 => {

@@ -9,6 +9,7 @@ use crate::descriptions::port_side::{Archive as Descriptions, PortSide as Descri
 use crate::descriptions::{self, Description, COLUMN_LIMIT};
 use crate::inputs::{fill, Style};
 use crate::random::Random;
+use crate::releases::PORTED;
 use crate::run::{self, End, Flow, Until};
 use port::column::{Column, Name, Order, Origin, NAMES, ORIGINS};
 use std::ops::ControlFlow::{self, Break, Continue};
@@ -16,6 +17,7 @@ use std::ops::ControlFlow::{self, Break, Continue};
 /// The parts of a run. The last has no end of its own.
 #[derive(Debug, Clone, Copy, PartialEq, Eq, PartialOrd, Ord)]
 pub enum Stage {
+    Unknown,
     Words,
     Shapes,
     Long,
@@ -24,7 +26,8 @@ pub enum Stage {
     Any,
 }
 
-const STAGES: [Stage; 6] = [
+const STAGES: [Stage; 7] = [
+    Stage::Unknown,
     Stage::Words,
     Stage::Shapes,
     Stage::Long,
@@ -44,6 +47,7 @@ pub struct Counts {
     pub refused_3: u64,
     pub refused_4: u64,
     pub refused_5: u64,
+    pub refused_22: u64,
     pub refused_102: u64,
     /// Accepted rows with texts, each of which is refused with 9 in a shorter buffer.
     pub with_text: u64,
@@ -51,6 +55,9 @@ pub struct Counts {
     pub external: u64,
     /// Accepted rows with characters replaced.
     pub replaced: u64,
+    /// Accepted rows with texts that are others than the Rust's own, by the release; and their columns, by type.
+    pub otherwise: u64,
+    pub otherwise_by_name: [u64; NAMES.len()],
     /// Accepted rows with a column whose origin no description would give one of its byte order.
     pub contradicted: u64,
     pub by_name: [u64; NAMES.len()],
@@ -67,7 +74,8 @@ pub struct Counts {
 
 impl Counts {
     pub fn rows(&self) -> u64 {
-        let refused = self.refused_3 + self.refused_4 + self.refused_5 + self.refused_102;
+        let refused = self.refused_3 + self.refused_4 + self.refused_5;
+        let refused = refused + self.refused_22 + self.refused_102;
         self.accepted + self.too_short + refused
     }
 
@@ -85,6 +93,7 @@ impl Counts {
             Outcome::Refusal(3) => self.refused_3 += 1,
             Outcome::Refusal(4) => self.refused_4 += 1,
             Outcome::Refusal(5) => self.refused_5 += 1,
+            Outcome::Refusal(22) => self.refused_22 += 1,
             _ => self.refused_102 += 1,
         }
         for column in &list.columns {
@@ -104,19 +113,22 @@ pub struct Run<L> {
     pub(super) random: Random,
     values: Values,
     until: Until,
+    /// What rows are asked about with.
+    pub(super) release: u32,
     /// The Rust's answer to the last row.
     pub(super) rust: Answer,
     pub counts: Counts,
 }
 
 impl<L: Library> Run<L> {
-    pub fn new(library: L, seed: u64, until: Until) -> Self {
+    pub fn new(library: L, seed: u64, until: Until, release: u32) -> Self {
         Run {
             port: PortSide::new(library),
             descriptions: DescriptionSide::new(Descriptions),
             random: Random::new(seed),
-            values: Values::new(),
+            values: Values::new(release),
             until,
+            release,
             rust: Answer::new(),
             counts: Counts::default(),
         }
@@ -124,6 +136,8 @@ impl<L: Library> Run<L> {
 
     pub fn from(&mut self, first: Stage) -> End {
         run::from(&STAGES, first, |stage| match stage {
+            Stage::Unknown if self.release == PORTED => Continue(()),
+            Stage::Unknown => self.unknown(),
             Stage::Words => self.words(),
             Stage::Shapes => self.shapes(),
             Stage::Long => self.long(),
@@ -138,17 +152,20 @@ impl<L: Library> Run<L> {
         if self.until.reached(self.counts.rows(), data.len()) {
             return Break(End::Enough);
         }
-        rust_side::answer_into(list, data, &mut self.rust);
+        let release = self.release;
+        let otherwise = rust_side::answer_into(list, data, release, &mut self.rust);
         self.counts.add(list, &self.rust);
-        if *self.port.answer(&list.words, data) == self.rust {
+        self.counts.otherwise += u64::from(!otherwise.is_empty());
+        for column in otherwise {
+            let name = list.columns[column].db2_type.name;
+            self.counts.otherwise_by_name[name as usize] += 1;
+        }
+        if *self.port.answer(list.asked(data, release)) == self.rust {
             self.other_origins(list, data)?;
             return self.by_value(list, data);
         }
-        Break(End::Different(Box::new(smallest(
-            &mut self.port,
-            list,
-            data,
-        ))))
+        let found = smallest(&mut self.port, list, data, release);
+        Break(End::Different(Box::new(found)))
     }
 
     /// One row, and demand 3 on it.
@@ -250,7 +267,7 @@ impl<L: Library> Run<L> {
     /// Columns of every type and every class of what else they say: a few values of each, cut at every byte.
     fn shapes(&mut self) -> Flow {
         let mut row = Vec::new();
-        for column in columns::shapes() {
+        for column in columns::shapes(self.release) {
             let list = List::of(&[column]);
             for _ in 0..4 {
                 self.values.row(&mut self.random, &list.columns, &mut row);
@@ -301,8 +318,10 @@ impl<L: Library> Run<L> {
     fn texts(&mut self) -> Flow {
         let mut row = Vec::new();
         for count in [1, 2, 63, 64, 65, 127, COLUMN_LIMIT] {
-            let described = self.described(&columns::described_texts(count))?;
-            for list in columns::texts(count).into_iter().chain(described) {
+            let described = columns::described_texts(count, self.release);
+            let described = self.described(&described)?;
+            let lists = columns::texts(count, self.release);
+            for list in lists.into_iter().chain(described) {
                 for place in 0..count {
                     for [one, others] in inputs::unlike() {
                         inputs::texts(&list.columns, place, one, others, &mut row);
@@ -316,7 +335,7 @@ impl<L: Library> Run<L> {
 
     /// No byte, every one byte and every two bytes, for every type and indicator.
     fn short(&mut self) -> Flow {
-        let lists: Vec<List> = columns::one_of_each()
+        let lists: Vec<List> = columns::one_of_each_at(self.release)
             .into_iter()
             .map(|column| List::of(&[column]))
             .collect();
@@ -341,17 +360,17 @@ impl<L: Library> Run<L> {
         loop {
             let list = match self.random.below(8) {
                 0..=1 => {
-                    let make = match self.random.below(4) {
-                        0 => descriptions::inputs::random_description,
-                        _ => columns::random_description,
-                    };
-                    make(&mut self.random, &mut description);
+                    let random = &mut self.random;
+                    match random.below(4) {
+                        0 => descriptions::inputs::random_description(random, &mut description),
+                        _ => columns::random_description(random, self.release, &mut description),
+                    }
                     match self.described(&description)? {
                         Some(list) => list,
                         None => continue,
                     }
                 }
-                _ => columns::random_list(&mut self.random),
+                _ => columns::random_list(&mut self.random, self.release),
             };
             let rows = if list.count() > 20 { 2 } else { ROWS_OF_A_LIST };
             for _ in 0..rows {
@@ -361,7 +380,7 @@ impl<L: Library> Run<L> {
     }
 
     /// The columns that the port reads out of a description, which must be those of the Rust, by both calls; None where it is refused.
-    fn described(&mut self, description: &[u8]) -> ControlFlow<End, Option<List>> {
+    pub(super) fn described(&mut self, description: &[u8]) -> ControlFlow<End, Option<List>> {
         self.counts.descriptions += 1;
         let port = self.descriptions.answers(description);
         if port != descriptions::rust_side::answers(description) {

@@ -291,11 +291,96 @@ faults! {
     ShortWithUsed,
     /// Refusal 8 with its numbers in the other order.
     ShortSwapped,
+    // The host's release.
+    /// Release 3 is taken for release 2,
+    ReleaseIgnored,
+    /// or release 2 for release 3.
+    ReleaseAlways3,
+    // At release 3, where the CCSID is unnamed:
+    /// UTF-16 of an odd count is left to the guess,
+    OddUtf16Guessed,
+    /// or of an even count by code page 037.
+    EvenUtf16By037,
+    /// LobChar is UTF-8,
+    LobCharUtf8,
+    /// or left to the guess.
+    LobCharGuessed,
+    /// LobBytes that are text are UTF-8,
+    LobBytesUtf8,
+    /// or left to the guess.
+    LobBytesGuessed,
+    /// Whether LobBytes are text is judged of what they are converted to.
+    LikelyAfterConversion,
+    /// LOBs within the row by code page 037.
+    InlineBy037,
+    /// Dates and times are left to the guess,
+    DatesGuessed,
+    /// or LongVarChar,
+    LongGuessed,
+    /// or Graphic,
+    GraphicGuessed,
+    /// or VarGraphic,
+    VarGraphicGuessed,
+    /// or characters of 1200 and 13488,
+    CharactersGuessed,
+    /// or all CCSIDs but 0,
+    OnlyZeroBy037,
+    /// or nullable columns.
+    NullableGuessed,
+    /// CCSID 819 is unnamed.
+    Latin1By037,
+    /// Lengths of little-endian UTF-16 count bytes.
+    ReleaseInExtents,
+    // A number that is no release:
+    /// Refusal 22 comes after 3,
+    ReleaseAfterCount,
+    /// after 101,
+    ReleaseAfterWords,
+    /// after 102,
+    ReleaseAfterColumns,
+    /// after 4,
+    ReleaseAfterLength,
+    /// after 5,
+    ReleaseAfterDecFloat,
+    /// after 8,
+    ReleaseAfterShort,
+    /// after 9.
+    ReleaseAfterNine,
+    /// The low 8 bits are the release,
+    ReleaseCutTo8,
+    /// or the low 16,
+    ReleaseCutTo16,
+    /// or all but the highest.
+    ReleaseCutTo31,
+    /// Larger numbers are release 3,
+    LargerReleases,
+    /// smaller ones release 2.
+    SmallerReleases,
+    /// A row without a text column is not refused.
+    UnknownWithoutTexts,
+    /// Refusal 22 with bytes used,
+    UnknownWithUsed,
+    /// with a text's length,
+    UnknownWithLength,
+    /// with characters replaced.
+    UnknownWithCount,
+    /// The words change with refusal 22,
+    UnknownWritesValues,
+    /// or the text buffer does.
+    UnknownWritesText,
+    // The row call by value:
+    /// Release 3 is taken for release 2,
+    ByValueReleaseIgnored,
+    /// the low 8 bits are the release,
+    ByValueReleaseCut,
+    /// or every other number is release 2.
+    ByValueUnknownTaken,
 }
 
 #[cfg(test)]
 mod tests {
     use super::*;
+    use crate::releases::{BY_037, PORTED};
     use crate::rows::compare::{Run, Stage};
     use crate::rows::model::Model;
     use crate::run::{End, Until};
@@ -305,6 +390,11 @@ mod tests {
     /// The first stage that can notice a fault. Random rows show most of them soonest.
     fn stage(fault: Fault) -> Stage {
         match fault {
+            _ if fault as usize >= Fault::ReleaseAfterCount as usize
+                && fault != Fault::ByValueReleaseIgnored =>
+            {
+                Stage::Unknown
+            }
             Fault::RowEarly | Fault::RowLate | Fault::LongFirst | Fault::DecFloatFirst => {
                 Stage::Long
             }
@@ -323,17 +413,32 @@ mod tests {
         }
     }
 
+    /// The release of the run that can notice a fault.
+    fn release(fault: Fault) -> u32 {
+        match fault {
+            Fault::ReleaseAlways3 => PORTED,
+            _ if fault as usize >= Fault::ReleaseIgnored as usize => BY_037,
+            _ => PORTED,
+        }
+    }
+
     #[test]
     fn without_a_fault_nothing_is_noticed() {
-        for stage in [Stage::Words, Stage::Any] {
-            let mut run = Run::new(Model(None), 3, Until::Cases(100_000));
+        for (stage, release) in [
+            (Stage::Words, PORTED),
+            (Stage::Any, PORTED),
+            (Stage::Unknown, BY_037),
+            (Stage::Any, BY_037),
+        ] {
+            let mut run = Run::new(Model(None), 3, Until::Cases(100_000), release);
             assert!(matches!(run.from(stage), End::Enough));
         }
     }
 
     /// A fault, after how many rows it was noticed, and the smallest row that shows it, as the wrong library answers it.
     fn noticed(fault: Fault) -> String {
-        let mut run = Run::new(Model(Some(fault)), 1, Until::Cases(2_000_000));
+        let until = Until::Cases(2_000_000);
+        let mut run = Run::new(Model(Some(fault)), 1, until, release(fault));
         let difference = run.from(stage(fault)).difference();
         let difference = difference.unwrap_or_else(|| panic!("{fault:?} was not noticed"));
         let rows = run.counts.rows();

@@ -38,12 +38,15 @@ const DOUBLES: [u64; 12] = [
 /// What makes values, with memory that is used again.
 pub struct Values {
     scratch: Vec<u8>,
+    /// Which bytes give a text something to decide goes by the release too.
+    release: u32,
 }
 
 impl Values {
-    pub fn new() -> Self {
+    pub fn new(release: u32) -> Self {
         Values {
             scratch: Vec::new(),
+            release,
         }
     }
 
@@ -74,12 +77,8 @@ impl Values {
     pub fn value(&mut self, random: &mut Random, column: &Column, row: &mut Vec<u8>) {
         let own = usize::from(column.db2_type.numbers);
         let length = usize::from(column.length);
-        let character = Leaf::Character {
-            ccsid: column.ccsid,
-        };
-        let graphic = Leaf::Graphic {
-            ccsid: column.ccsid,
-        };
+        let character = Leaf::character(column.ccsid).at(self.release);
+        let graphic = Leaf::graphic(column.ccsid).at(self.release);
         match column.db2_type.name {
             Name::SmallInt => number(random, column, 2, row),
             Name::Integer | Name::Real => number(random, column, 4, row),
@@ -159,7 +158,7 @@ impl Values {
             _ => {
                 let length = random_length(random);
                 row.extend_from_slice(&(length as u32).to_be_bytes());
-                self.bytes(random, Leaf::Character { ccsid: 1208 }, length, row);
+                self.bytes(random, Leaf::character(1208), length, row);
             }
         }
     }
@@ -168,9 +167,7 @@ impl Values {
         let length = usize::from(column.db2_type.numbers & 0x7FFF);
         if length < 1000 || (length < 3000 && random.one_in(4)) || random.one_in(200) {
             let leaf = match random.below(3) {
-                0 => Leaf::Character {
-                    ccsid: column.ccsid,
-                },
+                0 => Leaf::character(column.ccsid).at(self.release),
                 _ => Leaf::Likely,
             };
             return self.bytes(random, leaf, length, row);
@@ -190,12 +187,6 @@ impl Values {
                 _ => random.pick(b"afbe"),
             });
         }
-    }
-}
-
-impl Default for Values {
-    fn default() -> Self {
-        Values::new()
     }
 }
 

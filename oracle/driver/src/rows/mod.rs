@@ -1,11 +1,13 @@
 //! Rows: the row call is asked, with the columns of a description or with a caller's own.
 //!
 //! - `rust_side`, `port_side`: the two that answer
+//! - `walk`: which bytes of a row a value takes
 //! - `columns`, `inputs`: columns and rows to ask about
 //! - `compare`: the differential run
 //! - `beginnings`: demand 3, on the compiled code
 //! - `by_value`: the row call by value, on rows with a description's columns
 //! - `origins`: the same row with other origins
+//! - `unknown`: what is asked with numbers that are no release
 //! - `smallest`: the smallest row that differs
 //! - `model`: a row call written a third time, with a switch for each fault
 //! - `faults`: the faults, to see that the run notices them
@@ -20,12 +22,16 @@ pub mod origins;
 pub mod port_side;
 pub mod rust_side;
 pub mod smallest;
+pub mod unknown;
+pub mod walk;
 
 use crate::descriptions::COLUMN_LIMIT;
+use crate::releases::PORTED;
 use crate::request::{Form, Hex, Request};
 use db2_proto::fdoca::ColumnDescriptor;
 use port::column::{Column, Name, Origin};
 use port::value::{Held, Sort, Value, VALUE_WORDS};
+use port_side::Asked;
 use std::fmt;
 
 /// Bytes that a row may have (refusal 4 above it).
@@ -103,6 +109,15 @@ impl List {
         self.words.len() / 2
     }
 
+    /// What the row call is handed for a row.
+    pub fn asked<'a>(&'a self, data: &'a [u8], release: u32) -> Asked<'a> {
+        Asked {
+            columns: &self.words,
+            data,
+            release,
+        }
+    }
+
     /// Whether every column is an SDA's, as those of a line in upper case are.
     fn of_sdas(&self) -> bool {
         let mut origins = self.columns.iter().map(|column| column.origin);
@@ -121,14 +136,20 @@ impl List {
 }
 
 /// A request for a row, as a line, or, where the format has no line for it, as a call that no one takes for one.
-pub fn request(form: Form, list: &List, data: &[u8]) -> String {
+pub fn request(form: Form, list: &List, data: &[u8], release: u32) -> String {
     if !list.has_line() {
         let words: Vec<String> = list.words.iter().map(|word| format!("{word:X}")).collect();
-        return format!("vejupa_raw_decode_row({}; {})", words.join(" "), Hex(data));
+        let stated = match release {
+            PORTED => String::new(),
+            _ => format!("; {release}"),
+        };
+        let words = words.join(" ");
+        return format!("vejupa_raw_decode_row({words}; {}{stated})", Hex(data));
     }
     let request = Request::Row {
         columns: list.columns.clone(),
         data: data.to_vec(),
+        release,
     };
     request.shown(form)
 }
@@ -177,6 +198,10 @@ impl Answer {
             values: Vec::new(),
             text: Vec::new(),
         }
+    }
+
+    pub fn is_accepted(&self) -> bool {
+        matches!(self.outcome, Outcome::Accepted { .. })
     }
 
     /// Another outcome, with no value and no text.

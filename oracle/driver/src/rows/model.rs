@@ -1,10 +1,12 @@
 //! A row call written a third time, plainly and with a switch for each fault. Without a fault it answers as the Rust does, which
 //! the run is asked to say; with one it is a wrong library, whose fault shows only on some rows, as a real one would.
 //! The conversions of single texts are the Rust's, and what they replace is `replaced`'s: `crate::faults` has faults of those.
+use super::columns::has_text;
 use super::faults::Fault;
-use super::port_side::{plain as refused, Library};
+use super::port_side::{plain as refused, Asked, Library};
 use super::{List, LARGEST_NUMBER, ROW_LIMIT};
 use crate::descriptions::{rust_side, COLUMN_LIMIT};
+use crate::releases::{is_known, is_named, is_utf16, BY_037, PORTED};
 use crate::replaced::Reading;
 use db2_proto::fdoca::exposed;
 use db2_proto::types::decode_packed_decimal;
@@ -13,6 +15,13 @@ use port::value::{Sort, Value, VALUE_WORDS};
 use port::{Decoded, NO_COLUMN_WORDS, TOO_FEW_WORDS};
 
 pub struct Model(pub Option<Fault>);
+
+/// One call of it.
+struct Call {
+    fault: Option<Fault>,
+    /// The release, as it is taken.
+    release: u32,
+}
 
 /// A value before it has its place.
 struct Found {
@@ -77,6 +86,10 @@ fn all_zero(bytes: &[u8]) -> bool {
     bytes.iter().all(|byte| *byte == 0)
 }
 
+fn is_graphic(name: Name) -> bool {
+    matches!(name, Name::Graphic | Name::VarGraphic)
+}
+
 fn low15(number: u16) -> usize {
     usize::from(number & 0x7FFF)
 }
@@ -98,9 +111,87 @@ fn empty_lob(column: &Column) -> Found {
     }
 }
 
-impl Model {
+/// What 22 may wrongly come after.
+const LATE: [(Fault, u32); 7] = [
+    (Fault::ReleaseAfterCount, 3),
+    (Fault::ReleaseAfterWords, TOO_FEW_WORDS),
+    (Fault::ReleaseAfterColumns, NO_COLUMN_WORDS),
+    (Fault::ReleaseAfterLength, 4),
+    (Fault::ReleaseAfterDecFloat, 5),
+    (Fault::ReleaseAfterShort, 8),
+    (Fault::ReleaseAfterNine, 9),
+];
+
+impl Call {
+    fn new(fault: Option<Fault>, release: u32) -> Call {
+        let release = match fault {
+            Some(Fault::ReleaseIgnored) if release == BY_037 => PORTED,
+            Some(Fault::ReleaseAlways3) if release == PORTED => BY_037,
+            Some(Fault::ReleaseCutTo8) => release & 0xFF,
+            Some(Fault::ReleaseCutTo16) => release & 0xFFFF,
+            Some(Fault::ReleaseCutTo31) => release & 0x7FFF_FFFF,
+            Some(Fault::LargerReleases) => release.min(BY_037),
+            Some(Fault::SmallerReleases) => release.max(PORTED),
+            _ => release,
+        };
+        Call { fault, release }
+    }
+
     fn has(&self, fault: Fault) -> bool {
-        self.0 == Some(fault)
+        self.fault == Some(fault)
+    }
+
+    /// Refusal 22, which comes before all others.
+    fn unknown(&self, asked: Asked, values: &mut [u64], text: &mut [u8]) -> Decoded {
+        if let Some((_, number)) = LATE.into_iter().find(|(fault, _)| self.has(*fault)) {
+            let release = PORTED;
+            let known = Asked { release, ..asked };
+            let other = Model(None).decode_row(known, &mut values.to_vec(), &mut text.to_vec());
+            if other.number == number {
+                return other;
+            }
+        }
+        let mut unknown = refused(22);
+        match self.fault {
+            Some(Fault::UnknownWithUsed) => unknown.used = 2,
+            Some(Fault::UnknownWithLength) => unknown.text_length = 1,
+            Some(Fault::UnknownWithCount) => unknown.replaced = 1,
+            Some(Fault::UnknownWritesValues) if !values.is_empty() => values[0] = 0,
+            Some(Fault::UnknownWritesText) if !text.is_empty() => text[0] ^= 0x55,
+            _ => {}
+        }
+        unknown
+    }
+
+    /// Whether a column's characters are code page 037 for want of a name.
+    fn is_by_037(&self, column: &Column) -> bool {
+        self.release == BY_037 && !is_named(column.ccsid)
+    }
+
+    /// The CCSID by which a column's characters are read.
+    fn ccsid(&self, column: &Column) -> u16 {
+        let name = column.db2_type.name;
+        let guessed = match self.fault {
+            Some(Fault::LobCharGuessed) => name == Name::LobChar,
+            Some(Fault::LobBytesGuessed) => name == Name::LobBytes,
+            Some(Fault::DatesGuessed) => {
+                matches!(name, Name::Date | Name::Time | Name::Timestamp)
+            }
+            Some(Fault::LongGuessed) => name == Name::LongVarChar,
+            Some(Fault::GraphicGuessed) => name == Name::Graphic,
+            Some(Fault::VarGraphicGuessed) => name == Name::VarGraphic,
+            Some(Fault::CharactersGuessed) => {
+                !is_graphic(name) && matches!(column.ccsid, 1200 | 13488)
+            }
+            Some(Fault::OnlyZeroBy037) => column.ccsid != 0,
+            Some(Fault::NullableGuessed) => column.nullable,
+            _ => false,
+        };
+        match column.ccsid {
+            819 if self.release == BY_037 && self.has(Fault::Latin1By037) => 37,
+            _ if self.is_by_037(column) && !guessed => 37,
+            own => own,
+        }
     }
 
     /// The columns of the words, if they are columns'.
@@ -135,9 +226,9 @@ impl Model {
     fn by_origin(&self, column: Column) -> Option<Column> {
         let of_sda = column.origin == Origin::Sda;
         let little = column.order == Order::Little;
-        let is_graphic = matches!(column.db2_type.name, Name::Graphic | Name::VarGraphic);
+        let is_graphic = is_graphic(column.db2_type.name);
         let mut taken = column;
-        match self.0 {
+        match self.fault {
             Some(Fault::OriginRefused) if !of_sda => return None,
             Some(Fault::ContradictionRefused) if of_sda != little => return None,
             Some(Fault::DeclaredNullable) if column.origin == Origin::DeclaredLid => {
@@ -164,13 +255,13 @@ impl Model {
             COLUMN_LIMIT
         };
         let too_many = || count > most;
-        let few = match self.0 {
+        let few = match self.fault {
             Some(Fault::TooFewTaken) => lent + 1 < needed,
             Some(Fault::TooFewEarly) => lent <= needed && count > 0,
             _ => lent < needed,
         };
         let columns = self.columns(words);
-        let longest = match self.0 {
+        let longest = match self.fault {
             Some(Fault::RowEarly) => ROW_LIMIT - 1,
             Some(Fault::RowLate) => ROW_LIMIT + 1,
             _ => ROW_LIMIT,
@@ -178,12 +269,12 @@ impl Model {
         let long = data.len() > longest;
         let decfloat = |columns: &[Column]| {
             let mut names = columns.iter().map(|column| column.db2_type.name);
-            match self.0 {
+            match self.fault {
                 Some(Fault::DecFloatLast) => names.next_back() == Some(Name::DecFloat),
                 _ => names.any(|name| name == Name::DecFloat),
             }
         };
-        let too_few = match self.0 {
+        let too_few = match self.fault {
             Some(Fault::TooFewWithNeeded) => Decoded {
                 expected: needed,
                 ..refused(TOO_FEW_WORDS)
@@ -223,7 +314,7 @@ impl Model {
     }
 
     fn skip(&self, data: &[u8]) -> usize {
-        match (self.0, data) {
+        match (self.fault, data) {
             (Some(Fault::SkipLooked), [0xFF, second, ..]) if *second != 0 => 0,
             (Some(Fault::SkipOfOne), [0xFF, _, ..]) => 1,
             (Some(Fault::SkipAlone), [0xFF]) => 1,
@@ -235,7 +326,7 @@ impl Model {
     }
 
     fn is_null(&self, indicator: u8) -> bool {
-        match self.0 {
+        match self.fault {
             Some(Fault::HighIndicators) => indicator >= 0x80,
             Some(Fault::AnyIndicator) => indicator != 0,
             _ => indicator == 0xFF,
@@ -244,7 +335,7 @@ impl Model {
 
     /// A text with its count, where these bytes are read so.
     fn counted_in(&self, shown: String, reading: Reading, bytes: &[u8]) -> Converted {
-        let replaced = match self.0 {
+        let replaced = match self.fault {
             Some(Fault::HostsOwnCounted) => shown.matches('\u{FFFD}').count(),
             Some(Fault::BytesCounted) => reading.malformed(bytes).sum(),
             Some(Fault::OneForText) => reading.replaced(bytes).min(1),
@@ -254,12 +345,22 @@ impl Model {
         (shown, replaced)
     }
 
-    fn characters(&self, bytes: &[u8], ccsid: u16) -> Converted {
+    fn characters(&self, bytes: &[u8], column: &Column) -> Converted {
+        let ccsid = self.ccsid(column);
         let shown = exposed::decode_character_bytes(bytes, ccsid);
         self.counted_in(shown, Reading::of_characters(ccsid), bytes)
     }
 
-    fn graphics(&self, bytes: &[u8], ccsid: u16) -> Converted {
+    fn graphics(&self, bytes: &[u8], column: &Column) -> Converted {
+        let own = match self.fault {
+            Some(Fault::EvenUtf16By037) if self.release == BY_037 => false,
+            Some(Fault::OddUtf16Guessed) => matches!(column.ccsid, 1200 | 13488),
+            _ => is_utf16(column.ccsid, bytes.len()),
+        };
+        let ccsid = match own {
+            true => column.ccsid,
+            false => self.ccsid(column),
+        };
         let shown = exposed::decode_graphic_bytes(bytes, ccsid);
         self.counted_in(shown, Reading::of_graphics(ccsid, bytes), bytes)
     }
@@ -275,7 +376,7 @@ impl Model {
             Held::Text((_, replaced)) => Some(*replaced),
             _ => None,
         });
-        match self.0 {
+        match self.fault {
             Some(Fault::LastTextCounted) => counts.next_back().unwrap_or(0),
             Some(Fault::OneForRow) => counts.sum::<usize>().min(1),
             _ => counts.sum(),
@@ -291,7 +392,7 @@ impl Model {
         values: &[(Found, usize)],
     ) -> Decoded {
         let short = too_short(expected, actual);
-        match self.0 {
+        match self.fault {
             Some(Fault::ShortWithCount) => Decoded {
                 replaced: self.replaced(values),
                 ..short
@@ -308,7 +409,7 @@ impl Model {
             text_length: texts,
             ..refused(9)
         };
-        match self.0 {
+        match self.fault {
             Some(Fault::NineWithCount) => Decoded { replaced, ..nine },
             Some(Fault::NineLong) => Decoded {
                 text_length: texts + 1,
@@ -334,7 +435,7 @@ impl Model {
         let mut values = Vec::new();
         for (place, column) in columns.iter().enumerate() {
             if column.nullable {
-                let from = match self.0 {
+                let from = match self.fault {
                     Some(Fault::IndicatorFromRest) => at,
                     Some(Fault::IndicatorFromRow) => 0,
                     _ => skip,
@@ -396,7 +497,7 @@ impl Model {
                 Ok((self.double(bits), 8))
             }
             Name::Decimal => {
-                let length = match self.0 {
+                let length = match self.fault {
                     Some(Fault::DecimalByLength) => usize::from(column.length.max(1)),
                     _ => (usize::from(precision) + 2) / 2,
                 };
@@ -411,14 +512,14 @@ impl Model {
             }
             Name::DecFloat => Ok((number(Sort::Null, 0), 0)),
             Name::Char => {
-                let length = match self.0 {
+                let length = match self.fault {
                     Some(Fault::CharByColumn) => usize::from(column.length),
                     _ => plain,
                 };
                 let bytes = need(rest, length)?;
-                let shown = match (self.0, column.ccsid) {
-                    (Some(Fault::CharGraphic), 1200) => self.graphics(bytes, 1200),
-                    _ => self.characters(bytes, column.ccsid),
+                let shown = match (self.fault, column.ccsid) {
+                    (Some(Fault::CharGraphic), 1200) => self.graphics(bytes, column),
+                    _ => self.characters(bytes, column),
                 };
                 Ok((converted(Sort::Char, shown), length))
             }
@@ -431,12 +532,12 @@ impl Model {
                     usize::MAX
                 };
                 let bytes = &bytes[..bytes.len().min(most)];
-                let shown = self.characters(bytes, column.ccsid);
+                let shown = self.characters(bytes, column);
                 Ok((converted(Sort::VarChar, shown), used))
             }
             Name::LongVarChar => {
                 let (bytes, used) = self.counted(rest, column, 1)?;
-                let shown = self.characters(bytes, column.ccsid);
+                let shown = self.characters(bytes, column);
                 let sort = if self.has(Fault::LongIsClob) {
                     Sort::Clob
                 } else {
@@ -459,7 +560,7 @@ impl Model {
             Name::Date => self.dated(rest, column, Sort::Date, 10),
             Name::Time => self.dated(rest, column, Sort::Time, 8),
             Name::Timestamp => {
-                let length = match (self.0, column.length) {
+                let length = match (self.fault, column.length) {
                     (Some(Fault::TimestampAlways26), _) => 26,
                     (Some(Fault::TimestampOf0), 0) | (_, 1..) => usize::from(column.length),
                     _ => 26,
@@ -517,7 +618,7 @@ impl Model {
     /// The bits of so many bytes, in the column's order.
     fn bits(&self, rest: &[u8], column: &Column, length: usize) -> Result<u64, usize> {
         let bytes = need(rest, length)?;
-        let big = match self.0 {
+        let big = match self.fault {
             Some(Fault::DoubleBig) if column.db2_type.name == Name::Double => true,
             Some(Fault::BigIntLittle) if column.db2_type.name == Name::BigInt => false,
             _ => column.order == Order::Big,
@@ -531,7 +632,7 @@ impl Model {
     }
 
     fn real(&self, bits: u32) -> Found {
-        let bits = match self.0 {
+        let bits = match self.fault {
             Some(Fault::NanMadeQuiet) if f32::from_bits(bits).is_nan() => bits | 0x0040_0000,
             Some(Fault::SubnormalLost) if f32::from_bits(bits).is_subnormal() => bits & 1 << 31,
             _ => bits,
@@ -541,11 +642,11 @@ impl Model {
     }
 
     fn double(&self, bits: u64) -> Found {
-        let bits = match self.0 {
+        let bits = match self.fault {
             Some(Fault::MinusZeroLost) if bits == 1 << 63 => 0,
             _ => bits,
         };
-        let nan = match self.0 {
+        let nan = match self.fault {
             Some(Fault::NanIsDouble) => false,
             Some(Fault::InfinityIsNan) => !f64::from_bits(bits).is_finite(),
             _ => f64::from_bits(bits).is_nan(),
@@ -578,13 +679,13 @@ impl Model {
     }
 
     fn dated(&self, rest: &[u8], column: &Column, sort: Sort, length: usize) -> Decision {
-        let length = match (self.0, sort) {
+        let length = match (self.fault, sort) {
             (Some(Fault::DateByColumn), Sort::Date) => usize::from(column.length),
             (Some(Fault::TimeOf10), Sort::Time) => 10,
             _ => length,
         };
-        let (shown, replaced) = self.characters(need(rest, length)?, column.ccsid);
-        let replaced = match self.0 {
+        let (shown, replaced) = self.characters(need(rest, length)?, column);
+        let replaced = match self.fault {
             Some(Fault::DatesUncounted) => 0,
             _ => replaced,
         };
@@ -596,7 +697,8 @@ impl Model {
         let little = column.order == Order::Little || self.has(Fault::GraphicBigDoubled);
         let utf16 =
             column.ccsid == 1200 || column.ccsid == 13488 && self.has(Fault::Graphic13488Doubled);
-        if little && utf16 && !self.has(never) {
+        let by_release = self.has(Fault::ReleaseInExtents) && self.release == BY_037;
+        if little && utf16 && !self.has(never) && !by_release {
             2
         } else {
             1
@@ -609,9 +711,9 @@ impl Model {
                 .chunks(2)
                 .flat_map(|unit| [unit[1], unit[0]])
                 .collect();
-            return self.graphics(&turned, column.ccsid);
+            return self.graphics(&turned, column);
         }
-        self.graphics(bytes, column.ccsid)
+        self.graphics(bytes, column)
     }
 
     /// A flagged VarChar or VarGraphic.
@@ -629,7 +731,7 @@ impl Model {
         let total = start + length;
         let header = &need(rest, total)?[start..];
         let reference = header.len() >= 9 && header[0] == 0x02;
-        let empty = match self.0 {
+        let empty = match self.fault {
             Some(Fault::HeaderOfZeros) => all_zero(header) || reference && all_zero(&header[1..9]),
             Some(Fault::HeaderEnd) => reference && all_zero(&header[1..]),
             Some(Fault::HeaderFirst) => header.len() >= 9 && all_zero(&header[1..9]),
@@ -669,7 +771,7 @@ impl Model {
     fn reference(&self, rest: &[u8], column: &Column, width: usize) -> Decision {
         let bytes = need(rest, width)?;
         let nine = width >= 9 && bytes[0] == 0x02;
-        let empty = match self.0 {
+        let empty = match self.fault {
             Some(Fault::ReferenceOfZeros) => nine && all_zero(&bytes[1..]),
             Some(Fault::ReferenceEnd) => all_zero(bytes) || nine && all_zero(&bytes[1..9]),
             _ => all_zero(bytes) || nine && all_zero(&bytes[1..]),
@@ -715,8 +817,9 @@ impl Model {
         };
         let total = 4 + length as usize;
         let bytes = &need(rest, total)?[4..];
-        let shown = || match self.0 {
-            Some(Fault::InlineByCcsid) => self.characters(bytes, column.ccsid),
+        let shown = || match self.fault {
+            Some(Fault::InlineByCcsid) => self.characters(bytes, column),
+            Some(Fault::InlineBy037) if self.is_by_037(column) => self.characters(bytes, column),
             Some(Fault::InlineUncounted) => (self.utf8(bytes).0, 0),
             _ => self.utf8(bytes),
         };
@@ -741,18 +844,23 @@ impl Model {
             return self.short_reference(rest, is_bytes, length).ok_or(length);
         }
         let bytes = &rest[..length];
+        let by_037 = self.is_by_037(column);
         let likely = !is_bytes
-            || match self.0 {
+            || match self.fault {
+                Some(Fault::LikelyAfterConversion) if by_037 => {
+                    let (shown, _) = self.characters(bytes, column);
+                    exposed::bytes_are_likely_text(shown.as_bytes())
+                }
                 Some(Fault::LobBytesAlwaysText) => true,
                 Some(Fault::EmptyLobIsBlob) => length > 0 && exposed::bytes_are_likely_text(bytes),
                 _ => exposed::bytes_are_likely_text(bytes),
             };
-        let shown = || match self.0 {
+        let shown = || match self.fault {
             Some(Fault::LikelyAsUtf8) if is_bytes => self.utf8(bytes),
-            Some(Fault::LobCharUncounted) if !is_bytes => {
-                (self.characters(bytes, column.ccsid).0, 0)
-            }
-            _ => self.characters(bytes, column.ccsid),
+            Some(Fault::LobCharUtf8) if by_037 && !is_bytes => self.utf8(bytes),
+            Some(Fault::LobBytesUtf8) if by_037 && is_bytes => self.utf8(bytes),
+            Some(Fault::LobCharUncounted) if !is_bytes => (self.characters(bytes, column).0, 0),
+            _ => self.characters(bytes, column),
         };
         let found = match (likely, is_bytes) {
             (true, true) => converted(Sort::VarChar, shown()),
@@ -769,13 +877,13 @@ impl Model {
         is_bytes: bool,
         length: usize,
     ) -> Option<(Found, usize)> {
-        let least = match self.0 {
+        let least = match self.fault {
             Some(Fault::Lob1025) => 1025,
             Some(Fault::Lob1023) => 1023,
             _ => 1024,
         };
         let bytes = if self.has(Fault::Lob17) { 17 } else { 16 };
-        let is_digit = |byte: &&u8| match self.0 {
+        let is_digit = |byte: &&u8| match self.fault {
             Some(Fault::LobUpperOnly) => matches!(byte, b'0'..=b'9' | b'A'..=b'F'),
             Some(Fault::LobLetterG) => byte.is_ascii_hexdigit() || **byte == b'G',
             _ => byte.is_ascii_hexdigit(),
@@ -804,7 +912,7 @@ impl Model {
 
     /// By a fault a malformed text is taken for well-formed where another is so: a question mark here stands for each malformed part.
     fn taken_for_good(&self, values: &mut [(Found, usize)]) {
-        let other = |good: &[Option<bool>], place: usize| match self.0 {
+        let other = |good: &[Option<bool>], place: usize| match self.fault {
             Some(Fault::FoundOfLast) => good[place.checked_sub(1)?],
             Some(Fault::FoundOf64Before) => good[place.checked_sub(64)?],
             _ => None,
@@ -843,7 +951,7 @@ impl Model {
                 }
             };
             let held = found.sort.held();
-            match self.0 {
+            match self.fault {
                 Some(Fault::EmptyTextAt0) if held == port::value::Held::Text && length == 0 => {
                     number = 0
                 }
@@ -875,13 +983,13 @@ impl Model {
         values: &mut [u64],
         text: &mut [u8],
     ) -> Decoded {
-        let fits = match self.0 {
+        let fits = match self.fault {
             Some(Fault::NineAtFit) => texts.len() < text.len() || texts.is_empty(),
             Some(Fault::NineLate) => texts.len() <= text.len() + 1,
             _ => texts.len() <= text.len(),
         };
         if !fits {
-            match self.0 {
+            match self.fault {
                 Some(Fault::NineWritesText) if !text.is_empty() => text[0] ^= 0x55,
                 Some(Fault::NineWritesValues) if !values.is_empty() => values[0] ^= 0x55,
                 _ => {}
@@ -928,53 +1036,71 @@ impl Model {
 
 impl Library for Model {
     /// The other call, which has no fault here but those of this one.
-    fn replaced_by_value(&self, description: &[u8], data: &[u8], text: &mut [u8]) -> usize {
-        let fault = match self.0 {
-            Some(Fault::ByValueUncountedInLarge) => Some(Fault::UncountedInLarge),
-            Some(Fault::ByValueNineWithCount) => Some(Fault::NineWithCount),
-            Some(Fault::ByValueShortWithCount) => Some(Fault::ShortWithCount),
-            _ => None,
+    fn replaced_by_value(
+        &self,
+        description: &[u8],
+        data: &[u8],
+        release: u32,
+        text: &mut [u8],
+    ) -> usize {
+        let (fault, release) = match self.0 {
+            Some(Fault::ByValueUncountedInLarge) => (Some(Fault::UncountedInLarge), release),
+            Some(Fault::ByValueNineWithCount) => (Some(Fault::NineWithCount), release),
+            Some(Fault::ByValueShortWithCount) => (Some(Fault::ShortWithCount), release),
+            Some(Fault::ByValueReleaseIgnored) => (Some(Fault::ReleaseIgnored), release),
+            Some(Fault::ByValueReleaseCut) => (Some(Fault::ReleaseCutTo8), release),
+            Some(Fault::ByValueUnknownTaken) if !is_known(release) => (None, PORTED),
+            _ => (None, release),
         };
         let Some(columns) = rust_side::columns(description) else {
             return 0;
         };
         let mut values = vec![0; VALUE_WORDS * columns.len()];
-        let words = List::of(&columns).words;
-        let decoded = Model(fault).decode_row(&words, data, &mut values, text);
-        match self.has(Fault::ByValueUncounted) {
-            true => 0,
-            false => decoded.replaced,
+        let list = List::of(&columns);
+        let asked = list.asked(data, release);
+        let decoded = Model(fault).decode_row(asked, &mut values, text);
+        match self.0 {
+            Some(Fault::ByValueUncounted) => 0,
+            _ => decoded.replaced,
         }
     }
 
-    fn decode_row(
-        &self,
-        columns: &[u64],
-        data: &[u8],
-        values: &mut [u64],
-        text: &mut [u8],
-    ) -> Decoded {
-        let columns = match self.early(columns, data, values.len()) {
+    fn decode_row(&self, asked: Asked, values: &mut [u64], text: &mut [u8]) -> Decoded {
+        let Asked {
+            columns,
+            data,
+            release,
+        } = asked;
+        let call = Call::new(self.0, release);
+        let without_text = || {
+            let columns = call.columns(columns).unwrap_or_default();
+            !columns.iter().any(|column| has_text(column.db2_type.name))
+        };
+        let taken = call.has(Fault::UnknownWithoutTexts) && without_text();
+        if !is_known(call.release) && !taken {
+            return call.unknown(asked, values, text);
+        }
+        let columns = match call.early(columns, data, values.len()) {
             Ok(columns) => columns,
             Err(refusal) => return refusal,
         };
-        let (mut found, used) = match self.walk(&columns, data) {
+        let (mut found, used) = match call.walk(&columns, data) {
             Ok(walked) => walked,
             Err(refusal) => {
-                if self.has(Fault::ShortWritesValues) && !values.is_empty() {
+                if call.has(Fault::ShortWritesValues) && !values.is_empty() {
                     values[0] = 0;
                 }
                 return refusal;
             }
         };
-        self.taken_for_good(&mut found);
-        let skip = self.skip(data);
-        let counted = if self.has(Fault::UsedWithoutSkip) {
+        call.taken_for_good(&mut found);
+        let skip = call.skip(data);
+        let counted = if call.has(Fault::UsedWithoutSkip) {
             used - skip
         } else {
             used
         };
-        let replaced = self.replaced(&found);
-        self.hand_out(self.placed(found, skip), counted, replaced, values, text)
+        let replaced = call.replaced(&found);
+        call.hand_out(call.placed(found, skip), counted, replaced, values, text)
     }
 }

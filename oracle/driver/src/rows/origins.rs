@@ -1,6 +1,6 @@
 //! Decoding looks at no origin: a row is asked about again, with the same columns of other origins, and the answer must be the very same.
 use super::compare::Run;
-use super::port_side::Library;
+use super::port_side::{Asked, Library};
 use super::smallest::smallest;
 use super::List;
 use crate::run::{End, Flow};
@@ -33,15 +33,17 @@ impl<L: Library> Run<L> {
         self.counts.other_origins += 1;
         let columns = others(&list.columns, rows / OF_ROWS);
         let words: Vec<u64> = columns.iter().flat_map(Column::words).collect();
-        if *self.port.answer(&words, data) == self.rust {
+        let release = self.release;
+        let asked = Asked {
+            columns: &words,
+            data,
+            release,
+        };
+        if *self.port.answer(asked) == self.rust {
             return Continue(());
         }
-        let list = List::of(&columns);
-        Break(End::Different(Box::new(smallest(
-            &mut self.port,
-            &list,
-            data,
-        ))))
+        let found = smallest(&mut self.port, &List::of(&columns), data, release);
+        Break(End::Different(Box::new(found)))
     }
 }
 

@@ -5,36 +5,56 @@ use crate::lent::Lent;
 use port::value::VALUE_WORDS;
 use port::{Decoded, TOO_FEW_WORDS};
 
+/// What a row call is handed beside the buffers that it writes.
+#[derive(Clone, Copy)]
+pub struct Asked<'a> {
+    pub columns: &'a [u64],
+    pub data: &'a [u8],
+    pub release: u32,
+}
+
+impl Asked<'_> {
+    /// The words of its values.
+    fn words(self) -> usize {
+        VALUE_WORDS * (self.columns.len() / 2)
+    }
+
+    /// So many bytes hold the texts of any row as long.
+    fn ample(self) -> usize {
+        ample(self.columns.len() / 2, self.data.len())
+    }
+}
+
 /// What is asked. The archive is one; `model` has others, which are wrong.
 pub trait Library {
-    fn decode_row(
-        &self,
-        columns: &[u64],
-        data: &[u8],
-        values: &mut [u64],
-        text: &mut [u8],
-    ) -> Decoded;
+    fn decode_row(&self, asked: Asked, values: &mut [u64], text: &mut [u8]) -> Decoded;
 
     /// The row call by value, with the columns of a description: how many characters it replaced.
-    fn replaced_by_value(&self, description: &[u8], data: &[u8], text: &mut [u8]) -> usize;
+    fn replaced_by_value(
+        &self,
+        description: &[u8],
+        data: &[u8],
+        release: u32,
+        text: &mut [u8],
+    ) -> usize;
 }
 
 /// The static library.
 pub struct Archive;
 
 impl Library for Archive {
-    fn decode_row(
-        &self,
-        columns: &[u64],
-        data: &[u8],
-        values: &mut [u64],
-        text: &mut [u8],
-    ) -> Decoded {
-        port::decode_row(columns, data, values, text)
+    fn decode_row(&self, asked: Asked, values: &mut [u64], text: &mut [u8]) -> Decoded {
+        port::decode_row(asked.columns, asked.data, asked.release, values, text)
     }
 
-    fn replaced_by_value(&self, description: &[u8], data: &[u8], text: &mut [u8]) -> usize {
-        port::by_value::replaced(description, data, text) as usize
+    fn replaced_by_value(
+        &self,
+        description: &[u8],
+        data: &[u8],
+        release: u32,
+        text: &mut [u8],
+    ) -> usize {
+        port::by_value::replaced(description, data, release, text) as usize
     }
 }
 
@@ -96,9 +116,9 @@ impl<L: Library> PortSide<L> {
     }
 
     /// The answer with buffers just large enough, after the checks with others.
-    pub fn answer(&mut self, columns: &[u64], data: &[u8]) -> &Answer {
+    pub fn answer(&mut self, asked: Asked) -> &Answer {
         self.turn += 1;
-        let outcome = self.outcome(columns, data);
+        let outcome = self.outcome(asked);
         if !matches!(outcome, Outcome::Accepted { .. }) {
             self.answer.set(outcome);
         }
@@ -106,26 +126,25 @@ impl<L: Library> PortSide<L> {
     }
 
     /// The outcome; where it is accepted the answer holds it already.
-    fn outcome(&mut self, columns: &[u64], data: &[u8]) -> Outcome {
-        let words = VALUE_WORDS * (columns.len() / 2);
-        let first = self.call(columns, data, words, 0);
+    fn outcome(&mut self, asked: Asked) -> Outcome {
+        let first = self.call(asked, asked.words(), 0);
         let texts = match first.number {
             0 if first == accepted(first.used, 0, first.replaced) => 0,
             9 if first.text_length > 0 && first == nine(first.text_length) => first.text_length,
             0 | 9 => return Outcome::Bad(Bad::Nine),
-            _ => return self.refused(columns, data, first),
+            _ => return self.refused(asked, first),
         };
-        if texts > ample(columns.len() / 2, data.len()) {
+        if texts > asked.ample() {
             return Outcome::Bad(Bad::Nine);
         }
-        self.accepted(columns, data, first, texts)
+        self.accepted(asked, first, texts)
     }
 
     /// A call with so many words for values and bytes for texts.
-    fn call(&mut self, columns: &[u64], data: &[u8], words: usize, bytes: usize) -> Decoded {
+    fn call(&mut self, asked: Asked, words: usize, bytes: usize) -> Decoded {
         let values = self.values.fresh(words);
         let text = self.text.fresh(bytes);
-        self.library.decode_row(columns, data, values, text)
+        self.library.decode_row(asked, values, text)
     }
 
     /// Whether nothing has changed.
@@ -134,14 +153,14 @@ impl<L: Library> PortSide<L> {
     }
 
     /// A row that is accepted with `texts` bytes of text; `first` was the answer with none.
-    fn accepted(&mut self, columns: &[u64], data: &[u8], first: Decoded, texts: usize) -> Outcome {
-        let words = VALUE_WORDS * (columns.len() / 2);
+    fn accepted(&mut self, asked: Asked, first: Decoded, texts: usize) -> Outcome {
+        let words = asked.words();
         if texts > 0 && !self.kept(words, 0) {
             return Outcome::Bad(Bad::Nine);
         }
         // Exactly as many words and bytes as are needed.
         let exact = if texts > 0 {
-            self.call(columns, data, words, texts)
+            self.call(asked, words, texts)
         } else {
             first
         };
@@ -158,8 +177,8 @@ impl<L: Library> PortSide<L> {
             .extend_from_slice(self.values.first(words));
         self.answer.text.extend_from_slice(self.text.first(texts));
         // More of both; of the text around the lengths from which on no text can fail to fit.
-        let enough = ample(columns.len() / 2, data.len());
-        let just = ample(columns.len() / 2, used.min(data.len()));
+        let enough = asked.ample();
+        let just = ample(asked.columns.len() / 2, used.min(asked.data.len()));
         let sizes = [
             texts + 1,
             texts + 7,
@@ -172,18 +191,18 @@ impl<L: Library> PortSide<L> {
         ];
         let bytes = sizes[self.turn % sizes.len()].max(texts);
         let more = words + 1 + self.turn % 3;
-        if self.call(columns, data, more, bytes) != exact || !self.same(words, more, texts, bytes) {
+        if self.call(asked, more, bytes) != exact || !self.same(words, more, texts, bytes) {
             return Outcome::Bad(Bad::Rest);
         }
         // One byte too few, with words exact or more.
         if texts > 0 {
             let words = words + self.turn % 2;
-            let short = self.call(columns, data, words, texts - 1);
+            let short = self.call(asked, words, texts - 1);
             if short != nine(texts) || !self.kept(words, texts - 1) {
                 return Outcome::Bad(Bad::Nine);
             }
         }
-        match self.too_few_is_said(columns, data, texts) {
+        match self.too_few_is_said(asked, texts) {
             true => self.answer.outcome,
             false => Outcome::Bad(Bad::TooFew),
         }
@@ -198,32 +217,33 @@ impl<L: Library> PortSide<L> {
     }
 
     /// Whether 101 comes with fewer words than needed, and changes nothing.
-    fn too_few_is_said(&mut self, columns: &[u64], data: &[u8], bytes: usize) -> bool {
-        let needed = VALUE_WORDS * (columns.len() / 2);
+    fn too_few_is_said(&mut self, asked: Asked, bytes: usize) -> bool {
+        let needed = asked.words();
         if needed == 0 {
             return true;
         }
         let words = [needed - 1, 0, needed - 1, needed / 2][self.turn % 4];
-        self.call(columns, data, words, bytes) == plain(TOO_FEW_WORDS) && self.kept(words, bytes)
+        self.call(asked, words, bytes) == plain(TOO_FEW_WORDS) && self.kept(words, bytes)
     }
 
-    /// A refusal but 9: the same with room for all and more, and nothing changed. All but refusal 3 come after 101.
-    fn refused(&mut self, columns: &[u64], data: &[u8], first: Decoded) -> Outcome {
-        let words = VALUE_WORDS * (columns.len() / 2);
+    /// A refusal but 9: the same with room for all and more, and nothing changed. All but refusals 22 and 3 come after 101.
+    fn refused(&mut self, asked: Asked, first: Decoded) -> Outcome {
+        let words = asked.words();
         if !self.kept(words, 0) {
             return Outcome::Bad(Bad::Rest);
         }
-        let bytes = [1, ample(columns.len() / 2, data.len()).min(5000)][self.turn % 2];
+        let bytes = [1, asked.ample().min(5000)][self.turn % 2];
         let more = words + self.turn % 3;
-        if self.call(columns, data, more, bytes) != first || !self.kept(more, bytes) {
+        if self.call(asked, more, bytes) != first || !self.kept(more, bytes) {
             return Outcome::Bad(Bad::Rest);
         }
-        if first.number == 3 {
-            let same = self.call(columns, data, 0, 0) == first && self.kept(0, 0);
+        if matches!(first.number, 22 | 3) {
+            let fewer = [0, words.saturating_sub(1)][self.turn % 2];
+            let same = self.call(asked, fewer, 0) == first && self.kept(fewer, 0);
             if !same {
                 return Outcome::Bad(Bad::TooFew);
             }
-        } else if !self.too_few_is_said(columns, data, bytes) {
+        } else if !self.too_few_is_said(asked, bytes) {
             return Outcome::Bad(Bad::TooFew);
         }
         let Decoded {
@@ -246,12 +266,12 @@ impl<L: Library> PortSide<L> {
     }
 
     /// Whether one call, with room for all, gives an answer that another gave: its numbers, its values and its texts.
-    pub fn gives(&mut self, columns: &[u64], data: &[u8], answer: &Answer) -> bool {
+    pub fn gives(&mut self, asked: Asked, answer: &Answer) -> bool {
         let Outcome::Accepted { used, replaced } = answer.outcome else {
             return false;
         };
         let (words, bytes) = (answer.values.len(), answer.text.len());
-        self.call(columns, data, words, bytes) == accepted(used, bytes, replaced)
+        self.call(asked, words, bytes) == accepted(used, bytes, replaced)
             && self.values.first(words) == answer.values
             && self.text.first(bytes) == answer.text
             && self.values.kept(words, words)
@@ -259,9 +279,9 @@ impl<L: Library> PortSide<L> {
     }
 
     /// Whether one call says that the row is too short, and changes nothing.
-    pub fn is_too_short(&mut self, columns: &[u64], data: &[u8], bytes: usize) -> bool {
-        let words = VALUE_WORDS * (columns.len() / 2);
-        let answer = self.call(columns, data, words, bytes);
+    pub fn is_too_short(&mut self, asked: Asked, bytes: usize) -> bool {
+        let words = asked.words();
+        let answer = self.call(asked, words, bytes);
         (answer.number, answer.replaced) == (8, 0) && self.kept(words, bytes)
     }
 
@@ -272,6 +292,7 @@ impl<L: Library> PortSide<L> {
         description: &[u8],
         columns: usize,
         data: &[u8],
+        release: u32,
         answer: &Answer,
     ) -> Outcome {
         self.turn_by_value += 1;
@@ -279,21 +300,22 @@ impl<L: Library> PortSide<L> {
         let enough = ample(columns, data.len());
         let more = [texts + 1, enough, texts + 7, enough + 99][self.turn_by_value % 4];
         let Outcome::Accepted { used, .. } = answer.outcome else {
-            let none = self.call_by_value(description, data, more) == 0 && self.text.kept(0, more);
+            let none = self.call_by_value(description, data, release, more) == 0
+                && self.text.kept(0, more);
             return if none {
                 answer.outcome
             } else {
                 Outcome::Bad(Bad::Rest)
             };
         };
-        let replaced = self.call_by_value(description, data, texts);
+        let replaced = self.call_by_value(description, data, release, texts);
         let exact = self.has_texts(answer, texts);
-        let as_many = self.call_by_value(description, data, more) == replaced;
+        let as_many = self.call_by_value(description, data, release, more) == replaced;
         if !exact || !as_many || !self.has_texts(answer, more) {
             return Outcome::Bad(Bad::Rest);
         }
         if texts > 0 {
-            let none = self.call_by_value(description, data, texts - 1) == 0;
+            let none = self.call_by_value(description, data, release, texts - 1) == 0;
             if !none || !self.text.kept(0, texts - 1) {
                 return Outcome::Bad(Bad::Nine);
             }
@@ -302,9 +324,16 @@ impl<L: Library> PortSide<L> {
     }
 
     /// A call with so many bytes for texts.
-    fn call_by_value(&mut self, description: &[u8], data: &[u8], bytes: usize) -> usize {
+    fn call_by_value(
+        &mut self,
+        description: &[u8],
+        data: &[u8],
+        release: u32,
+        bytes: usize,
+    ) -> usize {
         let text = self.text.fresh(bytes);
-        self.library.replaced_by_value(description, data, text)
+        self.library
+            .replaced_by_value(description, data, release, text)
     }
 
     /// Whether the texts are those of the answer, and the bytes lent behind them are as they were.

@@ -1,9 +1,12 @@
 //! The answers of the published Rust. It has no limits of its own: those of the port are applied here. `decode_row` gives the
 //! values and the bytes used, `decode_row_body` the external columns. The Rust copies bytes out of the row; where they lay is
 //! found by walking over the columns with `decode_column_value`. So are the bytes whose text holds U+FFFD: how many were put in is a second
-//! opinion, of `replaced`.
+//! opinion, of `replaced`. Nor has it releases: at release 3 it is asked once more, with the columns of `releases`.
+use super::walk::{self, Walk};
 use super::{Answer, Early, List, Outcome, ROW_LIMIT};
 use crate::descriptions::rust_side::published_type;
+use crate::releases::columns::{by_037, other_texts, same_but_texts};
+use crate::releases::{self, PORTED};
 use crate::replaced::Reading;
 use db2_proto::fdoca::{decode_row, exposed, ByteOrder, ColumnDescriptor};
 use db2_proto::types::{Db2Type, Db2Value};
@@ -30,9 +33,10 @@ pub fn published(column: &Column) -> ColumnDescriptor {
     }
 }
 
-/// The refusal that the limits give, if any, in their order.
-fn refused(list: &List, data: &[u8]) -> Option<u32> {
+/// The refusal that the release and the limits give, if any, in their order.
+fn refused(list: &List, data: &[u8], release: u32) -> Option<u32> {
     match list.refusal {
+        _ if !releases::is_known(release) => Some(22),
         Some(Early::TooMany) => Some(3),
         Some(Early::NoColumns) => Some(port::NO_COLUMN_WORDS),
         _ if data.len() > ROW_LIMIT => Some(4),
@@ -41,12 +45,32 @@ fn refused(list: &List, data: &[u8]) -> Option<u32> {
     }
 }
 
-/// The answer to a row with room for all values and texts, into an answer that is used again.
-pub fn answer_into(list: &List, data: &[u8], answer: &mut Answer) {
-    if let Some(number) = refused(list, data) {
-        return answer.set(Outcome::Refusal(number));
+/// The answer to a row with room for all values and texts, into an answer that is used again. The columns whose texts are others than the Rust's own, by
+/// the release.
+pub fn answer_into(list: &List, data: &[u8], release: u32, answer: &mut Answer) -> Vec<usize> {
+    if let Some(number) = refused(list, data, release) {
+        answer.set(Outcome::Refusal(number));
+        return Vec::new();
     }
-    let (values, used) = match decode_row(data, &list.published) {
+    decode_into(&list.published, data, answer);
+    if release == PORTED || !answer.is_accepted() {
+        return Vec::new();
+    }
+    let Some(columns) = by_037(&list.published, data) else {
+        return Vec::new();
+    };
+    let own = std::mem::take(answer);
+    decode_into(&columns, data, answer);
+    assert!(
+        same_but_texts(&own, answer),
+        "by another CCSID only texts are others"
+    );
+    other_texts(&own, answer)
+}
+
+/// The Rust's answer to a row.
+fn decode_into(columns: &[ColumnDescriptor], data: &[u8], answer: &mut Answer) {
+    let (values, used) = match decode_row(data, columns) {
         Ok(decoded) => decoded,
         Err(ProtoError::BufferTooShort { expected, actual }) => {
             return answer.set(Outcome::TooShort { expected, actual });
@@ -54,30 +78,20 @@ pub fn answer_into(list: &List, data: &[u8], answer: &mut Answer) {
         Err(other) => panic!("the Rust refuses a row otherwise: {other}"),
     };
     answer.set(Outcome::Accepted { used, replaced: 0 });
-    let skip = if data.len() >= 2 && data[0] == 0xFF {
-        2
-    } else {
-        0
-    };
-    let (body, _) = exposed::decode_row_body(&data[skip..], &list.published)
+    let (body, _) = exposed::decode_row_body(&data[walk::skip(data)..], columns)
         .expect("decode_row accepts what decode_row_body accepts");
     let mut external = body.extdta_columns.into_iter().peekable();
-    let mut walk = Walk {
-        list,
-        data,
-        next: 0,
-        at: skip,
-    };
+    let mut walk = Walk::over(columns, data);
     let mut replaced = 0;
-    for (place, value) in values.iter().enumerate() {
-        let external = external.next_if_eq(&place).is_some();
+    for (column, value) in values.iter().enumerate() {
+        let external = external.next_if_eq(&column).is_some();
         let texts = answer.text.len();
         add(answer, value, external, |bytes| {
-            walk.place(place, external, bytes)
+            place(&mut walk, column, data, external, bytes)
         });
         let held = held_replacements(&answer.text[texts..]);
         if held > 0 {
-            let put_in = walk.replaced(place, external);
+            let put_in = put_in(&mut walk, column, external);
             assert!(put_in <= held, "what is put in is in the text");
             replaced += put_in;
         }
@@ -92,9 +106,9 @@ fn held_replacements(text: &[u8]) -> usize {
     parts.filter(|part| *part == "\u{FFFD}".as_bytes()).count()
 }
 
-pub fn answer(list: &List, data: &[u8]) -> Answer {
+pub fn answer(list: &List, data: &[u8], release: u32) -> Answer {
     let mut answer = Answer::new();
-    answer_into(list, data, &mut answer);
+    answer_into(list, data, release, &mut answer);
     answer
 }
 
@@ -139,91 +153,65 @@ fn written(texts: &mut Vec<u8>, sort: Sort, text: &str) -> (Sort, u64, u64) {
     (sort, start as u64, text.len() as u64)
 }
 
-/// A walk over the columns of an accepted row, as far as it was needed.
-struct Walk<'a> {
-    list: &'a List,
-    data: &'a [u8],
-    next: usize,
-    at: usize,
+/// How many U+FFFD the conversion of a column's text puts in. Where the bytes lie that are converted, and how they are read, goes by the type.
+fn put_in(walk: &mut Walk, column: usize, external: bool) -> usize {
+    let bytes = walk.taken(column).expect("Null has no text");
+    let descriptor = walk.column(column);
+    let characters = |bytes| Reading::of_characters(descriptor.ccsid).replaced(bytes);
+    let graphics = |bytes| Reading::of_graphics(descriptor.ccsid, bytes).replaced(bytes);
+    match descriptor.db2_type {
+        // A locator in hexadecimal.
+        _ if external => 0,
+        Db2Type::Char(_)
+        | Db2Type::Date
+        | Db2Type::Time
+        | Db2Type::Timestamp
+        | Db2Type::LobBytes(_)
+        | Db2Type::LobChar(_) => characters(bytes),
+        Db2Type::VarChar(_) | Db2Type::LongVarChar => characters(&bytes[2..]),
+        Db2Type::Graphic(_) => graphics(bytes),
+        Db2Type::VarGraphic(_) => graphics(&bytes[2..]),
+        // Within the row, behind its length, whatever the CCSID.
+        Db2Type::Clob | Db2Type::DbClob | Db2Type::Xml => Reading::Utf8.replaced(&bytes[4..]),
+        _ => 0,
+    }
 }
 
-impl Walk<'_> {
-    /// Where the value of a column begins.
-    fn to(&mut self, column: usize) -> usize {
-        loop {
-            let descriptor = &self.list.published[self.next];
-            let null = descriptor.nullable && self.data[self.at] == 0xFF;
-            let start = self.at + usize::from(descriptor.nullable);
-            if self.next == column {
-                return start;
-            }
-            self.next += 1;
-            self.at = start;
-            if !null {
-                let value = exposed::decode_column_value(&self.data[start..], descriptor);
-                self.at += value.expect("a column of an accepted row").1;
-            }
-        }
+/// Where in the row the bytes of a column's binary value lie; 0 for none.
+fn place(walk: &mut Walk, column: usize, data: &[u8], external: bool, bytes: &[u8]) -> usize {
+    if bytes.is_empty() {
+        return 0;
     }
-
-    /// How many U+FFFD the conversion of a column's text puts in. Where the bytes lie that are converted, and how they are read, goes by the type.
-    fn replaced(&mut self, column: usize, external: bool) -> usize {
-        let start = self.to(column);
-        let descriptor = &self.list.published[column];
-        let value = exposed::decode_column_value(&self.data[start..], descriptor);
-        let (_, used) = value.expect("a column of an accepted row");
-        let bytes = &self.data[start..start + used];
-        let characters = |bytes| Reading::of_characters(descriptor.ccsid).replaced(bytes);
-        let graphics = |bytes| Reading::of_graphics(descriptor.ccsid, bytes).replaced(bytes);
-        match descriptor.db2_type {
-            // A locator in hexadecimal.
-            _ if external => 0,
-            Db2Type::Char(_)
-            | Db2Type::Date
-            | Db2Type::Time
-            | Db2Type::Timestamp
-            | Db2Type::LobBytes(_)
-            | Db2Type::LobChar(_) => characters(bytes),
-            Db2Type::VarChar(_) | Db2Type::LongVarChar => characters(&bytes[2..]),
-            Db2Type::Graphic(_) => graphics(bytes),
-            Db2Type::VarGraphic(_) => graphics(&bytes[2..]),
-            // Within the row, behind its length, whatever the CCSID.
-            Db2Type::Clob | Db2Type::DbClob | Db2Type::Xml => Reading::Utf8.replaced(&bytes[4..]),
-            _ => 0,
-        }
-    }
-
-    /// Where in the row the bytes of a column's binary value lie; 0 for none.
-    fn place(&mut self, column: usize, external: bool, bytes: &[u8]) -> usize {
-        if bytes.is_empty() {
-            return 0;
-        }
-        let start = self.to(column);
-        // A length stands in front of the bytes: two bytes, or four where a Blob stands in the row itself.
-        let length = match self.list.published[column].db2_type {
-            Db2Type::VarBinary(_) => 2,
-            Db2Type::Blob if !external => 4,
-            _ => 0,
-        };
-        let place = start + length;
-        assert_eq!(&self.data[place..place + bytes.len()], bytes);
-        place
-    }
+    let start = walk.start(column).expect("Null has no bytes");
+    // A length stands in front of the bytes: two bytes, or four where a Blob stands in the row itself.
+    let length = match walk.column(column).db2_type {
+        Db2Type::VarBinary(_) => 2,
+        Db2Type::Blob if !external => 4,
+        _ => 0,
+    };
+    let place = start + length;
+    assert_eq!(&data[place..place + bytes.len()], bytes);
+    place
 }
 
 #[cfg(test)]
 mod tests {
     use super::*;
+    use crate::releases::BY_037;
     use crate::request::{parse, Form, Request};
 
     /// The row's answer to a request line.
     fn shown(line: &str) -> String {
-        match parse(line).unwrap() {
-            (form, Request::Row { columns, data }) => {
-                answer(&List::numbered(columns), &data).shown(form, &data)
-            }
-            _ => panic!("no H line"),
-        }
+        let (form, request) = parse(line).unwrap();
+        let Request::Row {
+            columns,
+            data,
+            release,
+        } = request
+        else {
+            panic!("no H line");
+        };
+        answer(&List::numbered(columns), &data, release).shown(form, &data)
     }
 
     /// What each type adds to the characters replaced: its malformed bytes, and not the host's own U+FFFD.
@@ -345,19 +333,169 @@ mod tests {
         };
         let list = |count: usize| List::numbered(columns.repeat(count));
         let long = vec![0; ROW_LIMIT + 1];
-        assert_eq!(answer(&list(129), &long).outcome, Outcome::Refusal(3));
-        assert_eq!(answer(&list(128), &long).outcome, Outcome::Refusal(4));
-        assert_eq!(answer(&list(128), &[]).outcome, Outcome::Refusal(5));
-        let odd = List::of_words(vec![0; 3]);
-        assert_eq!(answer(&odd, &long).outcome, Outcome::Refusal(102));
-        let odd = List::of_words(vec![0; 259]);
-        assert_eq!(answer(&odd, &long).outcome, Outcome::Refusal(3));
+        let odd = |words: usize| List::of_words(vec![0; words]);
+        for (list, data, number) in [
+            (list(129), &long[..], 3),
+            (list(128), &long, 4),
+            (list(128), &[], 5),
+            (odd(3), &long, 102),
+            (odd(259), &long, 3),
+        ] {
+            for release in [PORTED, BY_037] {
+                let refusal = Outcome::Refusal(number);
+                assert_eq!(answer(&list, data, release).outcome, refusal);
+            }
+            for release in [0, 1, 4, 258, 259, u32::MAX] {
+                let refusal = Outcome::Refusal(22);
+                assert_eq!(answer(&list, data, release).outcome, refusal);
+            }
+        }
+    }
+
+    /// What each type gives for blanks of code page 037 at release 2 and at release 3, by unnamed CCSIDs. Extents and sorts do not go by the release.
+    #[test]
+    fn unnamed_ccsids_by_release() {
+        for (column, row, at_2, at_3) in [
+            (
+                "Char.1:30:1:0:0:0:273:-:B",
+                "40",
+                "OK 1 - 1 0 C:40",
+                "OK 1 - 1 0 C:20",
+            ),
+            (
+                "Char.2:30:2:0:0:0:1200:-:B",
+                "4040",
+                "OK 2 - 2 0 C:4040",
+                "OK 2 - 2 0 C:2020",
+            ),
+            (
+                "Char.1:30:1:0:0:0:1208:-:B",
+                "40",
+                "OK 1 - 1 0 C:40",
+                "OK 1 - 1 0 C:40",
+            ),
+            (
+                "Char.1:30:1:0:0:0:273:-:B",
+                "C1",
+                "OK 1 - 1 0 C:41",
+                "OK 1 - 1 0 C:41",
+            ),
+            (
+                "VarChar.9:32:9:0:0:0:0:-:B",
+                "000140",
+                "OK 3 - 1 0 V:40",
+                "OK 3 - 1 0 V:20",
+            ),
+            (
+                "LongVarChar:34:9:0:0:0:65535:-:B",
+                "000140",
+                "OK 3 - 1 0 V:40",
+                "OK 3 - 1 0 V:20",
+            ),
+            (
+                "Graphic.1:36:1:0:0:0:1200:-:B",
+                "40",
+                "OK 1 - 1 0 C:40",
+                "OK 1 - 1 0 C:20",
+            ),
+            (
+                "Graphic.2:36:2:0:0:0:1200:-:B",
+                "0040",
+                "OK 2 - 1 0 C:40",
+                "OK 2 - 1 0 C:40",
+            ),
+            (
+                "Graphic.1:36:1:0:0:0:1200:-:L",
+                "0040",
+                "OK 2 - 1 0 C:40",
+                "OK 2 - 1 0 C:40",
+            ),
+            (
+                "Graphic.2:36:2:0:0:0:300:-:B",
+                "4040",
+                "OK 2 - 2 0 C:4040",
+                "OK 2 - 2 0 C:2020",
+            ),
+            (
+                "VarGraphic.9:38:9:0:0:0:13488:-:L",
+                "000140",
+                "OK 3 - 1 0 V:40",
+                "OK 3 - 1 0 V:20",
+            ),
+            (
+                "VarGraphic.9:38:9:0:0:0:1200:-:L",
+                "00010040",
+                "OK 4 - 1 0 V:40",
+                "OK 4 - 1 0 V:40",
+            ),
+            (
+                "VarGraphic.9:38:9:0:0:0:1200:-:B",
+                "00020040",
+                "OK 4 - 1 0 V:40",
+                "OK 4 - 1 0 V:40",
+            ),
+            (
+                "LobChar.1:51:1:0:0:0:0:-:B",
+                "40",
+                "OK 1 - 1 0 K:40",
+                "OK 1 - 1 0 K:20",
+            ),
+            (
+                "LobBytes.1:50:1:0:0:0:0:-:B",
+                "40",
+                "OK 1 - 1 0 V:40",
+                "OK 1 - 1 0 V:20",
+            ),
+            (
+                "LobBytes.1:50:1:0:0:0:0:-:B",
+                "25",
+                "OK 1 - 1 0 V:25",
+                "OK 1 - 1 0 V:0A",
+            ),
+            (
+                "LobBytes.1:50:1:0:0:0:0:-:B",
+                "C1",
+                "OK 1 - 0 0 O:0:C1",
+                "OK 1 - 0 0 O:0:C1",
+            ),
+            (
+                "Time:22:8:0:0:0:0:-:B",
+                "4040404040404040",
+                "OK 8 - 8 0 t:4040404040404040",
+                "OK 8 - 8 0 t:2020202020202020",
+            ),
+            (
+                "Clob:CA:9:0:0:0:0:-:B",
+                "0000000140",
+                "OK 5 - 1 0 K:40",
+                "OK 5 - 1 0 K:40",
+            ),
+            (
+                "DbClob:CC:9:0:0:0:1200:-:B",
+                "0000000140",
+                "OK 5 - 1 0 K:40",
+                "OK 5 - 1 0 K:40",
+            ),
+            (
+                "Xml:DC:0:0:0:0:273:-:B",
+                "0000000140",
+                "OK 5 - 1 0 X:40",
+                "OK 5 - 1 0 X:40",
+            ),
+            ("Char.2:30:2:0:0:0:273:-:B", "40", "SHORT 2 1", "SHORT 2 1"),
+        ] {
+            for (release, wanted) in [(PORTED, at_2), (BY_037, at_3)] {
+                let line = format!("h {release} 1 {column}:U R {row}");
+                assert_eq!(shown(&line), wanted, "{line}");
+            }
+            assert_eq!(shown(&format!("h 4 1 {column}:U R {row}")), "REFUSE22");
+        }
     }
 
     /// A SmallInt by its words: with each of three origins it is the same column to a row, and the number 3 is no origin.
     #[test]
     fn origins_by_the_words() {
-        let of_word = |word: u64| answer(&List::of_words(vec![word, 0]), &[0, 42]);
+        let of_word = |word: u64| answer(&List::of_words(vec![word, 0]), &[0, 42], PORTED);
         let plain = of_word(0);
         assert_eq!(plain.shown(Form::Shared, &[]), "OK 2 - 0 S:42");
         assert_eq!(

@@ -1,7 +1,8 @@
 //! The smallest row that still differs, and the plainest columns for it.
 use super::columns::plain;
-use super::port_side::{Library, PortSide};
+use super::port_side::{Asked, Library, PortSide};
 use super::{request, rust_side, Answer, List};
+use crate::releases::PORTED;
 use crate::request::Form;
 use crate::run::Difference;
 use crate::shrink::Shrinking;
@@ -10,11 +11,17 @@ use port::column::{Column, Numbers, Order, Origin, Type};
 /// How many bytes a pass may ask about that makes a row smaller.
 const BUDGET: usize = 8_000_000;
 
-pub fn smallest<L: Library>(port: &mut PortSide<L>, list: &List, data: &[u8]) -> Difference {
+pub fn smallest<L: Library>(
+    port: &mut PortSide<L>,
+    list: &List,
+    data: &[u8],
+    release: u32,
+) -> Difference {
     let mut found = Smallest {
         port,
         list: list.clone(),
         data: data.to_vec(),
+        release,
         asked: 0,
     };
     found.shrink();
@@ -24,11 +31,12 @@ pub fn smallest<L: Library>(port: &mut PortSide<L>, list: &List, data: &[u8]) ->
         data: left,
         ..
     } = found;
-    let rust = rust_side::answer(&list, &left);
-    let port = differing(port, &list, &left, &rust).unwrap_or(rust.clone());
+    let rust = rust_side::answer(&list, &left, release);
+    let port = differing(port, list.asked(&left, release), &rust).unwrap_or(rust.clone());
     let shared = |answer: &Answer| answer.shown(Form::Shared, &left);
-    let form = Form::telling(list.of_sdas() && shared(&rust) != shared(&port));
-    let asked = request(form, &list, &left);
+    let shows = list.of_sdas() && release == PORTED;
+    let form = Form::telling(shows && shared(&rust) != shared(&port));
+    let asked = request(form, &list, &left, release);
     Difference {
         rust: format!("{asked} A {}", rust.shown(form, &left)),
         port: format!("{asked} A {}", port.shown(form, &left)),
@@ -40,27 +48,24 @@ struct Smallest<'a, L> {
     port: &'a mut PortSide<L>,
     list: List,
     data: Vec<u8>,
+    release: u32,
     /// Bytes asked about: it bounds the time that long rows take.
     asked: usize,
 }
 
 /// The port's answer, where it is not the Rust's. Which lengths of buffers the port's side tries goes by turns: it is asked more than
 /// once.
-fn differing<L: Library>(
-    port: &mut PortSide<L>,
-    list: &List,
-    data: &[u8],
-    rust: &Answer,
-) -> Option<Answer> {
-    let turns = if data.len() < 10_000 { 24 } else { 1 };
+fn differing<L: Library>(port: &mut PortSide<L>, asked: Asked, rust: &Answer) -> Option<Answer> {
+    let turns = if asked.data.len() < 10_000 { 24 } else { 1 };
     (0..turns).find_map(|_| {
-        let answer = port.answer(&list.words, data);
+        let answer = port.answer(asked);
         (answer != rust).then(|| answer.clone())
     })
 }
 
-fn differs<L: Library>(port: &mut PortSide<L>, list: &List, data: &[u8]) -> bool {
-    differing(port, list, data, &rust_side::answer(list, data)).is_some()
+fn differs<L: Library>(port: &mut PortSide<L>, list: &List, data: &[u8], release: u32) -> bool {
+    let rust = rust_side::answer(list, data, release);
+    differing(port, list.asked(data, release), &rust).is_some()
 }
 
 impl<L: Library> Smallest<'_, L> {
@@ -83,7 +88,7 @@ impl<L: Library> Smallest<'_, L> {
             return false;
         }
         self.asked += data.len() + 50 * list.count() + 100;
-        let taken = differs(self.port, &list, &data);
+        let taken = differs(self.port, &list, &data, self.release);
         if taken {
             self.list = list;
             self.data = data;
@@ -121,7 +126,8 @@ impl<L: Library> Smallest<'_, L> {
     fn without_bytes(&self, from: usize, to: usize) -> Option<Vec<u8>> {
         let used = |columns: &[Column]| {
             let list = List::of(columns);
-            match rust_side::answer(&list, &self.data).outcome {
+            // How many bytes a column takes does not go by the release.
+            match rust_side::answer(&list, &self.data, PORTED).outcome {
                 super::Outcome::Accepted { used, .. } => Some(used),
                 _ => None,
             }
@@ -134,8 +140,8 @@ impl<L: Library> Smallest<'_, L> {
 
     fn cut_bytes(&mut self) {
         self.cut_counted();
-        let (port, list) = (&mut *self.port, &self.list);
-        let differs = |data: &[u8]| differs(port, list, data);
+        let (port, list, release) = (&mut *self.port, &self.list, self.release);
+        let differs = |data: &[u8]| differs(port, list, data, release);
         let mut shrinking = Shrinking::new(&self.data, BUDGET, differs);
         shrinking.cut();
         shrinking.lower();

@@ -28,23 +28,23 @@ enum-told-5 c = search needs
 
 returns : tie.Need-returns
 unfolding itemText
-returns c = rw (c .enum-told .given .1) ((λ k. refl), ((λ k s. refl), omega arith))
+returns c = rw (c .enum-told .given .1) ((λ k. refl), ((λ release k s. refl), omega arith))
 
 returns-2 : tie.Need-returns-2
 unfolding itemText
-returns-2 c = rw (c .enum-told2 .given .1) ((λ k. refl), ((λ k s. refl), omega arith))
+returns-2 c = rw (c .enum-told2 .given .1) ((λ k. refl), ((λ release k s. refl), omega arith))
 
 returns-3 : tie.Need-returns-3
 unfolding itemText
-returns-3 c = rw (c .enum-told3 .given .1) ((λ k. refl), ((λ k s. refl), omega arith))
+returns-3 c = rw (c .enum-told3 .given .1) ((λ k. refl), ((λ release k s. refl), omega arith))
 
 returns-4 : tie.Need-returns-4
 unfolding itemText
-returns-4 c = rw (c .enum-told4 .given .1) ((λ k. refl), ((λ k s. refl), omega arith))
+returns-4 c = rw (c .enum-told4 .given .1) ((λ k. refl), ((λ release k s. refl), omega arith))
 
 returns-5 : tie.Need-returns-5
 unfolding itemText
-returns-5 c = rw (c .enum-told5 .given .1) ((λ k. refl), ((λ k s. refl), omega arith))
+returns-5 c = rw (c .enum-told5 .given .1) ((λ k. refl), ((λ release k s. refl), omega arith))
 
 returns-6 : tie.Need-returns-6
 returns-6 c = one-of enum (λ t. isNumber t ≡ false) 5 (6 ∷ 7 ∷ 8 ∷ 9 ∷ 10 ∷ 11 ∷ 12 ∷ 13 ∷ 14 ∷ 15 ∷ 16 ∷ 17 ∷ 18 ∷ 19 ∷ 20 ∷ 21 ∷ 22 ∷ 23 ∷ 24 ∷ 25 ∷ 26 ∷ 27 ∷ 28 ∷ []) (c .before .args .t) (c .match .keys6) ((λ v. refl), ((λ v. refl), ((λ v. refl), ((λ v. refl), ((λ v. refl), ((λ v. refl), ((λ v. refl), ((λ v. refl), ((λ v. refl), ((λ v. refl), ((λ v. refl), ((λ v. refl), ((λ v. refl), ((λ v. refl), ((λ v. refl), ((λ v. refl), ((λ v. refl), ((λ v. refl), ((λ v. refl), ((λ v. refl), ((λ v. refl), ((λ v. refl), ((λ v. refl), (λ v. refl))))))))))))))))))))))))

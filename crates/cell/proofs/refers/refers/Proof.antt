@@ -69,34 +69,34 @@ is-short-reference-requires-2 : tie.Need-is-short-reference-requires-2
 is-short-reference-requires-2 c κs = search needs
 
 returns : tie.Need-returns
-returns c = c .lob-refers .ensures ∙ blob-refers (c .before .before .before .before .args .column) (now (c .before .before .before .before .args .bytes)) (c .before .before .before .before .pre) (c .before .enum-told .given .1)
+returns c = λ release. c .lob-refers .ensures ∙ blob-refers release (c .before .before .before .before .args .column) (now (c .before .before .before .before .args .bytes)) (c .before .before .before .before .pre) (c .before .enum-told .given .1)
 
 returns-2 : tie.Need-returns-2
-returns-2 c = c .lob-refers2 .ensures ∙ clob-refers (c .before .before .before .before .args .column) (now (c .before .before .before .before .args .bytes)) (c .before .before .before .before .pre) (c .before .enum-told2 .given .1)
+returns-2 c = λ release. c .lob-refers2 .ensures ∙ clob-refers release (c .before .before .before .before .args .column) (now (c .before .before .before .before .args .bytes)) (c .before .before .before .before .pre) (c .before .enum-told2 .given .1)
 
 returns-3 : tie.Need-returns-3
-returns-3 c = c .lob-refers3 .ensures ∙ db-clob-refers (c .before .before .before .before .args .column) (now (c .before .before .before .before .args .bytes)) (c .before .before .before .before .pre) (c .before .enum-told3 .given .1)
+returns-3 c = λ release. c .lob-refers3 .ensures ∙ db-clob-refers release (c .before .before .before .before .args .column) (now (c .before .before .before .before .args .bytes)) (c .before .before .before .before .pre) (c .before .enum-told3 .given .1)
 
 returns-4 : tie.Need-returns-4
-returns-4 c = c .lob-refers4 .ensures ∙ xml-refers (c .before .before .before .before .args .column) (now (c .before .before .before .before .args .bytes)) (c .before .before .before .before .pre) (c .before .enum-told4 .given .1)
+returns-4 c = λ release. c .lob-refers4 .ensures ∙ xml-refers release (c .before .before .before .before .args .column) (now (c .before .before .before .before .args .bytes)) (c .before .before .before .before .pre) (c .before .enum-told4 .given .1)
 
 returns-5 : tie.Need-returns-5
-returns-5 c = one-of enum (λ t. need (typeExtent t (c .before .before .args .column)) (now (c .before .before .args .bytes)) ≡ length (now (c .before .before .args .bytes)) → true ≡ refersBy (c .before .before .args .column) (now (c .before .before .args .bytes)) t) 14 (21 ∷ 22 ∷ []) (c .before .before .args .column .«db2_type») (c .match .keys5) ((λ v. locator-refers (c .before .before .args .column) (now (c .before .before .args .bytes)) blobs), ((λ v. locator-refers (c .before .before .args .column) (now (c .before .before .args .bytes)) clobs), (λ v. locator-refers (c .before .before .args .column) (now (c .before .before .args .bytes)) clobs))) (c .before .before .pre) ∙ refers-by (c .before .before .args .column) (now (c .before .before .args .bytes)) refl
+returns-5 c = λ release. one-of enum (λ t. need (typeExtent t (c .before .before .args .column)) (now (c .before .before .args .bytes)) ≡ length (now (c .before .before .args .bytes)) → true ≡ refersBy release (c .before .before .args .column) (now (c .before .before .args .bytes)) t) 14 (21 ∷ 22 ∷ []) (c .before .before .args .column .«db2_type») (c .match .keys5) ((λ v. locator-refers release (c .before .before .args .column) (now (c .before .before .args .bytes)) blobs), ((λ v. locator-refers release (c .before .before .args .column) (now (c .before .before .args .bytes)) clobs), (λ v. locator-refers release (c .before .before .args .column) (now (c .before .before .args .bytes)) clobs))) (c .before .before .pre) ∙ refers-by release (c .before .before .args .column) (now (c .before .before .args .bytes)) refl
 
 returns-6 : tie.Need-returns-6
-returns-6 c = c .varying-refers .ensures ∙ var-char-refers (c .before .before .before .before .before .args .column) (now (c .before .before .before .before .before .args .bytes)) _ (c .before .before .t .given .1)
+returns-6 c = λ release. c .varying-refers .ensures ∙ var-char-refers release (c .before .before .before .before .before .args .column) (now (c .before .before .before .before .before .args .bytes)) _ (c .before .before .t .given .1)
 
 returns-7 : tie.Need-returns-7
-returns-7 c = c .varying-refers2 .ensures ∙ var-graphic-refers (c .before .before .before .before .before .args .column) (now (c .before .before .before .before .before .args .bytes)) _ (c .before .before .t2 .given .1)
+returns-7 c = λ release. c .varying-refers2 .ensures ∙ var-graphic-refers release (c .before .before .before .before .before .args .column) (now (c .before .before .before .before .before .args .bytes)) _ (c .before .before .t2 .given .1)
 
 returns-8 : tie.Need-returns-8
-returns-8 c = c .is-short-reference .ensures ∙ lob-bytes-in (c .before .before .before .before .before .args .column) (now (c .before .before .before .before .before .args .bytes)) _ (c .before .before .t3 .given .1)
+returns-8 c = λ release. c .is-short-reference .ensures ∙ lob-bytes-in release (c .before .before .before .before .before .args .column) (now (c .before .before .before .before .before .args .bytes)) _ (c .before .before .t3 .given .1)
 
 returns-9 : tie.Need-returns-9
-returns-9 c = c .is-short-reference2 .ensures ∙ lob-char-in (c .before .before .before .before .before .args .column) (now (c .before .before .before .before .before .args .bytes)) _ (c .before .before .t4 .given .1)
+returns-9 c = λ release. c .is-short-reference2 .ensures ∙ lob-char-in release (c .before .before .before .before .before .args .column) (now (c .before .before .before .before .before .args .bytes)) _ (c .before .before .t4 .given .1)
 
 returns-10 : tie.Need-returns-10
-returns-10 c = plain-in (c .before .before .args .column) (now (c .before .before .args .bytes)) (one-of enum (λ t. typeRefers t (c .before .before .args .column) (now (c .before .before .args .bytes)) ≡ false) 0 (1 ∷ 2 ∷ 3 ∷ 4 ∷ 5 ∷ 6 ∷ 7 ∷ 9 ∷ 11 ∷ 12 ∷ 15 ∷ 16 ∷ 17 ∷ 18 ∷ 25 ∷ 26 ∷ 28 ∷ []) (c .before .before .args .column .«db2_type») (c .match .keys10) ((λ v. refl), ((λ v. refl), ((λ v. refl), ((λ v. refl), ((λ v. refl), ((λ v. refl), ((λ v. refl), ((λ v. refl), ((λ v. refl), ((λ v. refl), ((λ v. refl), ((λ v. refl), ((λ v. refl), ((λ v. refl), ((λ v. refl), ((λ v. refl), ((λ v. refl), (λ v. refl)))))))))))))))))))
+returns-10 c = λ release. plain-in release (c .before .before .args .column) (now (c .before .before .args .bytes)) (one-of enum (λ t. typeRefers t (c .before .before .args .column) (now (c .before .before .args .bytes)) ≡ false) 0 (1 ∷ 2 ∷ 3 ∷ 4 ∷ 5 ∷ 6 ∷ 7 ∷ 9 ∷ 11 ∷ 12 ∷ 15 ∷ 16 ∷ 17 ∷ 18 ∷ 25 ∷ 26 ∷ 28 ∷ []) (c .before .before .args .column .«db2_type») (c .match .keys10) ((λ v. refl), ((λ v. refl), ((λ v. refl), ((λ v. refl), ((λ v. refl), ((λ v. refl), ((λ v. refl), ((λ v. refl), ((λ v. refl), ((λ v. refl), ((λ v. refl), ((λ v. refl), ((λ v. refl), ((λ v. refl), ((λ v. refl), ((λ v. refl), ((λ v. refl), (λ v. refl)))))))))))))))))))
 
 pub refers-spec : {M : Type 1} → statement M
 refers-spec =

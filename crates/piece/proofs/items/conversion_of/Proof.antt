@@ -31,10 +31,10 @@ enum-told-3 : tie.Need-enum-told-3
 enum-told-3 c = search needs
 
 returns-2 : tie.Need-returns-2
-returns-2 c = rw (c .before .before .encoding .given .1) (characters-by (c .before .before .encoding .given .0 .0) (now (c .before .before .before .before .before .before .args .s)) (c .character-conversion .ensures))
+returns-2 c = rw (c .before .before .encoding .given .1) (characters-by _ (c .before .before .encoding .given .0 .0) (now (c .before .before .before .before .before .before .args .s)) (c .character-conversion .ensures))
 
 returns-3 : tie.Need-returns-3
-returns-3 c = rw (c .before .before .encoding2 .given .1) (graphics-by (c .before .before .encoding2 .given .0 .0) (now (c .before .before .before .before .before .before .args .s)) (c .graphic-conversion .ensures))
+returns-3 c = rw (c .before .before .encoding2 .given .1) (graphics-by _ (c .before .before .encoding2 .given .0 .0) (now (c .before .before .before .before .before .before .args .s)) (c .graphic-conversion .ensures))
 
 returns-4 : tie.Need-returns-4
 returns-4 c = rw (c .enum-told .given .1) (utf8-picked _)

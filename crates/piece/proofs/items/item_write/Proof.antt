@@ -34,7 +34,7 @@ is-copied-requires : tie.Need-is-copied-requires
 is-copied-requires c κs = search needs
 
 add-reading-write : tie.Need-add-reading-write
-add-reading-write c = record { fits = omega (arith, (text-within (c .before .before .before .before .before .before .args .item) (now (c .before .before .before .before .before .before .args .bytes)) (c .before .before .item3 .given .0 .0) (c .before .before .item3 .given .0 .1 .0) (c .before .before .item3 .given .0 .1 .1 .0) (c .before .before .item3 .given .0 .1 .1 .1 .0) (c .before .before .item3 .given .1) (c .before .before .before .before .before .before .pre .0 .1 .0)) .0, c .before .before .before .before .before .before .pre .0 .0) }
+add-reading-write c = record { fits = omega (arith, (text-within (c .before .before .before .before .before .before .args .release) (c .before .before .before .before .before .before .args .item) (now (c .before .before .before .before .before .before .args .bytes)) (c .before .before .item3 .given .0 .0) (c .before .before .item3 .given .0 .1 .0) (c .before .before .item3 .given .0 .1 .1 .0) (c .before .before .item3 .given .0 .1 .1 .1 .0) (c .before .before .item3 .given .1) (c .before .before .before .before .before .before .pre .0 .1 .0)) .0, c .before .before .before .before .before .before .pre .0 .0) }
 
 sub-reading-write : tie.Need-sub-reading-write
 sub-reading-write c = search needs
@@ -43,14 +43,14 @@ part-reading-write-start : tie.Need-part-reading-write-start
 part-reading-write-start c = search needs
 
 part-reading-write-end : tie.Need-part-reading-write-end
-part-reading-write-end c = (text-within (c .before .before .before .before .before .before .args .item) (now (c .before .before .before .before .before .before .args .bytes)) (c .before .before .item3 .given .0 .0) (c .before .before .item3 .given .0 .1 .0) (c .before .before .item3 .given .0 .1 .1 .0) (c .before .before .item3 .given .0 .1 .1 .1 .0) (c .before .before .item3 .given .1) (c .before .before .before .before .before .before .pre .0 .1 .0)) .0
+part-reading-write-end c = (text-within (c .before .before .before .before .before .before .args .release) (c .before .before .before .before .before .before .args .item) (now (c .before .before .before .before .before .before .args .bytes)) (c .before .before .item3 .given .0 .0) (c .before .before .item3 .given .0 .1 .0) (c .before .before .item3 .given .0 .1 .1 .0) (c .before .before .item3 .given .0 .1 .1 .1 .0) (c .before .before .item3 .given .1) (c .before .before .before .before .before .before .pre .0 .1 .0)) .0
 
 reading-write-requires : tie.Need-reading-write-requires
 reading-write-requires c κs = (
-  text-readable (c .before .before .before .before .before .before .before .before .args .item) (now (c .before .before .before .before .before .before .before .before .args .bytes)) (c .before .before .before .before .item3 .given .0 .0) (c .before .before .before .before .item3 .given .0 .1 .0) (c .before .before .before .before .item3 .given .0 .1 .1 .0) (c .before .before .before .before .item3 .given .0 .1 .1 .1 .0) (c .before .before .before .before .item3 .given .1) (c .before .before .before .before .before .before .before .before .pre .0 .1 .0),
+  text-readable (c .before .before .before .before .before .before .before .before .args .release) (c .before .before .before .before .before .before .before .before .args .item) (now (c .before .before .before .before .before .before .before .before .args .bytes)) (c .before .before .before .before .item3 .given .0 .0) (c .before .before .before .before .item3 .given .0 .1 .0) (c .before .before .before .before .item3 .given .0 .1 .1 .0) (c .before .before .before .before .item3 .given .0 .1 .1 .1 .0) (c .before .before .before .before .item3 .given .1) (c .before .before .before .before .before .before .before .before .pre .0 .1 .0),
   (
-    (λ h. copied-cut (c .before .before .before .before .before .before .before .before .args .item) (now (c .before .before .before .before .before .before .before .before .args .bytes)) (c .before .before .before .before .item3 .given .0 .0) (c .before .before .before .before .item3 .given .0 .1 .0) (c .before .before .before .before .item3 .given .0 .1 .1 .0) (c .before .before .before .before .item3 .given .0 .1 .1 .1 .0) (c .before .before .before .before .before .before .before .before .args .from) (c .before .before .before .before .item3 .given .1) (c .before .before .is-copied .ensures h .1) (c .before .before .before .before .before .before .before .before .pre .1 .1 (c .before .before .is-copied .ensures h .0))),
-    subst (λ (x : Converted). length (x .textBytes) ≤ length (now (c .before .before .before .before .before .before .before .before .args .out))) (sym (text-cut (c .before .before .before .before .before .before .before .before .args .item) (now (c .before .before .before .before .before .before .before .before .args .bytes)) (c .before .before .before .before .item3 .given .0 .0) (c .before .before .before .before .item3 .given .0 .1 .0) (c .before .before .before .before .item3 .given .0 .1 .1 .0) (c .before .before .before .before .item3 .given .0 .1 .1 .1 .0) (c .before .before .before .before .item3 .given .1) (c .before .before .before .before .before .before .before .before .pre .0 .1 .0))) (c .before .before .before .before .before .before .before .before .pre .0 .1 .1),
+    (λ h. copied-cut (c .before .before .before .before .before .before .before .before .args .release) (c .before .before .before .before .before .before .before .before .args .item) (now (c .before .before .before .before .before .before .before .before .args .bytes)) (c .before .before .before .before .item3 .given .0 .0) (c .before .before .before .before .item3 .given .0 .1 .0) (c .before .before .before .before .item3 .given .0 .1 .1 .0) (c .before .before .before .before .item3 .given .0 .1 .1 .1 .0) (c .before .before .before .before .before .before .before .before .args .from) (c .before .before .before .before .item3 .given .1) (c .before .before .is-copied .ensures h .1) (c .before .before .before .before .before .before .before .before .pre .1 .1 (c .before .before .is-copied .ensures h .0))),
+    subst (λ (x : Converted). length (x .textBytes) ≤ length (now (c .before .before .before .before .before .before .before .before .args .out))) (sym (text-cut (c .before .before .before .before .before .before .before .before .args .release) (c .before .before .before .before .before .before .before .before .args .item) (now (c .before .before .before .before .before .before .before .before .args .bytes)) (c .before .before .before .before .item3 .given .0 .0) (c .before .before .before .before .item3 .given .0 .1 .0) (c .before .before .before .before .item3 .given .0 .1 .1 .0) (c .before .before .before .before .item3 .given .0 .1 .1 .1 .0) (c .before .before .before .before .item3 .given .1) (c .before .before .before .before .before .before .before .before .pre .0 .1 .0))) (c .before .before .before .before .before .before .before .before .pre .0 .1 .1),
   ),
 )
 
@@ -71,9 +71,9 @@ same-length c = search needs
 
 returns-4 : tie.Need-returns-4
 returns-4 c =
-    let cut = text-cut (c .before .before .before .before .before .before .before .before .before .before .before .before .args .item) (now (c .before .before .before .before .before .before .before .before .before .before .before .before .args .bytes)) (c .before .before .before .before .before .before .before .before .item3 .given .0 .0) (c .before .before .before .before .before .before .before .before .item3 .given .0 .1 .0) (c .before .before .before .before .before .before .before .before .item3 .given .0 .1 .1 .0) (c .before .before .before .before .before .before .before .before .item3 .given .0 .1 .1 .1 .0) (c .before .before .before .before .before .before .before .before .item3 .given .1) (c .before .before .before .before .before .before .before .before .before .before .before .before .pre .0 .1 .0) in
+    let cut = text-cut (c .before .before .before .before .before .before .before .before .before .before .before .before .args .release) (c .before .before .before .before .before .before .before .before .before .before .before .before .args .item) (now (c .before .before .before .before .before .before .before .before .before .before .before .before .args .bytes)) (c .before .before .before .before .before .before .before .before .item3 .given .0 .0) (c .before .before .before .before .before .before .before .before .item3 .given .0 .1 .0) (c .before .before .before .before .before .before .before .before .item3 .given .0 .1 .1 .0) (c .before .before .before .before .before .before .before .before .item3 .given .0 .1 .1 .1 .0) (c .before .before .before .before .before .before .before .before .item3 .given .1) (c .before .before .before .before .before .before .before .before .before .before .before .before .pre .0 .1 .0) in
     let n = c .before .before .before .reading-write .ensures .0 ∙ ap (λ (x : Converted). length (x .textBytes)) cut in
-    (c .text-value .ensures ∙ text-value (c .before .before .before .before .before .before .before .before .before .before .before .before .args .item) (now (c .before .before .before .before .before .before .before .before .before .before .before .before .args .bytes)) (c .before .before .before .before .before .before .before .before .item3 .given .0 .0) (c .before .before .before .before .before .before .before .before .item3 .given .0 .1 .0) (c .before .before .before .before .before .before .before .before .item3 .given .0 .1 .1 .0) (c .before .before .before .before .before .before .before .before .item3 .given .0 .1 .1 .1 .0) (c .before .before .before .before .before .before .before .before .item3 .given .1) (c .before .before .before .before .before .before .before .before .before .before .before .before .pre .0 .1 .0) (c .before .before .before .before .before .before .before .before .before .before .before .before .args .at) (c .before .before .before .before .before .before .before .before .before .before .before .before .args .next) (c .before .before .before .reading-write .result .len) n, (n, (c .before .before .before .reading-write .ensures .1 .0 ∙ ap (λ (x : Converted). overwritten (x .textBytes) (now (c .before .before .before .before .before .before .before .before .before .before .before .before .args .out))) cut, c .before .before .before .reading-write .ensures .1 .1 ∙ ap (λ (x : Converted). x .replaced) cut)))
+    (c .text-value .ensures ∙ text-value (c .before .before .before .before .before .before .before .before .before .before .before .before .args .release) (c .before .before .before .before .before .before .before .before .before .before .before .before .args .item) (now (c .before .before .before .before .before .before .before .before .before .before .before .before .args .bytes)) (c .before .before .before .before .before .before .before .before .item3 .given .0 .0) (c .before .before .before .before .before .before .before .before .item3 .given .0 .1 .0) (c .before .before .before .before .before .before .before .before .item3 .given .0 .1 .1 .0) (c .before .before .before .before .before .before .before .before .item3 .given .0 .1 .1 .1 .0) (c .before .before .before .before .before .before .before .before .item3 .given .1) (c .before .before .before .before .before .before .before .before .before .before .before .before .pre .0 .1 .0) (c .before .before .before .before .before .before .before .before .before .before .before .before .args .at) (c .before .before .before .before .before .before .before .before .before .before .before .before .args .next) (c .before .before .before .reading-write .result .len) n, (n, (c .before .before .before .reading-write .ensures .1 .0 ∙ ap (λ (x : Converted). overwritten (x .textBytes) (now (c .before .before .before .before .before .before .before .before .before .before .before .before .args .out))) cut, c .before .before .before .reading-write .ensures .1 .1 ∙ ap (λ (x : Converted). x .replaced) cut)))
 
 pub item-write-spec : {M : Type 1} → statement M
 item-write-spec =

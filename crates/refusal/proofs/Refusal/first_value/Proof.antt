@@ -42,6 +42,9 @@ enum-told-10 c = search needs
 enum-told-11 : tie.Need-enum-told-11
 enum-told-11 c = search needs
 
+enum-told-12 : tie.Need-enum-told-12
+enum-told-12 c = search needs
+
 returns : tie.Need-returns
 returns c = rw (c .enum-told .given .1)
 
@@ -81,6 +84,9 @@ returns-12 c = rw (c .enum-told10 .given .1)
 returns-13 : tie.Need-returns-13
 returns-13 c = rw (c .enum-told11 .given .1)
 
+returns-14 : tie.Need-returns-14
+returns-14 c = rw (c .enum-told12 .given .1)
+
 pub first-value-spec : {M : Type 1} → statement M
 first-value-spec =
     tie.close
@@ -98,6 +104,7 @@ first-value-spec =
     enum-told-9
     enum-told-10
     enum-told-11
+    enum-told-12
     returns
     returns-2
     returns-3
@@ -110,4 +117,5 @@ first-value-spec =
     returns-10
     returns-11
     returns-12
-    returns-13)
+    returns-13
+    returns-14)

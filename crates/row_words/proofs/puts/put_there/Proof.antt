@@ -28,14 +28,14 @@ same-length c = search needs
 
 returns : tie.Need-returns
 returns c =
-    let o = c .before .before .before .before .decode-number .ensures (c .before .before .before .before .before .before .before .before .before .args .second) in
-    let text = number-text (c .before .before .before .before .decode-number .result .value) (columnNamed (c .before .before .before .before .before .before .before .before .before .args .first) (c .before .before .before .before .before .before .before .before .before .args .second)) (now (c .before .before .before .before .before .before .before .before .before .args .rest)) (o .0) in (
+    let o = c .before .before .before .before .decode-number .ensures (c .before .before .before .before .before .before .before .before .before .args .release) (c .before .before .before .before .before .before .before .before .before .args .second) in
+    let text = number-text (c .before .before .before .before .before .before .before .before .before .args .release) (c .before .before .before .before .decode-number .result .value) (columnNamed (c .before .before .before .before .before .before .before .before .before .args .first) (c .before .before .before .before .before .before .before .before .before .args .second)) (now (c .before .before .before .before .before .before .before .before .before .args .rest)) (o .0) in (
       o .1,
       (
         sym (ap length text),
         (
           ap (λ (t : List ℕ). overwritten t (now (c .before .before .before .before .before .before .before .before .before .args .out))) (sym text),
-          (c .before .before .put-value .ensures ∙ ap (threeSet (now (c .before .before .before .before .before .before .before .before .before .args .values)) (c .before .before .before .before .before .before .before .before .before .args .place)) (number-place (c .before .before .before .before .decode-number .result .value) (columnNamed (c .before .before .before .before .before .before .before .before .before .args .first) (c .before .before .before .before .before .before .before .before .before .args .second)) (now (c .before .before .before .before .before .before .before .before .before .args .rest)) (o .0) (c .before .before .before .before .before .before .before .before .before .args .at) (c .before .before .before .before .before .before .before .before .before .args .next)), sym (number-replaced (c .before .before .before .before .decode-number .result .value) (columnNamed (c .before .before .before .before .before .before .before .before .before .args .first) (c .before .before .before .before .before .before .before .before .before .args .second)) (now (c .before .before .before .before .before .before .before .before .before .args .rest)) (o .0))),
+          (c .before .before .put-value .ensures ∙ ap (threeSet (now (c .before .before .before .before .before .before .before .before .before .args .values)) (c .before .before .before .before .before .before .before .before .before .args .place)) (number-place (c .before .before .before .before .before .before .before .before .before .args .release) (c .before .before .before .before .decode-number .result .value) (columnNamed (c .before .before .before .before .before .before .before .before .before .args .first) (c .before .before .before .before .before .before .before .before .before .args .second)) (now (c .before .before .before .before .before .before .before .before .before .args .rest)) (o .0) (c .before .before .before .before .before .before .before .before .before .args .at) (c .before .before .before .before .before .before .before .before .before .args .next)), sym (number-replaced (c .before .before .before .before .before .before .before .before .before .args .release) (c .before .before .before .before .decode-number .result .value) (columnNamed (c .before .before .before .before .before .before .before .before .before .args .first) (c .before .before .before .before .before .before .before .before .before .args .second)) (now (c .before .before .before .before .before .before .before .before .before .args .rest)) (o .0))),
         ),
       ),
     )
@@ -51,15 +51,15 @@ decode-other-requires c κs = (c .before .before .before .before .before .before
 
 other-write-requires : tie.Need-other-write-requires
 other-write-requires c κs =
-    let o = c .before .decode-other .ensures in (
+    let o = c .before .decode-other .ensures (c .before .before .before .before .before .before .before .before .args .release) in (
       omega (arith, o .1 .0, c .before .before .before .before .before .before .before .before .pre .0),
       (
         c .before .before .before .before .before .before .before .before .pre .1 .0,
         (
-          found-within (c .before .decode-other .result) (columnNamed (c .before .before .before .before .before .before .before .before .args .first) (c .before .before .before .before .before .before .before .before .args .second)) (now (c .before .before .before .before .before .before .before .before .args .rest)) o,
+          found-within (c .before .before .before .before .before .before .before .before .args .release) (c .before .decode-other .result) (columnNamed (c .before .before .before .before .before .before .before .before .args .first) (c .before .before .before .before .before .before .before .before .args .second)) (now (c .before .before .before .before .before .before .before .before .args .rest)) o,
           (
-            subst (λ (t : List ℕ). length t ≤ length (now (c .before .before .before .before .before .before .before .before .args .out))) (sym (found-text (c .before .decode-other .result) (columnNamed (c .before .before .before .before .before .before .before .before .args .first) (c .before .before .before .before .before .before .before .before .args .second)) (now (c .before .before .before .before .before .before .before .before .args .rest)) o)) (c .before .before .before .before .before .before .before .before .pre .1 .1 .0),
-            (c .before .before .before .before .before .before .before .before .pre .1 .1 .1 .1 .0, λ m. plain-found (c .before .decode-other .result) (columnNamed (c .before .before .before .before .before .before .before .before .args .first) (c .before .before .before .before .before .before .before .before .args .second)) (now (c .before .before .before .before .before .before .before .before .args .rest)) o (c .before .before .before .before .before .before .before .before .args .at) (c .before .before .before .before .before .before .before .before .pre .1 .1 .1 .1 .1 m) ∙ ap (λ (f : ℕ). unreplaced (drop f (take ((c .before .decode-other .result) .used) (now (c .before .before .before .before .before .before .before .before .args .rest))))) (sym (c .before .before .text-start .ensures ∙ ap textStart (type-is (c .before .before .before .before .before .before .before .before .args .first) (c .before .before .before .before .before .before .before .before .args .second) (c .before .before .before .type-of .ensures))))),
+            subst (λ (t : List ℕ). length t ≤ length (now (c .before .before .before .before .before .before .before .before .args .out))) (sym (found-text (c .before .before .before .before .before .before .before .before .args .release) (c .before .decode-other .result) (columnNamed (c .before .before .before .before .before .before .before .before .args .first) (c .before .before .before .before .before .before .before .before .args .second)) (now (c .before .before .before .before .before .before .before .before .args .rest)) o)) (c .before .before .before .before .before .before .before .before .pre .1 .1 .0),
+            (c .before .before .before .before .before .before .before .before .pre .1 .1 .1 .1 .0, λ m. plain-found (c .before .before .before .before .before .before .before .before .args .release) (c .before .decode-other .result) (columnNamed (c .before .before .before .before .before .before .before .before .args .first) (c .before .before .before .before .before .before .before .before .args .second)) (now (c .before .before .before .before .before .before .before .before .args .rest)) o (c .before .before .before .before .before .before .before .before .args .at) (c .before .before .before .before .before .before .before .before .pre .1 .1 .1 .1 .1 m) ∙ ap (λ (f : ℕ). unreplaced (drop f (take ((c .before .decode-other .result) .used) (now (c .before .before .before .before .before .before .before .before .args .rest))))) (sym (c .before .before .text-start .ensures ∙ ap textStart (type-is (c .before .before .before .before .before .before .before .before .args .first) (c .before .before .before .before .before .before .before .before .args .second) (c .before .before .before .type-of .ensures))))),
           ),
         ),
       ),
@@ -76,14 +76,14 @@ same-length-3 c = search needs
 
 returns-2 : tie.Need-returns-2
 returns-2 c =
-    let o = c .before .before .before .before .before .before .before .before .before .decode-other .ensures in
-    let text = found-text (c .before .before .before .before .before .before .before .before .before .decode-other .result) (columnNamed (c .before .before .before .before .before .before .before .before .before .before .before .before .before .before .before .before .args .first) (c .before .before .before .before .before .before .before .before .before .before .before .before .before .before .before .before .args .second)) (now (c .before .before .before .before .before .before .before .before .before .before .before .before .before .before .before .before .args .rest)) o in (
+    let o = c .before .before .before .before .before .before .before .before .before .decode-other .ensures (c .before .before .before .before .before .before .before .before .before .before .before .before .before .before .before .before .args .release) in
+    let text = found-text (c .before .before .before .before .before .before .before .before .before .before .before .before .before .before .before .before .args .release) (c .before .before .before .before .before .before .before .before .before .decode-other .result) (columnNamed (c .before .before .before .before .before .before .before .before .before .before .before .before .before .before .before .before .args .first) (c .before .before .before .before .before .before .before .before .before .before .before .before .before .before .before .before .args .second)) (now (c .before .before .before .before .before .before .before .before .before .before .before .before .before .before .before .before .args .rest)) o in (
       c .before .before .before .before .before .before .before .other-write .ensures .1 .0 ∙ o .1 .0,
       (
         c .before .before .before .before .before .before .before .other-write .ensures .1 .1 .0 ∙ ap length text,
         (
           c .before .before .before .before .before .before .before .other-write .ensures .1 .1 .1 .0 ∙ ap (λ (t : List ℕ). overwritten t (now (c .before .before .before .before .before .before .before .before .before .before .before .before .before .before .before .before .args .out))) text,
-          (c .before .before .put-value2 .ensures ∙ ap (threeSet (now (c .before .before .before .before .before .before .before .before .before .before .before .before .before .before .before .before .args .values)) (c .before .before .before .before .before .before .before .before .before .before .before .before .before .before .before .before .args .place)) (c .before .before .before .before .before .before .before .other-write .ensures .0 ∙ found-place (c .before .before .before .before .before .before .before .before .before .decode-other .result) (columnNamed (c .before .before .before .before .before .before .before .before .before .before .before .before .before .before .before .before .args .first) (c .before .before .before .before .before .before .before .before .before .before .before .before .before .before .before .before .args .second)) (now (c .before .before .before .before .before .before .before .before .before .before .before .before .before .before .before .before .args .rest)) o (c .before .before .before .before .before .before .before .before .before .before .before .before .before .before .before .before .args .at) (c .before .before .before .before .before .before .before .before .before .before .before .before .before .before .before .before .args .next)), c .before .before .before .before .before .before .before .other-write .ensures .1 .1 .1 .1 ∙ found-replaced (c .before .before .before .before .before .before .before .before .before .decode-other .result) (columnNamed (c .before .before .before .before .before .before .before .before .before .before .before .before .before .before .before .before .args .first) (c .before .before .before .before .before .before .before .before .before .before .before .before .before .before .before .before .args .second)) (now (c .before .before .before .before .before .before .before .before .before .before .before .before .before .before .before .before .args .rest)) o),
+          (c .before .before .put-value2 .ensures ∙ ap (threeSet (now (c .before .before .before .before .before .before .before .before .before .before .before .before .before .before .before .before .args .values)) (c .before .before .before .before .before .before .before .before .before .before .before .before .before .before .before .before .args .place)) (c .before .before .before .before .before .before .before .other-write .ensures .0 ∙ found-place (c .before .before .before .before .before .before .before .before .before .before .before .before .before .before .before .before .args .release) (c .before .before .before .before .before .before .before .before .before .decode-other .result) (columnNamed (c .before .before .before .before .before .before .before .before .before .before .before .before .before .before .before .before .args .first) (c .before .before .before .before .before .before .before .before .before .before .before .before .before .before .before .before .args .second)) (now (c .before .before .before .before .before .before .before .before .before .before .before .before .before .before .before .before .args .rest)) o (c .before .before .before .before .before .before .before .before .before .before .before .before .before .before .before .before .args .at) (c .before .before .before .before .before .before .before .before .before .before .before .before .before .before .before .before .args .next)), c .before .before .before .before .before .before .before .other-write .ensures .1 .1 .1 .1 ∙ found-replaced (c .before .before .before .before .before .before .before .before .before .before .before .before .before .before .before .before .args .release) (c .before .before .before .before .before .before .before .before .before .decode-other .result) (columnNamed (c .before .before .before .before .before .before .before .before .before .before .before .before .before .before .before .before .args .first) (c .before .before .before .before .before .before .before .before .before .before .before .before .before .before .before .before .args .second)) (now (c .before .before .before .before .before .before .before .before .before .before .before .before .before .before .before .before .args .rest)) o),
         ),
       ),
     )

@@ -11,7 +11,7 @@ decode-other-value-requires : tie.Need-decode-other-value-requires
 decode-other-value-requires c κs = rw (c .column-named .ensures) (c .before .before .pre .0, is-other (c .before .before .args .first) (c .before .before .args .second) (c .before .before .pre .1))
 
 returns : tie.Need-returns
-returns c = rw (← (c .before .column-named .ensures)) (c .decode-other-value .ensures)
+returns c = λ release. rw (← (c .before .column-named .ensures)) (c .decode-other-value .ensures release)
 
 pub decode-made-spec : {M : Type 1} → statement M
 decode-made-spec = tie.close (tie.spec column-named-requires decode-other-value-requires returns)

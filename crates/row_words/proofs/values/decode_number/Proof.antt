@@ -33,19 +33,19 @@ double-requires : tie.Need-double-requires
 double-requires c κs = omega (arith, number-need (columnNamed (c .before .before .before .args .first) 0) (double-is (c .before .before .before .args .first) 0 (omega (arith, c .before .before .before .pre .0, none-below ((c .before .before .before .args .first) % 2 ^ 8) 4 (c .match .rest)))) 8 refl (now (c .before .before .before .args .rest)), c .before .before .before .pre .1 0)
 
 returns : tie.Need-returns
-returns c = λ second. (number-is (columnNamed (c .before .before .before .before .args .first) second) (small-int-is (c .before .before .before .before .args .first) second (c .before .match .keys1)) 2 refl (now (c .before .before .before .before .args .rest)) (smallIntIn ((columnNamed (c .before .before .before .before .args .first) second) .«byte_order»)) (λ l. refl) (λ l. refl) _ (c .small-int .ensures ∙ ap (λ (o : ByteOrder). numberValue (smallIntIn o (take 2 (now (c .before .before .before .before .args .rest))))) (order-is (c .before .before .before .before .args .first) second (c .before .before .order-of .ensures))), number-need (columnNamed (c .before .before .before .before .args .first) second) (small-int-is (c .before .before .before .before .args .first) second (c .before .match .keys1)) 2 refl (now (c .before .before .before .before .args .rest)))
+returns c = λ release second. (number-is (columnNamed (c .before .before .before .before .args .first) second) (small-int-is (c .before .before .before .before .args .first) second (c .before .match .keys1)) 2 refl release (now (c .before .before .before .before .args .rest)) (smallIntIn ((columnNamed (c .before .before .before .before .args .first) second) .«byte_order»)) (λ l. refl) (λ l. refl) _ (c .small-int .ensures ∙ ap (λ (o : ByteOrder). numberValue (smallIntIn o (take 2 (now (c .before .before .before .before .args .rest))))) (order-is (c .before .before .before .before .args .first) second (c .before .before .order-of .ensures))), number-need (columnNamed (c .before .before .before .before .args .first) second) (small-int-is (c .before .before .before .before .args .first) second (c .before .match .keys1)) 2 refl (now (c .before .before .before .before .args .rest)))
 
 returns-2 : tie.Need-returns-2
-returns-2 c = λ second. (number-is (columnNamed (c .before .before .before .before .args .first) second) (integer-is (c .before .before .before .before .args .first) second (c .before .match .keys2)) 4 refl (now (c .before .before .before .before .args .rest)) (integerIn ((columnNamed (c .before .before .before .before .args .first) second) .«byte_order»)) (λ l. refl) (λ l. refl) _ (c .integer .ensures ∙ ap (λ (o : ByteOrder). numberValue (integerIn o (take 4 (now (c .before .before .before .before .args .rest))))) (order-is (c .before .before .before .before .args .first) second (c .before .before .order-of .ensures))), number-need (columnNamed (c .before .before .before .before .args .first) second) (integer-is (c .before .before .before .before .args .first) second (c .before .match .keys2)) 4 refl (now (c .before .before .before .before .args .rest)))
+returns-2 c = λ release second. (number-is (columnNamed (c .before .before .before .before .args .first) second) (integer-is (c .before .before .before .before .args .first) second (c .before .match .keys2)) 4 refl release (now (c .before .before .before .before .args .rest)) (integerIn ((columnNamed (c .before .before .before .before .args .first) second) .«byte_order»)) (λ l. refl) (λ l. refl) _ (c .integer .ensures ∙ ap (λ (o : ByteOrder). numberValue (integerIn o (take 4 (now (c .before .before .before .before .args .rest))))) (order-is (c .before .before .before .before .args .first) second (c .before .before .order-of .ensures))), number-need (columnNamed (c .before .before .before .before .args .first) second) (integer-is (c .before .before .before .before .args .first) second (c .before .match .keys2)) 4 refl (now (c .before .before .before .before .args .rest)))
 
 returns-3 : tie.Need-returns-3
-returns-3 c = λ second. (number-is (columnNamed (c .before .before .before .before .args .first) second) (big-int-is (c .before .before .before .before .args .first) second (c .before .match .keys3)) 8 refl (now (c .before .before .before .before .args .rest)) (bigIntIn ((columnNamed (c .before .before .before .before .args .first) second) .«byte_order»)) (λ l. refl) (λ l. refl) _ (c .big-int .ensures ∙ ap (λ (o : ByteOrder). numberValue (bigIntIn o (take 8 (now (c .before .before .before .before .args .rest))))) (order-is (c .before .before .before .before .args .first) second (c .before .before .order-of .ensures))), number-need (columnNamed (c .before .before .before .before .args .first) second) (big-int-is (c .before .before .before .before .args .first) second (c .before .match .keys3)) 8 refl (now (c .before .before .before .before .args .rest)))
+returns-3 c = λ release second. (number-is (columnNamed (c .before .before .before .before .args .first) second) (big-int-is (c .before .before .before .before .args .first) second (c .before .match .keys3)) 8 refl release (now (c .before .before .before .before .args .rest)) (bigIntIn ((columnNamed (c .before .before .before .before .args .first) second) .«byte_order»)) (λ l. refl) (λ l. refl) _ (c .big-int .ensures ∙ ap (λ (o : ByteOrder). numberValue (bigIntIn o (take 8 (now (c .before .before .before .before .args .rest))))) (order-is (c .before .before .before .before .args .first) second (c .before .before .order-of .ensures))), number-need (columnNamed (c .before .before .before .before .args .first) second) (big-int-is (c .before .before .before .before .args .first) second (c .before .match .keys3)) 8 refl (now (c .before .before .before .before .args .rest)))
 
 returns-4 : tie.Need-returns-4
-returns-4 c = λ second. (number-is (columnNamed (c .before .before .before .before .args .first) second) (real-is (c .before .before .before .before .args .first) second (c .before .match .keys4)) 4 refl (now (c .before .before .before .before .args .rest)) (realIn ((columnNamed (c .before .before .before .before .args .first) second) .«byte_order»)) (λ l. refl) (λ l. refl) _ (c .real .ensures ∙ ap (λ (o : ByteOrder). numberValue (realIn o (take 4 (now (c .before .before .before .before .args .rest))))) (order-is (c .before .before .before .before .args .first) second (c .before .before .order-of .ensures))), number-need (columnNamed (c .before .before .before .before .args .first) second) (real-is (c .before .before .before .before .args .first) second (c .before .match .keys4)) 4 refl (now (c .before .before .before .before .args .rest)))
+returns-4 c = λ release second. (number-is (columnNamed (c .before .before .before .before .args .first) second) (real-is (c .before .before .before .before .args .first) second (c .before .match .keys4)) 4 refl release (now (c .before .before .before .before .args .rest)) (realIn ((columnNamed (c .before .before .before .before .args .first) second) .«byte_order»)) (λ l. refl) (λ l. refl) _ (c .real .ensures ∙ ap (λ (o : ByteOrder). numberValue (realIn o (take 4 (now (c .before .before .before .before .args .rest))))) (order-is (c .before .before .before .before .args .first) second (c .before .before .order-of .ensures))), number-need (columnNamed (c .before .before .before .before .args .first) second) (real-is (c .before .before .before .before .args .first) second (c .before .match .keys4)) 4 refl (now (c .before .before .before .before .args .rest)))
 
 returns-5 : tie.Need-returns-5
-returns-5 c = λ second. (number-is (columnNamed (c .before .before .before .before .args .first) second) (double-is (c .before .before .before .before .args .first) second (omega (arith, c .before .before .before .before .pre .0, none-below ((c .before .before .before .before .args .first) % 2 ^ 8) 4 (c .before .match .rest)))) 8 refl (now (c .before .before .before .before .args .rest)) (doubleIn ((columnNamed (c .before .before .before .before .args .first) second) .«byte_order»)) (λ l. refl) (λ l. refl) _ (c .double .ensures ∙ ap (λ (o : ByteOrder). numberValue (doubleIn o (take 8 (now (c .before .before .before .before .args .rest))))) (order-is (c .before .before .before .before .args .first) second (c .before .before .order-of .ensures))), number-need (columnNamed (c .before .before .before .before .args .first) second) (double-is (c .before .before .before .before .args .first) second (omega (arith, c .before .before .before .before .pre .0, none-below ((c .before .before .before .before .args .first) % 2 ^ 8) 4 (c .before .match .rest)))) 8 refl (now (c .before .before .before .before .args .rest)))
+returns-5 c = λ release second. (number-is (columnNamed (c .before .before .before .before .args .first) second) (double-is (c .before .before .before .before .args .first) second (omega (arith, c .before .before .before .before .pre .0, none-below ((c .before .before .before .before .args .first) % 2 ^ 8) 4 (c .before .match .rest)))) 8 refl release (now (c .before .before .before .before .args .rest)) (doubleIn ((columnNamed (c .before .before .before .before .args .first) second) .«byte_order»)) (λ l. refl) (λ l. refl) _ (c .double .ensures ∙ ap (λ (o : ByteOrder). numberValue (doubleIn o (take 8 (now (c .before .before .before .before .args .rest))))) (order-is (c .before .before .before .before .args .first) second (c .before .before .order-of .ensures))), number-need (columnNamed (c .before .before .before .before .args .first) second) (double-is (c .before .before .before .before .args .first) second (omega (arith, c .before .before .before .before .pre .0, none-below ((c .before .before .before .before .args .first) % 2 ^ 8) 4 (c .before .match .rest)))) 8 refl (now (c .before .before .before .before .args .rest)))
 
 pub decode-number-spec : {M : Type 1} → statement M
 decode-number-spec =

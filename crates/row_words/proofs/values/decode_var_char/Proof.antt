@@ -20,7 +20,7 @@ same-value-requires : tie.Need-same-value-requires
 same-value-requires c κs = search needs
 
 returns : tie.Need-returns
-returns c = rw (c .same-value .ensures) (c .before .decode-made .ensures)
+returns c = λ release. rw (c .same-value .ensures) (c .before .decode-made .ensures release)
 
 counted-need-requires : tie.Need-counted-need-requires
 counted-need-requires c κs = search needs
@@ -35,9 +35,9 @@ within-row-requires : tie.Need-within-row-requires
 within-row-requires c κs = search needs
 
 returns-2 : tie.Need-returns-2
-returns-2 c =
+returns-2 c = λ release.
     let h = sym (c .before .before .before .before .before .is-header .ensures) ∙ c .before .before .before .before .if1 .left in
-    rw (c .within-row .ensures) (within-row (columnNamed (c .before .before .before .before .before .before .before .args .first) (c .before .before .before .before .before .before .before .args .second)) (var-char-is (c .before .before .before .before .before .before .before .args .first) (c .before .before .before .before .before .before .before .args .second) (c .before .before .before .before .before .before .before .pre .0)) (Counted 1) (counted-is (columnNamed (c .before .before .before .before .before .before .before .args .first) (c .before .before .before .before .before .before .before .args .second)) (typeNumbers (c .before .before .before .before .before .before .before .args .first)) h) (now (c .before .before .before .before .before .before .before .args .rest)) (c .before .before .before .counted-need .result) (c .before .before .before .counted-need .ensures .0) (c .before .before .before .before .before .before .before .pre .1) (c .before .var-char-item .result) (λ l q. c .before .var-char-item .ensures (typeNumbers (c .before .before .before .before .before .before .before .args .first)) h (columnNamed (c .before .before .before .before .before .before .before .args .first) (c .before .before .before .before .before .before .before .args .second)) l (ccsid-is (c .before .before .before .before .before .before .before .args .first) (c .before .before .before .before .before .before .before .args .second) (c .before .before .ccsid-of .ensures)) q) (λ l. rw h))
+    rw (c .within-row .ensures) (within-row release (columnNamed (c .before .before .before .before .before .before .before .args .first) (c .before .before .before .before .before .before .before .args .second)) (var-char-is (c .before .before .before .before .before .before .before .args .first) (c .before .before .before .before .before .before .before .args .second) (c .before .before .before .before .before .before .before .pre .0)) (Counted 1) (counted-is (columnNamed (c .before .before .before .before .before .before .before .args .first) (c .before .before .before .before .before .before .before .args .second)) (typeNumbers (c .before .before .before .before .before .before .before .args .first)) h) (now (c .before .before .before .before .before .before .before .args .rest)) (c .before .before .before .counted-need .result) (c .before .before .before .counted-need .ensures .0) (c .before .before .before .before .before .before .before .pre .1) (c .before .var-char-item .result) (λ l q. c .before .var-char-item .ensures (typeNumbers (c .before .before .before .before .before .before .before .args .first)) h release (columnNamed (c .before .before .before .before .before .before .before .args .first) (c .before .before .before .before .before .before .before .args .second)) l (ccsid-is (c .before .before .before .before .before .before .before .args .first) (c .before .before .before .before .before .before .before .args .second) (c .before .before .ccsid-of .ensures)) q) (λ l. rw h))
 
 pub decode-var-char-spec : {M : Type 1} → statement M
 decode-var-char-spec =

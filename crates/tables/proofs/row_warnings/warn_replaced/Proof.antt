@@ -7,10 +7,10 @@ use Rattle.tables.proofs.row_warnings.warn_replaced.Statement.{statemen
 use Rattle.tables.proofs.row_warnings.warn_replaced.Tie as tie
 
 abbrev Inv-loop : tie.InvT-loop
-Inv-loop row replaced text₀ count some₀ line₀ sum₀ i₀ text some line sum i = (i ≤ count) × (length text ≡ length text₀)
+Inv-loop row release replaced text₀ count some₀ line₀ sum₀ i₀ text some line sum i = (i ≤ count) × (length text ≡ length text₀)
 
 abbrev μ-loop : tie.MeasureT-loop
-μ-loop row replaced text₀ count some₀ line₀ sum₀ i₀ text some line sum i = count - i
+μ-loop row release replaced text₀ count some₀ line₀ sum₀ i₀ text some line sum i = count - i
 
 returns : tie.Need-returns Inv-loop μ-loop
 returns c = tt

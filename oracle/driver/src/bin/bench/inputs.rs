@@ -12,11 +12,16 @@ const MEDIUM: [usize; 4] = [96, 128, 256, 512];
 
 const HEX_LENGTH: usize = 1 << 16;
 
+/// All of them.
+pub fn text_lengths() -> impl Iterator<Item = usize> {
+    SHORT.into_iter().chain(MEDIUM)
+}
+
 pub fn lines() -> Vec<Line> {
     let mut random = Random::new(1);
     let mut lines = Vec::new();
     for (name, leaf, maker) in CLASSES {
-        for length in SHORT.into_iter().chain(MEDIUM).chain([TEXT_LIMIT]) {
+        for length in text_lengths().chain([TEXT_LIMIT]) {
             let call = Call::Leaf(leaf);
             lines.push(line(&mut random, name, call, maker, length));
         }
@@ -135,7 +140,7 @@ fn declared_columns(random: &mut Random, columns: usize) -> Vec<u8> {
     text
 }
 
-fn line(random: &mut Random, name: &str, call: Call, maker: Maker, length: usize) -> Line {
+pub fn line(random: &mut Random, name: &str, call: Call, maker: Maker, length: usize) -> Line {
     let count = (BATCH / length).max(1);
     Line {
         name: name.to_string(),

@@ -1,8 +1,9 @@
-//! `bench [WORD]`: the time of each call by the Rust and by the port, from one run, as a Markdown table. With a word only the
-//! lines that have it in their name.
+//! `bench [WORD]`: the time of each call by the Rust and by the port, from one run, as a Markdown table, and another of the port's release 3. With a word only
+//! the lines that have it in their name.
 mod by_value;
 mod inputs;
 mod packed_whole;
+mod releases;
 mod rows;
 
 use differential::descriptions;
@@ -99,7 +100,13 @@ fn main() -> ExitCode {
     if let Some((ratio, name)) = slowest {
         println!("\nLargest ratio: {ratio:.2} ({name}).");
     }
-    ExitCode::SUCCESS
+    match releases::table(&word, &mut lent) {
+        Ok(()) => ExitCode::SUCCESS,
+        Err((name, text)) => {
+            eprintln!("bench: {name}: the answers differ for {text:02X?}");
+            ExitCode::FAILURE
+        }
+    }
 }
 
 fn heading() -> String {

@@ -5,7 +5,8 @@ use db2_proto::fdoca::{decode_row, ColumnDescriptor};
 use differential::descriptions::rust_side::parsed;
 use differential::descriptions::COLUMN_LIMIT;
 use differential::random::Random;
-use differential::rows::port_side::{ample, Archive, PortSide};
+use differential::releases::PORTED;
+use differential::rows::port_side::{ample, Archive, Asked, PortSide};
 use differential::rows::{rust_side, Answer, List};
 use differential::samples::{
     ascii, ebcdic, malformed, packed, uniform, utf16_mixed, utf8_cjk, utf8_mixed, Maker,
@@ -35,15 +36,20 @@ pub enum Form {
     Floor,
 }
 
-/// A description, in the form that each side needs.
+/// A description, in the form that each side needs, and the release at which rows are asked about.
 pub struct Table {
     description: Vec<u8>,
     words: Vec<u64>,
     columns: Vec<ColumnDescriptor>,
+    release: u32,
 }
 
 impl Table {
     fn of(kinds: &[Kind]) -> Table {
+        Table::at(kinds, PORTED)
+    }
+
+    pub fn at(kinds: &[Kind], release: u32) -> Table {
         let description: Vec<u8> = kinds.iter().flat_map(Kind::triplet).collect();
         let mut words = vec![0; 2 * kinds.len()];
         let described = port::parse_qrydsc(&description, &mut words);
@@ -56,6 +62,7 @@ impl Table {
             columns: parsed(&description),
             description,
             words,
+            release,
         }
     }
 
@@ -64,13 +71,13 @@ impl Table {
     }
 
     /// The Rust's answer in the words and the text of the port.
-    fn answer(&self, row: &[u8]) -> Answer {
-        rust_side::answer(&List::of_words(self.words.clone()), row)
+    pub fn answer(&self, row: &[u8]) -> Answer {
+        rust_side::answer(&List::of_words(self.words.clone()), row, self.release)
     }
 }
 
 /// A column: what the description says of it, and a maker of its bytes in a row.
-struct Kind {
+pub struct Kind {
     code: u8,
     length: u16,
     /// The CCSID, or precision and scale.
@@ -153,7 +160,7 @@ impl Kind {
     }
 }
 
-fn row(random: &mut Random, kinds: &[Kind]) -> Vec<u8> {
+pub fn row(random: &mut Random, kinds: &[Kind]) -> Vec<u8> {
     let mut row = Vec::new();
     // An FF in front would be skipped.
     while row.first().is_none_or(|first| *first == 0xFF) {
@@ -210,7 +217,7 @@ fn one_text(maker: Maker) -> Vec<Kind> {
     vec![Kind::new(0xCA, 4096, 1208, Value::Inline(maker, length))]
 }
 
-fn sixteen_texts(code: u8, ccsid: u16, maker: Maker) -> Vec<Kind> {
+pub fn sixteen_texts(code: u8, ccsid: u16, maker: Maker) -> Vec<Kind> {
     (0..16)
         .map(|_| Kind::varying(code, 65000, ccsid, maker))
         .collect()
@@ -307,11 +314,23 @@ pub fn lines(random: &mut Random) -> Vec<Line> {
 pub fn same(form: Form, table: &Table, row: &[u8], lent: &mut Lent) -> bool {
     let answer = table.answer(row);
     match form {
-        Form::Boundary => *PortSide::new(Archive).answer(&table.words, row) == answer,
+        Form::Boundary => {
+            let asked = Asked {
+                columns: &table.words,
+                data: row,
+                release: table.release,
+            };
+            *PortSide::new(Archive).answer(asked) == answer
+        }
         Form::ByValue => {
             let text = &mut lent.text[..ample(table.count(), row.len())];
+            let Table {
+                description,
+                release,
+                ..
+            } = table;
             let number =
-                |place: usize| by_value::number_at(&table.description, row, text, 1, place);
+                |place: usize| by_value::number_at(description, row, *release, text, 1, place);
             let numbers: Vec<u64> = (0..table.count()).map(number).collect();
             let words = answer.values.chunks(VALUE_WORDS).map(|words| words[1]);
             words.eq(numbers) && lent.text.starts_with(&answer.text)
@@ -328,7 +347,7 @@ pub fn measure(form: Form, table: &Table, rows: &[Vec<u8>], lent: &mut Lent) -> 
     }
 }
 
-fn any(table: &Table, row: &[u8]) -> usize {
+pub fn any(table: &Table, row: &[u8]) -> usize {
     ample(table.count(), row.len())
 }
 
@@ -355,14 +374,15 @@ fn decoded(table: &Table, row: &[u8]) -> u64 {
     used as u64
 }
 
-fn port_rows(table: &Table, rows: &[Vec<u8>], sizes: &[usize], lent: &mut Lent) -> u64 {
+pub fn port_rows(table: &Table, rows: &[Vec<u8>], sizes: &[usize], lent: &mut Lent) -> u64 {
     let mut sizes = sizes.iter();
     let words = VALUE_WORDS * table.count();
     batch(rows, |row| {
         let size = *sizes.next().expect("a size for each row");
         let values = &mut lent.values[..words];
         let text = &mut lent.text[..size];
-        let decoded = port::decode_row(black_box(&table.words), row, values, text);
+        let words = black_box(&table.words);
+        let decoded = port::decode_row(words, row, table.release, values, text);
         black_box((values, text));
         decoded.used as u64
     })
@@ -392,7 +412,7 @@ fn measure_by_value(table: &Table, rows: &[Vec<u8>], lent: &mut Lent) -> [f64; 3
 }
 
 /// The place of the last column is asked for, which the compiler of the port does not know.
-fn rows_by_value(
+pub fn rows_by_value(
     table: &Table,
     rows: &[Vec<u8>],
     again: usize,
@@ -404,7 +424,12 @@ fn rows_by_value(
     batch(rows, |row| {
         let size = *sizes.next().expect("a size for each row");
         let text = &mut lent.text[..size];
-        let number = by_value::number_at(&table.description, row, text, again, last);
+        let Table {
+            description,
+            release,
+            ..
+        } = table;
+        let number = by_value::number_at(description, row, *release, text, again, last);
         black_box(text);
         number
     })

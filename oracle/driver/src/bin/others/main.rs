@@ -55,10 +55,10 @@ struct Code {
 /// The coding of a call's texts, where others have it too.
 fn code(leaf: Leaf) -> Option<Code> {
     let (name, unit) = match leaf {
-        Leaf::Character { ccsid: 1208 } => ("UTF-8", 1),
-        Leaf::Character { ccsid: 819 } => ("ISO-8859-1", 1),
-        Leaf::Character { ccsid: 37 } => ("IBM037", 1),
-        Leaf::Graphic { ccsid: 1200 } => ("UTF-16BE", 2),
+        Leaf::Character { ccsid: 1208, .. } => ("UTF-8", 1),
+        Leaf::Character { ccsid: 819, .. } => ("ISO-8859-1", 1),
+        Leaf::Character { ccsid: 37, .. } => ("IBM037", 1),
+        Leaf::Graphic { ccsid: 1200, .. } => ("UTF-16BE", 2),
         _ => return None,
     };
     Some(Code { name, unit })

@@ -8,7 +8,7 @@ ghost use Rattle.answers.specs.Lines.{bytes_field, IsNumber, Repeats, Says};
 const MOST_TIMES: usize = 4294967295;
 
 // What was read: whether the text has the form asked for, and the number or the count of bytes, 0 where it has not.
-#[derive(Drop)]
+#[derive(Clone, Copy)]
 pub struct Read {
     pub valid: bool,
     pub value: usize,

@@ -1,4 +1,6 @@
 // Inner. Texts in a lent buffer: the answer of a call that writes one, and a plain copy. It converts nothing.
+#![tactic(auto)]
+
 ghost use Rattle.std.specs.Prelude.{◌≡◌, ◌≤◌, length};
 ghost use Rattle.refusal.specs.Refusal.{refusal_number, refusal_values};
 ghost use Rattle.buffer.specs.Buffer.{overwritten, told_text, refused_text};
@@ -7,7 +9,7 @@ use refusal::{Outcome, Refusal};
 
 // What a call that writes one text answers: how many bytes were written, and how many U+FFFD were put in for what was malformed. After a refusal no
 // byte was written, and both are 0.
-#[derive(Drop)]
+#[derive(Clone, Copy)]
 pub struct TextAnswer {
     pub outcome: Outcome,
     pub written: usize,
@@ -15,7 +17,7 @@ pub struct TextAnswer {
 }
 
 // What was written: how long the text is, and how many U+FFFD were put in for what was malformed.
-#[derive(Drop)]
+#[derive(Clone, Copy)]
 pub struct Written {
     pub len: usize,
     pub replaced: usize,

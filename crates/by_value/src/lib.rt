@@ -1,5 +1,7 @@
 // Inner. For the benchmark and the comparison with the Rust: the calls by value, each of which hands one number of its answer to C, so that the answer
 // has to be made. It promises nothing that the calls themselves do not.
+#![tactic(auto)]
+
 ghost use Rattle.std.specs.Prelude.{◌≡◌, cond, ◌%◌};
 ghost use Rattle.refusal.specs.Refusal.{told_number};
 ghost use Rattle.types.specs.Places.{max_columns};

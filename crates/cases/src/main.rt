@@ -3,6 +3,8 @@
 // outcome, the row call's outcome with its values, all 128 value places with their flags, the bytes used, the characters replaced (none in any case), every
 // byte of the text buffer, and the bytes of each column's value. What a case is given, and what is expected of it, is written again below: each call of
 // `one`, `two`, `too_short` and `packed_decimal` requires that it is a row of the proved table, and is proved to meet that.
+#![tactic(auto)]
+
 ghost use Rattle.std.specs.Prelude.{◌≡◌, [], ◌∷◌};
 ghost use Rattle.edges.specs.Edges.{Given, values, too_short, text_found, within_row, IsEdge};
 

@@ -1,5 +1,7 @@
 // Inner. A column's value from the rest of the row, from its first byte on: how many bytes it takes, what they mean, and whether they refer to data
 // outside the row. The answer depends on that part of the row only. It writes no text, and knows nothing of indicators and of where the part stands.
+#![tactic(auto)]
+
 pub mod extents;
 pub mod refers;
 
@@ -25,13 +27,13 @@ use types::{ColumnDescriptor, Db2Type, Db2Value, ReferenceLength};
 use utf::likely::bytes_are_likely_text;
 
 // The sorts of value that are a part of the row, and those that are a text.
-#[derive(Drop)]
+#[derive(Clone, Copy)]
 pub enum ByteSort {
     Binary,
     Blob,
 }
 
-#[derive(Drop)]
+#[derive(Clone, Copy)]
 pub enum TextSort {
     Decimal,
     Char,
@@ -46,7 +48,7 @@ pub enum TextSort {
 
 // What the bytes of a text are: characters or graphics of a CCSID, UTF-8, or bytes that are shown in hexadecimal. Which conversion that asks for is
 // picked where the text is measured or written.
-#[derive(Drop)]
+#[derive(Clone, Copy)]
 pub enum Encoding {
     Characters(u16),
     Graphics(u16),
@@ -56,14 +58,14 @@ pub enum Encoding {
 }
 
 // How the bytes of a text are read: by their encoding, or as a packed decimal of this scale.
-#[derive(Drop)]
+#[derive(Clone, Copy)]
 pub enum Reading {
     By(Encoding),
     Packed(u8),
 }
 
 // The kinds of LOB column: Blob; Clob and DbClob; Xml.
-#[derive(Drop)]
+#[derive(Clone, Copy)]
 pub enum LobKind {
     Blobs,
     Clobs,
@@ -71,7 +73,7 @@ pub enum LobKind {
 }
 
 // What a value is that is no number. Parts and texts are given by where they begin among the value's own bytes, and by their length.
-#[derive(Drop)]
+#[derive(Clone, Copy)]
 pub enum CellItem {
     Nothing,
     Boolean(bool),
@@ -89,14 +91,14 @@ pub enum CellItem {
 }
 
 // How many bytes a type's values take where they are numbers.
-#[derive(Drop)]
+#[derive(Clone, Copy)]
 pub enum NumberWidth {
     Bytes(usize),
     NoNumber,
 }
 
 // A value that is no number, how many bytes it takes, and whether it refers to data outside the row.
-#[derive(Drop)]
+#[derive(Clone, Copy)]
 pub struct OtherValue {
     pub item: CellItem,
     pub used: usize,
@@ -104,7 +106,7 @@ pub struct OtherValue {
 }
 
 // A column's value: a number and how many bytes it takes, or another.
-#[derive(Drop)]
+#[derive(Clone, Copy)]
 pub enum ColumnValue {
     Number { value: Db2Value, used: usize },
     Other(OtherValue),

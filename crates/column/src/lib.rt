@@ -1,5 +1,7 @@
 // Inner. What one SDA, or one LID of a D0 group, says: of a column, or of the environment entry that an SDA after an MDD declares; and the column
 // that is made of it. A column's number is 0 until it is put into a list. It reads no triplets.
+#![tactic(auto)]
+
 ghost use Rattle.std.specs.Prelude.{◌≡◌, ◌≤◌, ◌<◌, [], ◌∷◌, length};
 ghost use Rattle.types.specs.declared.ByteOrder.TheVariants.{BigEndian};
 ghost use Rattle.numbers.specs.Number.{unsigned};
@@ -13,7 +15,7 @@ use types::{ByteOrder, ColumnDescriptor, Db2Type, Origin, ReferenceLength};
 pub const LID_COUNT: usize = 256;
 
 // What an MDD and the SDA after it declare of a LID.
-#[derive(Drop)]
+#[derive(Clone, Copy)]
 pub struct EnvEntry {
     pub declared: bool,
     pub drda_type: u8,
@@ -32,7 +34,7 @@ impl EnvEntry {
     }
 }
 
-#[derive(Drop)]
+#[derive(Clone, Copy)]
 pub struct Numbers {
     pub precision: u8,
     pub scale: u8,
@@ -41,7 +43,7 @@ pub struct Numbers {
 
 // What an SDA or a LID says of its column, in numbers. `listed` is the code under which the table of from_drda_type has the column's type: it
 // is not always the column's own.
-#[derive(Drop)]
+#[derive(Clone, Copy)]
 pub struct Said {
     pub drda_type: u8,
     pub listed: u8,

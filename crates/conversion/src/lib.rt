@@ -1,5 +1,7 @@
 // Inner. Text conversions: which one a CCSID asks for at a host release, how long its text is, and its writing into a lent buffer. A conversion is picked
 // once, before any loop over bytes; only the pick looks at the release. It refuses nothing: callers test lengths and releases.
+#![tactic(auto)]
+
 pub mod hex;
 
 ghost use Rattle.std.specs.Prelude.{◌≡◌, true, ◌≤◌, length, take};
@@ -20,7 +22,7 @@ use utf::utf8::run_of;
 use utf::utf16::{utf16_lossy_len, utf16_lossy_write};
 
 // How the bytes of a text are read.
-#[derive(Drop)]
+#[derive(Clone, Copy)]
 pub enum Conversion {
     // They are UTF-8 already: ASCII, or what measuring found to be well-formed.
     Plain,
@@ -93,7 +95,7 @@ pub fn graphic_conversion(ccsid: u16, release: u32, s: &[u8]) -> Conversion
 }
 
 // The length of a text, and a conversion that gives the same text and is cheap to write: Plain where measuring found that out.
-#[derive(Drop)]
+#[derive(Clone, Copy)]
 pub struct Measured {
     pub len: usize,
     pub conversion: Conversion,

@@ -1,5 +1,7 @@
 // Face. Packed decimals, one at a time: as text, into a lent buffer, as the Rust has it; and as a whole number with its scale beside it, as z/Architecture has
 // it. The two readings share the limit of refusal 7 and no other code. Reading a Decimal column of a row is not its work.
+#![tactic(auto)]
+
 ghost use Rattle.std.specs.Prelude.{◌≡◌, [], pos, neg_ℤ};
 ghost use Rattle.refusal.specs.Refusal.{refusal_number, refusal_values};
 ghost use Rattle.buffer.specs.Buffer.{told_text};
@@ -17,7 +19,7 @@ const TWO_63: u64 = 0x8000_0000_0000_0000;
 
 // What the reading as a whole number answers: the number that the digits and the sign make, without a point, and the scale that was handed in, which says
 // how many of the digits stand behind it. After a refusal both are 0.
-#[derive(Drop)]
+#[derive(Clone, Copy)]
 pub struct WholeAnswer {
     pub outcome: Outcome,
     pub number: i64,

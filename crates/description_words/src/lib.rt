@@ -1,5 +1,7 @@
 // Inner. The columns of a description as plain words, for the calls of C and Rust: first counted, then written into lent words. What it costs
 // grows with the description and with the columns in it, and not with the places of a column list. It tests no limit of the description's length.
+#![tactic(auto)]
+
 ghost use Rattle.std.specs.Prelude.{◌≡◌, ◌+◌, ◌-◌, ◌*◌, ◌≤◌, ◌<◌, length, set};
 ghost use Rattle.buffer.specs.Buffer.{overwritten};
 ghost use Rattle.types.specs.Places.{max_columns};
@@ -90,7 +92,7 @@ fn pending_after(data: &[u8], kind: u8, start: usize, end: usize) -> Pending
 }
 
 // How many columns were counted, and the place behind the triplets that were read for it.
-#[derive(Drop)]
+#[derive(Clone, Copy)]
 pub struct ColumnCount {
     pub columns: usize,
     pub end: usize,

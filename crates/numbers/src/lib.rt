@@ -1,6 +1,8 @@
 // Inner. The numbers of a row from their bytes, in either byte order: SmallInt, Integer, BigInt, Real and Double; and from their bits, which is how a
 // number stands in words. A function that reads bytes reads the first of what it is given and asks that they are there: which bytes a value has is the
 // row's matter.
+#![tactic(auto)]
+
 ghost use Rattle.std.specs.Prelude.{◌≡◌, ◌+◌, ◌*◌, ◌≤◌, length, take};
 ghost use Rattle.std.specs.Int.{w16, w32, w64};
 ghost use Rattle.std.proofs.Common.{to_z};

@@ -1,5 +1,7 @@
 // Inner. The text of a packed decimal: how long it is, and writing it into a lent buffer. It refuses nothing: its callers hand it 1 to 128
 // bytes and room for the text. It checks no digit and no sign (crates/zdecimal says which bytes are a number of z/Architecture).
+#![tactic(auto)]
+
 ghost use Rattle.std.specs.Prelude.{◌≡◌, List, ℕ, ◌+◌, ◌-◌, ◌*◌, ◌<◌, ◌≤◌, eqb, length, take, get_or};
 ghost use Rattle.std.proofs.Math.Seq.{slice};
 ghost use Rattle.refusal.specs.Refusal.{most_bytes};

@@ -17,7 +17,7 @@ use packed::{decimal_len, decimal_write};
 use types::{Db2Type, Db2Value, Place};
 
 // A value, how many bytes of text were written, and how many U+FFFD among them were put in.
-#[derive(Drop)]
+#[derive(Clone, Copy)]
 pub struct ItemWritten {
     pub value: Db2Value,
     pub written: usize,
@@ -25,7 +25,7 @@ pub struct ItemWritten {
 }
 
 // The length of a text, and whether it is the bytes that it is read from, with none replaced.
-#[derive(Drop)]
+#[derive(Clone, Copy)]
 pub struct TextLength {
     pub len: usize,
     pub plain: bool,

@@ -1,5 +1,7 @@
 // Inner. A column's part of a row: its indicator, how many bytes it takes, its value with its place, and its text written into the unwritten rest
 // of the text buffer. It goes through no columns: the row calls do, for columns by value and for columns in words.
+#![tactic(auto)]
+
 pub mod items;
 pub mod marks;
 
@@ -22,14 +24,14 @@ use marks::WORDS;
 use types::{ColumnDescriptor, Db2Type, Db2Value, ValuePlace};
 
 // The Rust's two numbers of a row that is too short.
-#[derive(Drop)]
+#[derive(Clone, Copy)]
 pub struct Lacking {
     pub expected: usize,
     pub actual: usize,
 }
 
 // How long a column's text is, how many bytes of the row the column takes, and whether the text is the value's own bytes, with none replaced.
-#[derive(Drop)]
+#[derive(Clone, Copy)]
 pub struct PieceLength {
     pub used: usize,
     pub len: usize,
@@ -37,7 +39,7 @@ pub struct PieceLength {
 }
 
 // A column's value, how many bytes of the row the column takes, how many bytes of text were written, and how many U+FFFD among them were put in.
-#[derive(Drop)]
+#[derive(Clone, Copy)]
 pub struct PieceWritten {
     pub place: ValuePlace,
     pub used: usize,

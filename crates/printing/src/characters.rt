@@ -4,7 +4,7 @@
 ghost use Rattle.std.specs.Prelude.{◌≡◌, ◌<◌, ◌≤◌, ◌+◌, length};
 
 // What is printed for a character.
-#[derive(Drop)]
+#[derive(Clone, Copy)]
 pub enum Shown {
     Bytes,
     // Behind a backslash.
@@ -14,7 +14,7 @@ pub enum Shown {
 }
 
 // The number of a character, and how many bytes it has.
-#[derive(Drop)]
+#[derive(Clone, Copy)]
 pub struct Character {
     pub code: u32,
     pub len: usize,

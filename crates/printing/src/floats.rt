@@ -17,7 +17,7 @@ const LEAST: usize = 1074;
 const SCALES: usize = 350;
 
 // The number 0.d₁d₂.. times 10 to the (point - POINT), with `count` digits.
-#[derive(Drop)]
+#[derive(Clone, Copy)]
 pub struct Digits {
     pub digits: [u8; MOST_DIGITS],
     pub count: usize,
@@ -26,7 +26,7 @@ pub struct Digits {
 
 // A float as a fraction `over / under`, and what may be added to it and taken from it so that it still reads back: `above / under` and `below / under`. The
 // ends themselves read back where the float's mantissa is even.
-#[derive(Drop)]
+#[derive(Clone, Copy)]
 struct Fraction {
     over: [u32; WORDS],
     under: [u32; WORDS],
@@ -201,7 +201,7 @@ fn scaled_up(f: Fraction) -> Fraction {
 }
 
 // The whole part of a number below ten, and the rest.
-#[derive(Drop)]
+#[derive(Clone, Copy)]
 struct Quotient {
     digit: u8,
     rest: [u32; WORDS],

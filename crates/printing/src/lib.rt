@@ -1,6 +1,8 @@
 // Inner. How the programs print. Here: lines for people, written to standard output or standard error by way of a buffer: decimal and hexadecimal
 // numbers, texts with what can't be seen in them escaped, bytes, floats, and columns of a table. A line knows no rows and no types of columns. In
 // `floats`: a float's digits; in `type_names`: the names of the types; in `characters`: which characters of a text are shown as they are.
+#![tactic(auto)]
+
 mod characters;
 mod floats;
 pub mod type_names;

@@ -39,7 +39,7 @@ const NAMES: [u8; TYPES * LONGEST] = *b"SmallInt     \
     Null         ";
 
 // A name: the first bytes, so many.
-#[derive(Drop)]
+#[derive(Clone, Copy)]
 pub struct Name {
     pub bytes: [u8; LONGEST],
     pub len: usize,

@@ -1,5 +1,7 @@
 // Face. The columns that a host's description (QRYDSC) lists. parse_whole_qrydsc is for descriptions that come from a host: it refuses one that breaks off.
 // parse_qrydsc, the ported entry, reads those too, and says so. Neither reads rows.
+#![tactic(auto)]
+
 ghost use Rattle.std.specs.Prelude.{◌≡◌, length};
 ghost use Rattle.refusal.specs.Refusal.{refusal_number, refusal_values};
 ghost use Rattle.types.specs.Places.{blank_column};

@@ -1,5 +1,7 @@
 // Face. Why a call refuses its input, as one enum, and whether a call accepted. Every call of the library answers with these; no other
 // crate takes a Refusal apart. It has no text for people: the numbers are those of docs/RULES.md, "Refusals".
+#![tactic(auto)]
+
 ghost use Rattle.std.specs.Prelude.{◌≡◌, get_or};
 ghost use Rattle.refusal.specs.Refusal.{refusal_number, refusal_values, told, told_number, told_value};
 
@@ -36,7 +38,7 @@ pub const QRYDSC_BROKEN_OFF: u32 = 15;
 pub const UNKNOWN_RELEASE: u32 = 22;
 
 // The refusals, by their numbers: a call tests them in this order, save that 15 comes behind 1 and 22 comes first.
-#[derive(Drop)]
+#[derive(Clone, Copy)]
 pub enum Refusal {
     // 1: a description of more than 65,536 bytes.
     QrydscTooLong,
@@ -143,7 +145,7 @@ impl Refusal {
 }
 
 // Whether a call accepted its input.
-#[derive(Drop)]
+#[derive(Clone, Copy)]
 pub enum Outcome {
     Accepted,
     Refused(Refusal),

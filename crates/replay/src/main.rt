@@ -4,6 +4,8 @@
 // Q parse_qrydsc and decode_row with its columns, H decode_row with columns of the line's own. These ask by host release 2. T, G, Q and H also come in lower
 // case, with a release behind the letter, any number that 32 bits hold: such a line is full, and has what the Rust lacks too, the characters replaced, the
 // columns' origins, and whether a description breaks off. n is parse_whole_qrydsc and w decode_packed_whole, which the Rust lacks, both without a release.
+#![tactic(auto)]
+
 ghost use Rattle.std.specs.Prelude.{◌≤◌, length};
 
 use answers::columns::{columns_at, columns_of, ending_at, type_of};

@@ -1,5 +1,7 @@
 // Face. decode_row: the values of a row, by its columns and the host's release, with their texts in a lent buffer; and value_bytes, which shows a value's bytes. It reads no
 // description.
+#![tactic(auto)]
+
 ghost use Rattle.std.specs.Prelude.{◌≡◌, ℕ, ◌≤◌, length};
 ghost use Rattle.refusal.specs.Refusal.{input_limit, refusal_number, refusal_values};
 ghost use Rattle.types.specs.Places.{max_columns, blank_value};

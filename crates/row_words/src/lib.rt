@@ -1,5 +1,7 @@
 // Inner. The row call on plain words, for C and Rust: columns are read from lent words, values are written into lent words, texts into a lent
 // buffer. What it costs grows with the columns used: no list of 128 places is made. crates/vejupa has the refusals before the body.
+#![tactic(auto)]
+
 mod needs;
 mod puts;
 mod tags;
@@ -26,28 +28,28 @@ use types::Db2Value;
 use words::{column_named, is_column};
 
 // What the columns' words say before the row is looked at: whether a column is of type DecFloat, or that some words are no column's.
-#[derive(Drop)]
+#[derive(Clone, Copy)]
 pub enum Checked {
     Columns { dec_float: bool },
     NoColumn,
 }
 
 // What going through the columns finds: every column has its bytes, the last of them before place `end` of the input; or the row is too short.
-#[derive(Drop)]
+#[derive(Clone, Copy)]
 pub enum Walked {
     Done { end: usize },
     Short { expected: usize, actual: usize },
 }
 
 // A number, and how many bytes it takes.
-#[derive(Drop)]
+#[derive(Clone, Copy)]
 pub struct NumberValue {
     pub value: Db2Value,
     pub used: usize,
 }
 
 // How many bytes of the row a column took, how many bytes of text were written, and how many U+FFFD among them were put in.
-#[derive(Drop)]
+#[derive(Clone, Copy)]
 pub struct Taken {
     pub used: usize,
     pub written: usize,
@@ -56,7 +58,7 @@ pub struct Taken {
 
 // What is decided of a row's body: accepted, with the bytes of the input that are used, the bytes of text that are written, and how many U+FFFD among
 // them were put in; or refused.
-#[derive(Drop)]
+#[derive(Clone, Copy)]
 pub enum RowOutcome {
     Accepted {
         used: usize,

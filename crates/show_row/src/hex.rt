@@ -4,7 +4,7 @@
 ghost use Rattle.std.specs.Prelude.{◌≤◌};
 
 // What can be wrong.
-#[derive(Drop)]
+#[derive(Clone, Copy)]
 pub enum Fault {
     Nothing,
     // No digit, and nothing that may stand between bytes.
@@ -18,7 +18,7 @@ pub enum Fault {
 // Where the reading stands: the digit that waits for its second one; how many digits stand together before this place, and did at the line's beginning (at
 // most MANY are counted); which run of digits of its line that is (at most 3 are counted); whether a comment is read; and the place as people count it, from
 // 1. `byte` is what the last step made, if it made one.
-#[derive(Drop)]
+#[derive(Clone, Copy)]
 pub struct Reading {
     pub high: u8,
     pub run: u8,
@@ -57,7 +57,7 @@ pub fn start() -> Reading {
 }
 
 // A byte of the text, by what it may be.
-#[derive(Drop)]
+#[derive(Clone, Copy)]
 enum Kind {
     Digit(u8),
     White,

@@ -2,6 +2,8 @@
 // hexadecimal text; `-` is standard input) and prints a table of the columns, with a row also their values, or the refusal. The row is read by the host's
 // release, 2 where none is given. It decides nothing itself: parse_qrydsc, decode_row and value_bytes do. A description that breaks off is shown too, since
 // whoever looks for the fault wants to see it: with a warning. What is printed is in tables; the command at the root, show-row, reads the other options.
+#![tactic(auto)]
+
 mod hex;
 mod load;
 

@@ -2,7 +2,7 @@
 use types::{ColumnDescriptor, Db2Type, FixedLength, Origin};
 
 // How the texts of a column are read, where they go by the CCSID.
-#[derive(Drop)]
+#[derive(Clone, Copy)]
 pub enum Texts {
     None,
     Characters,

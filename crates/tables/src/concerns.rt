@@ -9,7 +9,7 @@ use crate::value_concerns::{
 };
 use types::ColumnDescriptor;
 
-#[derive(Drop)]
+#[derive(Clone, Copy)]
 pub enum Concern {
     // By the description. A CCSID that no conversion is known for, at release 2 and at 3.
     WillBeGuessed,

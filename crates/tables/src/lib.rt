@@ -1,5 +1,7 @@
 // Inner. What the program show_row prints: the table of a description's columns, that of a row's values, a refusal as a line; and on standard error warnings
 // where a table may mislead. It reads no file, and decides nothing: a column's bytes are found by the function that the row call goes by.
+#![tactic(auto)]
+
 mod column_concerns;
 pub mod columns;
 mod concerns;

@@ -11,7 +11,7 @@ use refusal::{
 use types::{Columns, Db2Type, MAX_COLUMNS};
 
 // A column, and where its bytes begin in the row.
-#[derive(Drop)]
+#[derive(Clone, Copy)]
 struct Found {
     column: usize,
     begins: usize,

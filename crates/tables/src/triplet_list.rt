@@ -13,7 +13,7 @@ const MDD: u8 = 0x78;
 const CONTINUATION: u8 = 0x7F;
 
 // What a triplet lacks.
-#[derive(Drop)]
+#[derive(Clone, Copy)]
 pub enum Lack {
     // It continues the one before it, and is not read.
     Continued,
@@ -24,7 +24,7 @@ pub enum Lack {
 }
 
 // How many they are; of the first, where it begins and its type.
-#[derive(Drop)]
+#[derive(Clone, Copy)]
 pub struct Listed {
     pub count: u64,
     pub first: usize,

@@ -12,7 +12,7 @@ const VALUE: usize = 85;
 const SHOWN: usize = 32;
 
 // How a value is shown.
-#[derive(Drop)]
+#[derive(Clone, Copy)]
 enum Form {
     Null,
     Signed,

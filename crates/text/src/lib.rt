@@ -1,5 +1,7 @@
 // Face. The text conversions that can be called alone: characters and graphics by CCSID and host release, locators and row ids in hexadecimal, and the test
 // for likely text. Each writes UTF-8 at the beginning of a lent buffer. It does not read rows or packed decimals.
+#![tactic(auto)]
+
 ghost use Rattle.std.specs.Prelude.{◌≡◌, true, ◌+◌, ◌*◌, ◌≤◌, length};
 ghost use Rattle.refusal.specs.Refusal.{input_limit};
 ghost use Rattle.buffer.specs.Buffer.{unreplaced, told_text, text_answer, text_buffer};

@@ -1,5 +1,7 @@
 // Inner. The triplets of a description, a step at a time: a step tells where a column is described, gives an environment entry to keep, or does
 // neither. It holds neither the columns nor the environment: its caller keeps both, in arrays of its own.
+#![tactic(auto)]
+
 ghost use Rattle.std.specs.Prelude.{◌≡◌, List, ℕ, ◌+◌, ◌≤◌, ◌<◌, length, get_or};
 ghost use Rattle.std.proofs.Math.Seq.{slice};
 ghost use Rattle.column.specs.Column.{sda_column};
@@ -19,7 +21,7 @@ const TRIPLET_TYPE_GDA: u8 = 0x76;
 const TRIPLET_TYPE_MDD: u8 = 0x78;
 
 // The type that an MDD left for the SDA after it.
-#[derive(Drop)]
+#[derive(Clone, Copy)]
 pub enum Pending {
     Nothing,
     Type(u8),
@@ -27,7 +29,7 @@ pub enum Pending {
 
 // Where the reading stands: before an outer triplet; among the threes of a D0 group (Q5); or before an inner triplet of any other group (Q7). The group
 // ends at `end`.
-#[derive(Drop)]
+#[derive(Clone, Copy)]
 pub enum Cursor {
     // The small field first: so no variant's pending shares bytes with another's end.
     Outer { pending: Pending, at: usize },
@@ -36,7 +38,7 @@ pub enum Cursor {
 }
 
 // Where a column is described: the data of an SDA, or the LID of a D0 group with its two attribute bytes.
-#[derive(Drop)]
+#[derive(Clone, Copy)]
 pub enum Source {
     Sda { start: usize, end: usize },
     Lid { start: usize },
@@ -44,7 +46,7 @@ pub enum Source {
 
 // What stands at a cursor, and the cursor after it. The cursor comes first: so it has the same bytes in each variant that has one, and is not moved
 // through memory.
-#[derive(Drop)]
+#[derive(Clone, Copy)]
 pub enum Step {
     // No outer triplet begins at this place: what is left from there on, if anything is, is not read.
     End(usize),
@@ -61,7 +63,7 @@ pub enum Step {
 }
 
 // The triplet that begins at a place, up to its end, or that none does.
-#[derive(Drop)]
+#[derive(Clone, Copy)]
 pub enum Next {
     Nothing,
     Triplet { kind: u8, end: usize },

@@ -1,5 +1,7 @@
 // Face. The types of columns and values: what a column list and the answer of the row call are made of; which type a DRDA type code stands for, and the
 // questions that a type or a column answers by itself. It reads no description and no row.
+#![tactic(auto)]
+
 ghost use Rattle.std.specs.Prelude.{◌≡◌};
 ghost use Rattle.types.specs.Types.{from_drda_type};
 ghost use Rattle.types.specs.FixedLength.{told_length, fixed_length};
@@ -12,7 +14,7 @@ use refusal::Outcome;
 pub const MAX_COLUMNS: usize = 128;
 
 // The type of a column, with the numbers that it holds (the Rust: types.rs).
-#[derive(Drop)]
+#[derive(Clone, Copy)]
 pub enum Db2Type {
     SmallInt,
     Integer,
@@ -46,21 +48,21 @@ pub enum Db2Type {
 }
 
 // What a DRDA type code stands for.
-#[derive(Drop)]
+#[derive(Clone, Copy)]
 pub struct DrdaType {
     pub db2_type: Db2Type,
     pub nullable: bool,
 }
 
 // The byte count of a type's values, where the type alone tells it: Option<usize> in the Rust.
-#[derive(Drop)]
+#[derive(Clone, Copy)]
 pub enum FixedLength {
     Bytes(usize),
     Varies,
 }
 
 // The order of the bytes of a number in the row.
-#[derive(Drop)]
+#[derive(Clone, Copy)]
 pub enum ByteOrder {
     BigEndian,
     LittleEndian,
@@ -68,7 +70,7 @@ pub enum ByteOrder {
 
 // Where a description has a column from: an SDA, or a LID of a D0 group, which an environment entry declares or none does. The Rust does not keep it, and
 // nothing is decoded by it.
-#[derive(Drop)]
+#[derive(Clone, Copy)]
 pub enum Origin {
     Sda,
     UndeclaredLid,
@@ -76,7 +78,7 @@ pub enum Origin {
 }
 
 // The width of a reference to a LOB outside the row that the description declares: Option<u16> in the Rust. A width of 0 is declared.
-#[derive(Drop)]
+#[derive(Clone, Copy)]
 pub enum ReferenceLength {
     Absent,
     Width(u16),
@@ -84,7 +86,7 @@ pub enum ReferenceLength {
 
 // The origin stands in a byte that would else be padding, so that the struct does not grow by it. The byte order stands before the reference length. Behind
 // it, its load waited for bytes that were just stored in another width (seen in a profile of Integer columns).
-#[derive(Drop)]
+#[derive(Clone, Copy)]
 pub struct ColumnDescriptor {
     pub column_index: u8,
     pub drda_type: u8,
@@ -107,7 +109,7 @@ pub struct Columns {
 }
 
 // Where bytes lie, in the row or in the text buffer.
-#[derive(Drop)]
+#[derive(Clone, Copy)]
 pub struct Place {
     pub start: usize,
     pub len: usize,
@@ -115,7 +117,7 @@ pub struct Place {
 
 // A value. A text is a place in the text buffer; a Binary or a Blob is a place in the row. Real and Double hold every float that is no NaN,
 // RealNan and DoubleNan the bits of one that is.
-#[derive(Drop)]
+#[derive(Clone, Copy)]
 pub enum Db2Value {
     Null,
     SmallInt(i16),
@@ -140,7 +142,7 @@ pub enum Db2Value {
 }
 
 // A column's value, and whether the value refers to data outside the row.
-#[derive(Drop)]
+#[derive(Clone, Copy)]
 pub struct ValuePlace {
     pub value: Db2Value,
     pub external: bool,
@@ -156,7 +158,7 @@ pub struct RowAnswer {
 }
 
 // What the table of base codes holds beside a code: a type, or which type is made of the column's numbers.
-#[derive(Drop)]
+#[derive(Clone, Copy)]
 enum Kind {
     Plain(Db2Type),
     Decimal,
@@ -170,7 +172,7 @@ enum Kind {
     VarBinary,
 }
 
-#[derive(Drop)]
+#[derive(Clone, Copy)]
 struct BaseCode {
     pub code: u8,
     pub kind: Kind,

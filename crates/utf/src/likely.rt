@@ -25,7 +25,7 @@ fn shown(b: u8) -> bool
 }
 
 // The character at a place: one of so many bytes that a likely text may have, or what it may not have.
-#[derive(Drop)]
+#[derive(Clone, Copy)]
 enum Character {
     Likely(usize),
     Unlikely,

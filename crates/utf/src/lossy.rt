@@ -31,7 +31,7 @@ fn lone_leads(s: &[u8]) -> u8
 }
 
 // So many bytes are read, and their text is so long.
-#[derive(Drop)]
+#[derive(Clone, Copy)]
 pub struct Part {
     pub bytes: usize,
     pub len: usize,
@@ -181,7 +181,7 @@ fn write_piece(s: &[u8], i: usize, out: &mut [u8]) -> Standing
 }
 
 // So many bytes are read, their text is so long, and so many parts of them were replaced.
-#[derive(Drop)]
+#[derive(Clone, Copy)]
 pub struct PartWritten {
     pub bytes: usize,
     pub len: usize,

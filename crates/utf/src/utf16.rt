@@ -10,7 +10,7 @@ use super::scalar::write_scalar;
 use buffer::Written;
 
 // A scalar value, how many bytes it takes, and whether it is U+FFFD for an unpaired surrogate, as 1 or 0.
-#[derive(Drop)]
+#[derive(Clone, Copy)]
 pub struct Next {
     pub value: u32,
     pub len: usize,
@@ -291,14 +291,14 @@ fn block_end(s: &[u8]) -> usize
 }
 
 // How many bytes were read and written.
-#[derive(Drop)]
+#[derive(Clone, Copy)]
 pub struct Progress {
     pub read: usize,
     pub written: usize,
 }
 
 // The same for a block, and how many of its units stand for another number of bytes than the unit before.
-#[derive(Drop)]
+#[derive(Clone, Copy)]
 pub struct Block {
     pub read: usize,
     pub written: usize,
@@ -422,7 +422,7 @@ fn next_at(s: &[u8], i: usize) -> Next
 }
 
 // How many bytes were read and written, and how many unpaired surrogates were replaced.
-#[derive(Drop)]
+#[derive(Clone, Copy)]
 pub struct Begun {
     pub read: usize,
     pub written: usize,

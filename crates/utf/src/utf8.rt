@@ -20,7 +20,7 @@ pub fn trail_at(s: &[u8], j: usize, low: u8, high: u8) -> bool
 }
 
 // What stands at a place: a well-formed sequence of so many bytes, or a malformed part of so many.
-#[derive(Drop)]
+#[derive(Clone, Copy)]
 pub enum Standing {
     WellFormed(usize),
     Malformed(usize),
@@ -139,7 +139,7 @@ fn is_trail(b: u8) -> bool
 }
 
 // What a quick look finds: a well-formed sequence of so many bytes; or nothing that it can tell.
-#[derive(Drop)]
+#[derive(Clone, Copy)]
 pub enum Look {
     Known(usize),
     Unknown,
@@ -207,7 +207,7 @@ fn good_start(s: &[u8]) -> usize
 }
 
 // The first end bytes are well-formed; after them is a malformed part of bad bytes, or nothing where bad is 0.
-#[derive(Drop)]
+#[derive(Clone, Copy)]
 pub struct Run {
     pub end: usize,
     pub bad: usize,

@@ -2,6 +2,8 @@
 // length; what is written overlaps nothing else. Each function that can refuse answers a refusal's number, or 0; each number beside it has a place of its
 // own and one meaning. A column is two words, a value three and a type one: crates/words has the layout. This crate has no
 // rules of its own but 101 and 102, of lent words: each promise cites what the call within promises, or what the call that it stands for does.
+#![tactic(auto)]
+
 ghost use Rattle.std.specs.Prelude.{◌≡◌, cond, ◌≤◌, length};
 ghost use Rattle.refusal.specs.Refusal.{told_number};
 ghost use Rattle.buffer.specs.Buffer.{unreplaced, told_text};

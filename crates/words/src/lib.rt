@@ -1,5 +1,7 @@
 // Inner. Types, columns and values as plain words of 64 bits, for the calls of C and Rust: specs/Words.antt and specs/Values.antt have the
 // layout, specs/Reading.antt and specs/ValueReading.antt what words say. It reads no description and no row.
+#![tactic(auto)]
+
 ghost use Rattle.std.specs.Prelude.{◌≡◌, cond, ◌+◌, ◌*◌, ◌/◌, ◌%◌, ◌<◌, ◌≤◌, ◌^◌, eqb};
 ghost use Rattle.std.specs.Float.{binary32, binary64};
 ghost use Rattle.std.specs.Int.{w64};
@@ -18,14 +20,14 @@ use types::{
 };
 
 // The two words of a column.
-#[derive(Drop)]
+#[derive(Clone, Copy)]
 pub struct ColumnWords {
     pub first: u64,
     pub second: u64,
 }
 
 // The three words of a value.
-#[derive(Drop)]
+#[derive(Clone, Copy)]
 pub struct ValueWords {
     pub kind: u64,
     pub number: u64,
@@ -33,7 +35,7 @@ pub struct ValueWords {
 }
 
 // What a word says of a type.
-#[derive(Drop)]
+#[derive(Clone, Copy)]
 pub enum TypeRead {
     Known(Db2Type),
     NoType,

@@ -1,5 +1,7 @@
 // Program. A worked example: a weave order, from a host's bytes to lines for people. It parses the description once, decodes each row with its columns and
 // the host's release, and says a refusal by its number. The bytes are those of samples/, whose README.md says what each column is.
+#![tactic(auto)]
+
 use printing::Line;
 use refusal::Outcome;
 use types::{Columns, Db2Value, RowAnswer, ValuePlace};

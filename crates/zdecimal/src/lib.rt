@@ -1,5 +1,7 @@
 // Inner. A packed decimal as z/Architecture reads it: whether its digits are digits, its sign, and the number that the digits make. It knows nothing of scales
 // and texts, refuses nothing, and asks for one byte at least.
+#![tactic(auto)]
+
 ghost use Rattle.std.specs.Prelude.{◌≡◌, true, ◌<◌, length};
 ghost use Rattle.zdecimal.specs.ZDecimal.{z_digits, z_sign_code, are_digits, base10};
 ghost use Rattle.zdecimal.specs.Inner.{capped};

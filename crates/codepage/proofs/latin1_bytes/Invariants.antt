@@ -1,0 +1,15 @@
+use Prim.Native.Nat.{◌+◌, ◌-◌, ◌≤◌}
+use mathlib.Core.List.{◌++◌}
+use native.Mathlib.Omega.{arith}
+use borrow.Author.Rules.{rules}
+use lib.ListN.{length, take, drop}
+use Rattle.codepage.specs.CodePage.{byte_text, code_point819}
+use Rattle.buffer.proofs.Writing.{Writing, start, fits, as_long, all, end}
+use Rattle.codepage.proofs.ByteText.{turn_fits, turn, byte_end}
+use Rattle.codepage.proofs.latin1_bytes.Given as goal
+
+abbrev pub invariant-loop-i : goal.invariant-loop-i
+invariant-loop-i l = (l.i ≤ length l.s) × Writing (byte_text code_point819 l.s) l.initial.out (byte_text code_point819 (drop l.i l.s)) l.out l.o
+
+abbrev pub decreases-loop-i : goal.decreases-loop-i
+decreases-loop-i l = length l.s - l.i

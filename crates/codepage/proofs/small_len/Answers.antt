@@ -1,0 +1,8 @@
+use mathlib.Core.Path.{sym}
+use native.Mathlib.Omega.{arith}
+use borrow.Author.Rules.{rules}
+use Rattle.codepage.proofs.Blocks.{small_length}
+use Rattle.codepage.proofs.small_len.Goals as goal
+
+pub returns : goal.returns
+returns c = (sym (small_length c.args.v c.requires), omega arith)

@@ -1,11 +1,7 @@
-use Prim.Native.Nat.{◌+◌, ◌-◌, ◌≤◌}
-use mathlib.Core.List.{◌++◌}
-use native.Mathlib.Omega.{arith}
-use borrow.Author.Rules.{rules}
-use lib.ListN.{length, take, drop}
+use Prim.Native.Nat.{◌-◌, ◌≤◌}
+use lib.ListN.{length, drop}
 use Rattle.codepage.specs.CodePage.{byte_text, code_point037}
-use Rattle.buffer.proofs.Writing.{Writing, start, fits, as_long, all, end}
-use Rattle.codepage.proofs.ByteText.{turn_fits, turn, byte_end}
+use Rattle.buffer.proofs.Writing.{Writing}
 use Rattle.codepage.proofs.bytes037_write.Given as goal
 
 abbrev pub invariant-loop-i : goal.invariant-loop-i

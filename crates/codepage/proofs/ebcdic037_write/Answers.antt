@@ -1,5 +1,4 @@
 use mathlib.Core.Path.{refl}
-use borrow.Author.Rules.{rules}
 use Rattle.codepage.specs.CodePage.{table037}
 use Rattle.codepage.proofs.ebcdic037_write.Goals as goal
 

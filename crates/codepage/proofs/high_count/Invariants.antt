@@ -1,9 +1,7 @@
 use Prim.Native.Nat.{◌+◌, ◌-◌, ◌≤◌}
-use mathlib.Core.Path.{◌≡◌, ap}
-use native.Mathlib.Omega.{arith}
-use lib.ListN.{length, drop, drop_of_length-le}
+use mathlib.Core.Path.{◌≡◌}
+use lib.ListN.{length, drop}
 use Rattle.codepage.specs.Blocks.{highs}
-use Rattle.codepage.proofs.Blocks.{highs_next}
 use Rattle.codepage.proofs.high_count.Given as goal
 
 abbrev pub invariant-loop-i : goal.invariant-loop-i

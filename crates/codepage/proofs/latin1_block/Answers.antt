@@ -1,6 +1,5 @@
 use mathlib.Core.Path.{◌≡◌, sym, ap, ◌∙◌}
 use native.Mathlib.Omega.{arith}
-use borrow.Author.Rules.{rules}
 use lib.ListN.{length}
 use Rattle.codepage.specs.CodePage.{byte_text, code_point819}
 use Rattle.codepage.proofs.Blocks.{plain_text, highs_most}

@@ -2,11 +2,10 @@ use Prim.Native.Nat.{ℕ, ◌+◌, ◌-◌, ◌%◌, ◌≤◌, ◌<◌}
 use mathlib.Core.Path.{◌≡◌, refl}
 use mathlib.Core.List.{List, [], ◌++◌}
 use native.Mathlib.Omega.{arith}
-use borrow.Author.Rules.{rules}
 use lib.ListN.{length, take, drop, get_or, set, length-set}
 use Rattle.codepage.specs.CodePage.{byte_text, code_point819}
-use Rattle.buffer.proofs.Writing.{Writing, start, fits, as_long, all, end}
-use Rattle.codepage.proofs.Dense.{Loose, loosen, loose_long, loose_fits, dense_room, dense_turn, last_fits, last_turn}
+use Rattle.buffer.proofs.Writing.{Writing, all, end}
+use Rattle.codepage.proofs.Dense.{Loose, dense_room, dense_turn, last_fits, last_turn}
 use Rattle.codepage.proofs.latin1_dense.Goals as goal
 
 pub bounds-out-p : goal.bounds-out-p

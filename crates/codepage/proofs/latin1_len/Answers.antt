@@ -1,8 +1,7 @@
-use Prim.Native.Nat.{◌+◌, ◌-◌, ◌≤◌}
+use Prim.Native.Nat.{◌+◌}
 use mathlib.Core.Path.{◌≡◌, ap, ◌∙◌}
 use native.Mathlib.Omega.{arith}
-use lib.ListN.{length, drop, drop_of_length-le, length-drop}
-use lib.Seq.{length-take-le}
+use lib.ListN.{drop, drop_of_length-le}
 use Rattle.codepage.specs.Blocks.{highs}
 use Rattle.codepage.proofs.Blocks.{block_highs, text_length_lem, highs_most}
 use Rattle.codepage.proofs.latin1_len.Goals as goal

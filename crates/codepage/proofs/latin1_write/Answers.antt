@@ -1,11 +1,11 @@
-use Prim.Native.Nat.{ℕ, ◌+◌, ◌-◌, ◌≤◌}
+use Prim.Native.Nat.{ℕ, ◌+◌, ◌-◌}
 use mathlib.Core.Path.{◌≡◌, refl}
 use mathlib.Core.List.{List, ◌++◌}
 use native.Mathlib.Omega.{arith}
 use lib.ListN.{length, take, drop, length-drop}
 use lib.Seq.{length-take-le}
 use Rattle.codepage.specs.CodePage.{byte_text, code_point819}
-use Rattle.buffer.proofs.Writing.{Writing, start, wrote_rest, fits, fits_rest, as_long, all, end}
+use Rattle.buffer.proofs.Writing.{Writing, wrote_rest, fits_rest, all, end}
 use Rattle.codepage.proofs.Blocks.{block_text}
 use Rattle.codepage.proofs.ByteText.{byte_end}
 use Rattle.codepage.proofs.latin1_write.Goals as goal
@@ -20,8 +20,7 @@ latin1_block-o-requires c =
     let Out : List ℕ = c.loop-i.out in
     let Block : List ℕ = take (E - I) (drop I S) in
     let w : Writing (byte_text code_point819 S) D (byte_text code_point819 (drop I S)) Out O = c.loop-i.invariant.1 in
-    let text : byte_text code_point819 (drop I S) ≡ byte_text code_point819 Block ++ byte_text code_point819 (drop E S) = block_text S I E (omega (arith, c.block_end-e.ensures)) code_point819 in
-    (
+    let text : byte_text code_point819 (drop I S) ≡ byte_text code_point819 Block ++ byte_text code_point819 (drop E S) = block_text S I E (omega (arith, c.block_end-e.ensures)) code_point819 in (
       omega (arith, c.block_end-e.ensures, length-take-le (E - I) (drop I S) (omega (arith, length-drop I S, c.block_end-e.ensures))),
       fits_rest w (byte_text code_point819 Block) _ text refl,
     )

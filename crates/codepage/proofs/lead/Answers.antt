@@ -1,4 +1,3 @@
-use borrow.Author.Rules.{rules}
 use Rattle.unicode_standard.proofs.ScalarBytes.{utf8_one, utf8_two}
 use Rattle.codepage.proofs.lead.Goals as goal
 

@@ -1,4 +1,3 @@
-use borrow.Author.Rules.{rules}
 use borrow.Author.Tests.{lt-ltb, le-ltb}
 use Rattle.codepage.specs.Pairs.{utf8_pair}
 use Rattle.codepage.proofs.pair_of.Goals as goal

@@ -1,10 +1,8 @@
-use Prim.Native.Nat.{◌-◌, ◌≤◌}
-use mathlib.Core.Path.{◌≡◌, refl}
+use mathlib.Core.Path.{◌≡◌}
 use native.Mathlib.Omega.{arith}
-use borrow.Author.Rules.{rules}
-use lib.ListN.{length, take, length-set}
+use lib.ListN.{length-set}
 use Rattle.codepage.specs.CodePage.{code_point037}
-use Rattle.codepage.specs.Pairs.{utf8_pair, pairs037}
+use Rattle.codepage.specs.Pairs.{utf8_pair}
 use Rattle.codepage.proofs.CodePage037.{code_point_small}
 use Rattle.codepage.proofs.PairLaws.{made_next, made_all}
 use Rattle.codepage.proofs.pairs_of.Goals as goal

@@ -1,12 +1,7 @@
 use Prim.Native.Nat.{◌-◌, ◌≤◌}
-use mathlib.Core.Path.{◌≡◌, refl}
-use native.Mathlib.Omega.{arith}
-use borrow.Author.Rules.{rules}
-use lib.ListN.{length, take, length-set}
-use Rattle.codepage.specs.CodePage.{code_point037}
-use Rattle.codepage.specs.Pairs.{utf8_pair, pairs037}
-use Rattle.codepage.proofs.CodePage037.{code_point_small}
-use Rattle.codepage.proofs.PairLaws.{made_next, made_all}
+use mathlib.Core.Path.{◌≡◌}
+use lib.ListN.{length, take}
+use Rattle.codepage.specs.Pairs.{pairs037}
 use Rattle.codepage.proofs.pairs_of.Given as goal
 
 abbrev pub invariant-loop-i : goal.invariant-loop-i

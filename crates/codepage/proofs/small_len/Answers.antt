@@ -1,6 +1,5 @@
 use mathlib.Core.Path.{sym}
 use native.Mathlib.Omega.{arith}
-use borrow.Author.Rules.{rules}
 use Rattle.codepage.proofs.Blocks.{small_length}
 use Rattle.codepage.proofs.small_len.Goals as goal
 

@@ -1,10 +1,9 @@
-use Prim.Native.Nat.{ℕ, ◌+◌, ◌*◌, ◌-◌, ◌≤◌}
+use Prim.Native.Nat.{ℕ}
 use mathlib.Core.Path.{◌≡◌, ap, ◌∙◌}
 use native.Mathlib.Omega.{arith}
-use borrow.Author.Rules.{rules}
-use lib.ListN.{length, drop, get_or}
+use lib.ListN.{length, get_or}
 use Rattle.unicode_standard.specs.Unicode.{utf8}
-use Rattle.codepage.specs.CodePage.{byte_text, code_point037}
+use Rattle.codepage.specs.CodePage.{code_point037}
 use Rattle.codepage.proofs.ByteText.{byte_length, byte_end}
 use Rattle.codepage.proofs.table037_len.Goals as goal
 

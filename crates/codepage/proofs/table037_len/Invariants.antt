@@ -1,11 +1,7 @@
-use Prim.Native.Nat.{ℕ, ◌+◌, ◌*◌, ◌-◌, ◌≤◌}
-use mathlib.Core.Path.{◌≡◌, ap, ◌∙◌}
-use native.Mathlib.Omega.{arith}
-use borrow.Author.Rules.{rules}
-use lib.ListN.{length, drop, get_or}
-use Rattle.unicode_standard.specs.Unicode.{utf8}
+use Prim.Native.Nat.{◌+◌, ◌*◌, ◌-◌, ◌≤◌}
+use mathlib.Core.Path.{◌≡◌}
+use lib.ListN.{length, drop}
 use Rattle.codepage.specs.CodePage.{byte_text, code_point037}
-use Rattle.codepage.proofs.ByteText.{byte_length, byte_end}
 use Rattle.codepage.proofs.table037_len.Given as goal
 
 abbrev pub invariant-loop-i : goal.invariant-loop-i

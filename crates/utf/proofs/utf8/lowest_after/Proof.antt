@@ -1,0 +1,16 @@
+-- `utf::utf8::lowest_after` meets its contract. Assumes nothing.
+use borrow.Author.Tests.{eq-eqb, ne_eqb}
+use Rattle.utf.proofs.utf8.lowest_after.Statement.{statement}
+use Rattle.utf.proofs.utf8.lowest_after.Tie as tie
+
+returns : tie.Need-returns
+returns c = rw (eq-eqb _ _ c.if1.true)
+
+returns-2 : tie.Need-returns-2
+returns-2 c = rw (ne_eqb _ _ c.before.if1.false, eq-eqb _ _ c.if2.true)
+
+returns-3 : tie.Need-returns-3
+returns-3 c = rw (ne_eqb _ _ c.before.if1.false, ne_eqb _ _ c.if2.false)
+
+pub lowest-after-spec : {M : Type 1} → statement M
+lowest-after-spec = tie.close (tie.spec returns returns-2 returns-3)

@@ -317,7 +317,7 @@ fn one(
     bytes: &[u8],
     used: usize,
 )
-    requires { IsEdge letter (Given.rowCase description.now row.now) (values (record { value = value; external = external } ∷ []) texts.now (bytes.now ∷ []) used) }
+    requires { IsEdge letter (Given.row_case description.now row.now) (values (record { value = value; external = external } ∷ []) texts.now (bytes.now ∷ []) used) }
 {
     let place = ValuePlace { value, external };
     tell(letter, is_one(description, row, place, texts, bytes, used));
@@ -334,7 +334,7 @@ fn two(
     bytes: &[u8],
     used: usize,
 )
-    requires { IsEdge letter (Given.rowCase description.now row.now) (values (within_row first ∷ within_row second ∷ []) texts.now ([] ∷ bytes.now ∷ []) used) }
+    requires { IsEdge letter (Given.row_case description.now row.now) (values (within_row first ∷ within_row second ∷ []) texts.now ([] ∷ bytes.now ∷ []) used) }
 {
     let place = within(first);
     let next = within(second);
@@ -346,14 +346,14 @@ fn two(
 
 // A case of one column, for which the row is too short.
 fn too_short(letter: u8, description: &[u8], row: &[u8], expected: usize, actual: usize)
-    requires { IsEdge letter (Given.rowCase description.now row.now) (too_short 1 expected actual) }
+    requires { IsEdge letter (Given.row_case description.now row.now) (too_short 1 expected actual) }
 {
     tell(letter, is_short(description, row, expected, actual));
 }
 
 // A case of a packed decimal.
 fn packed_decimal(letter: u8, data: &[u8], scale: u8, want: &[u8])
-    requires { IsEdge letter (Given.decimalCase «data».now scale) (text_found want.now) }
+    requires { IsEdge letter (Given.decimal_case «data».now scale) (text_found want.now) }
 {
     tell(letter, is_decimal(data, scale, want));
 }

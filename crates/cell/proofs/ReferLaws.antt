@@ -116,15 +116,15 @@ module _ (release : ℕ) where
   header_refers n t s = go (bit8000 n) (is_empty_header (header_bytes s))
     where
       go : (b z : Bool)
-          → (not (is_empty_lob (cond b (cond z (Item.text TextSort.clob (unreplaced [])) (Item.text TextSort.clob (unreplaced (locator_text (header_bytes s))))) (Item.text TextSort.varChar t))) && (b || false))
+          → (not (is_empty_lob (cond b (cond z (Item.text TextSort.clob (unreplaced [])) (Item.text TextSort.clob (unreplaced (locator_text (header_bytes s))))) (Item.text TextSort.var_char t))) && (b || false))
           ≡ (b && not z)
       go true true = rw none refl
       go true false = rw (locator_some TextSort.clob (header_bytes s)) refl
-      go false z = no_refer (is_empty_lob (Item.text TextSort.varChar t))
+      go false z = no_refer (is_empty_lob (Item.text TextSort.var_char t))
 
   lob_bytes_refers : (n ccsid : ℕ) (s : List ℕ) → (not (is_empty_lob (lob_bytes_item L n ccsid s)) && is_short_reference n s) ≡ is_short_reference n s
   unfolding lob_bytes_item is_empty_lob
-  lob_bytes_refers n ccsid s = go (is_short_reference n s) (cond (L.is_likely s) (Item.text TextSort.varChar (L.characters ccsid s)) (Item.part ByteSort.blob 0 (length s))) refl
+  lob_bytes_refers n ccsid s = go (is_short_reference n s) (cond (L.is_likely s) (Item.text TextSort.var_char (L.characters ccsid s)) (Item.part ByteSort.blob 0 (length s))) refl
     where
       go : (t : Bool) (i : Item) → is_short_reference n s ≡ t → (not (is_empty_lob (cond t (Item.part ByteSort.blob 0 (length s)) i)) && t) ≡ t
       go true i e = rw (ne_eqb (length s) 0 (λ z. omega (arith, short_some n s e))) refl

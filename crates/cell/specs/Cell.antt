@@ -36,9 +36,9 @@ byte_sort bytes.Blob = meaning.ByteSort.blob
 abbrev pub text_sort : TextSort → meaning.TextSort
 text_sort texts.Decimal = meaning.TextSort.decimal
 text_sort texts.Char = meaning.TextSort.char
-text_sort texts.VarChar = meaning.TextSort.varChar
+text_sort texts.VarChar = meaning.TextSort.var_char
 text_sort texts.Clob = meaning.TextSort.clob
-text_sort texts.RowId = meaning.TextSort.rowId
+text_sort texts.RowId = meaning.TextSort.row_id
 text_sort texts.Date = meaning.TextSort.date
 text_sort texts.Time = meaning.TextSort.time
 text_sort texts.Timestamp = meaning.TextSort.timestamp

@@ -24,8 +24,8 @@ module _ (f : Format) (number : Float → Number) (kept : ℕ → Number)
 
 pub real_bits : (n : ℕ) → n < 2 ^ 32 → held (number_value (real_of n)) ≡ bits n
 unfolding real_of
-real_bits n h = pattern binary32 Number.real Number.realNan (λ x. refl) (λ k. refl) n h
+real_bits n h = pattern binary32 Number.real Number.real_nan (λ x. refl) (λ k. refl) n h
 
 pub double_bits : (n : ℕ) → n < 2 ^ 64 → held (number_value (double_of n)) ≡ bits n
 unfolding double_of
-double_bits n h = pattern binary64 Number.double Number.doubleNan (λ x. refl) (λ k. refl) n h
+double_bits n h = pattern binary64 Number.double Number.double_nan (λ x. refl) (λ k. refl) n h

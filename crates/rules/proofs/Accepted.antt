@@ -131,9 +131,9 @@ part_sort_lem ByteSort.blob p = refl
 text_sort_lem : (k : TextSort) (p : Place) → sort_of (text_value k p) ≡ some (text_sort k)
 text_sort_lem TextSort.decimal p = refl
 text_sort_lem TextSort.char p = refl
-text_sort_lem TextSort.varChar p = refl
+text_sort_lem TextSort.var_char p = refl
 text_sort_lem TextSort.clob p = refl
-text_sort_lem TextSort.rowId p = refl
+text_sort_lem TextSort.row_id p = refl
 text_sort_lem TextSort.date p = refl
 text_sort_lem TextSort.time p = refl
 text_sort_lem TextSort.timestamp p = refl
@@ -155,7 +155,7 @@ real_sort : (n : ℕ) → NumberSort type.Real (real_of n)
 unfolding real_of
 real_sort n = go (nan_bits binary32 n)
   where
-    go : (b : Bool) → NumberSort type.Real (cond b (Number.realNan n) (Number.real (of_bits binary32 n)))
+    go : (b : Bool) → NumberSort type.Real (cond b (Number.real_nan n) (Number.real (of_bits binary32 n)))
     go true = inl refl
     go false = inl refl
 
@@ -163,7 +163,7 @@ double_sort : (n : ℕ) → NumberSort type.Double (double_of n)
 unfolding double_of
 double_sort n = go (nan_bits binary64 n)
   where
-    go : (b : Bool) → NumberSort type.Double (cond b (Number.doubleNan n) (Number.double (of_bits binary64 n)))
+    go : (b : Bool) → NumberSort type.Double (cond b (Number.double_nan n) (Number.double (of_bits binary64 n)))
     go true = inl refl
     go false = inl refl
 

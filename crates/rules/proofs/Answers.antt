@@ -71,13 +71,13 @@ row_placed cs s d = walk_placed (used_of (walk_row cs s)) (skip_of s) cs (skip_o
 
 -- what each sort of value holds
 pub number_held : (x : Number) → (n : ℕ) × (held (number_value x) ≡ bits n)
-number_held (Number.smallInt z) = (_, refl)
+number_held (Number.small_int z) = (_, refl)
 number_held (Number.integer z) = (_, refl)
-number_held (Number.bigInt z) = (_, refl)
+number_held (Number.big_int z) = (_, refl)
 number_held (Number.real x) = (_, refl)
-number_held (Number.realNan n) = (_, refl)
+number_held (Number.real_nan n) = (_, refl)
 number_held (Number.double x) = (_, refl)
-number_held (Number.doubleNan n) = (_, refl)
+number_held (Number.double_nan n) = (_, refl)
 
 pub part_held : (k : ByteSort) (p : Place) → held (part_value k p) ≡ in_row p
 part_held ByteSort.binary p = refl
@@ -86,9 +86,9 @@ part_held ByteSort.blob p = refl
 pub text_held_lem : (k : TextSort) (p : Place) → held (text_value k p) ≡ in_text p
 text_held_lem TextSort.decimal p = refl
 text_held_lem TextSort.char p = refl
-text_held_lem TextSort.varChar p = refl
+text_held_lem TextSort.var_char p = refl
 text_held_lem TextSort.clob p = refl
-text_held_lem TextSort.rowId p = refl
+text_held_lem TextSort.row_id p = refl
 text_held_lem TextSort.date p = refl
 text_held_lem TextSort.time p = refl
 text_held_lem TextSort.timestamp p = refl

@@ -26,9 +26,9 @@ part_sort ByteSort.blob = Sort.blob
 abbrev pub text_sort : TextSort → Sort
 text_sort TextSort.decimal = Sort.decimal
 text_sort TextSort.char = Sort.char
-text_sort TextSort.varChar = Sort.varChar
+text_sort TextSort.var_char = Sort.var_char
 text_sort TextSort.clob = Sort.clob
-text_sort TextSort.rowId = Sort.rowId
+text_sort TextSort.row_id = Sort.row_id
 text_sort TextSort.date = Sort.date
 text_sort TextSort.time = Sort.time
 text_sort TextSort.timestamp = Sort.timestamp
@@ -85,15 +85,15 @@ module _ (L : Conversions) (ks : List Sort) (s : List ℕ) (N : Number → Type 
   unfolding header_item
   of_header m = either Of (is_empty_header (header_bytes s)) (text TextSort.clob (unreplaced [])) (text TextSort.clob (L.locator (header_bytes s))) m m
 
-  of_varying : (n : ℕ) (t : Converted) → Among ks Sort.clob → Among ks Sort.varChar → Item_of ks (length s) N Z (varying_item L n t s)
+  of_varying : (n : ℕ) (t : Converted) → Among ks Sort.clob → Among ks Sort.var_char → Item_of ks (length s) N Z (varying_item L n t s)
   unfolding varying_item
-  of_varying n t m v = either Of (bit8000 n) (header_item L s) (text TextSort.varChar t) (of_header m) v
+  of_varying n t m v = either Of (bit8000 n) (header_item L s) (text TextSort.var_char t) (of_header m) v
 
-  of_lob_bytes : (n ccsid : ℕ) → Among ks Sort.blob → Among ks Sort.varChar → Item_of ks (length s) N Z (lob_bytes_item L n ccsid s)
+  of_lob_bytes : (n ccsid : ℕ) → Among ks Sort.blob → Among ks Sort.var_char → Item_of ks (length s) N Z (lob_bytes_item L n ccsid s)
   unfolding lob_bytes_item
   of_lob_bytes n ccsid m v =
       let whole = part ByteSort.blob 0 (length s) in
-      let converted = text TextSort.varChar (L.characters ccsid s) in
+      let converted = text TextSort.var_char (L.characters ccsid s) in
       either Of (is_short_reference n s) whole (cond (L.is_likely s) converted whole) (m, omega arith)
       (either Of (L.is_likely s) converted whole v (m, omega arith))
 
@@ -124,7 +124,7 @@ module _ (L : Conversions) (N : Db2Type → Number → Type 0) (ns : Numbers L N
   item_of (type.DecFloat digits) c s = inr refl
   item_of (type.Char n) c s = inl refl
   item_of (type.VarChar n) c s =
-      of_varying L (Sort.varChar ∷ Sort.clob ∷ []) s (N (type.VarChar n)) (Nothing (type.VarChar n)) n (L.characters c.ccsid (drop 2 s)) (inr (inl refl)) (inl refl)
+      of_varying L (Sort.var_char ∷ Sort.clob ∷ []) s (N (type.VarChar n)) (Nothing (type.VarChar n)) n (L.characters c.ccsid (drop 2 s)) (inr (inl refl)) (inl refl)
   item_of type.LongVarChar c s = inl refl
   item_of type.Clob c s =
       of_lob L (Sort.clob ∷ []) s (N type.Clob) (Nothing type.Clob) c.extdta_reference_length (eqb c.length 0) clobs (inl refl)
@@ -138,13 +138,13 @@ module _ (L : Conversions) (N : Db2Type → Number → Type 0) (ns : Numbers L N
   item_of type.Timestamp c s = inl refl
   item_of (type.Graphic n) c s = inl refl
   item_of (type.VarGraphic n) c s =
-      of_varying L (Sort.varChar ∷ Sort.clob ∷ []) s (N (type.VarGraphic n)) (Nothing (type.VarGraphic n)) n (L.graphics c.ccsid (drop 2 s)) (inr (inl refl)) (inl refl)
+      of_varying L (Sort.var_char ∷ Sort.clob ∷ []) s (N (type.VarGraphic n)) (Nothing (type.VarGraphic n)) n (L.graphics c.ccsid (drop 2 s)) (inr (inl refl)) (inl refl)
   item_of type.DbClob c s =
       of_lob L (Sort.clob ∷ []) s (N type.DbClob) (Nothing type.DbClob) c.extdta_reference_length (eqb c.length 0) clobs (inl refl)
   item_of type.ClobLocator c s = of_reference L (Sort.clob ∷ []) s (N type.ClobLocator) (Nothing type.ClobLocator) clobs (inl refl)
   item_of type.DbClobLocator c s = of_reference L (Sort.clob ∷ []) s (N type.DbClobLocator) (Nothing type.DbClobLocator) clobs (inl refl)
   item_of (type.LobBytes n) c s =
-      of_lob_bytes L (Sort.varChar ∷ Sort.blob ∷ []) s (N (type.LobBytes n)) (Nothing (type.LobBytes n)) (low15 n) c.ccsid (inr (inl refl)) (inl refl)
+      of_lob_bytes L (Sort.var_char ∷ Sort.blob ∷ []) s (N (type.LobBytes n)) (Nothing (type.LobBytes n)) (low15 n) c.ccsid (inr (inl refl)) (inl refl)
   item_of (type.LobChar n) c s = of_lob_char L (Sort.clob ∷ []) s (N (type.LobChar n)) (Nothing (type.LobChar n)) (low15 n) c.ccsid (inl refl)
   item_of (type.RowId n) c s = inl refl
   item_of type.Boolean c s = inl refl

@@ -43,9 +43,9 @@ record Shape (i j : Item) : Type 0 where
 text_sorts : (k : TextSort) (p q : Place) → sort_of (text_value k p) ≡ sort_of (text_value k q)
 text_sorts TextSort.decimal p q = refl
 text_sorts TextSort.char p q = refl
-text_sorts TextSort.varChar p q = refl
+text_sorts TextSort.var_char p q = refl
 text_sorts TextSort.clob p q = refl
-text_sorts TextSort.rowId p q = refl
+text_sorts TextSort.row_id p q = refl
 text_sorts TextSort.date p q = refl
 text_sorts TextSort.time p q = refl
 text_sorts TextSort.timestamp p q = refl
@@ -54,9 +54,9 @@ text_sorts TextSort.xml p q = refl
 text_holds : (k : TextSort) (p q : Place) → but_text (held (text_value k p)) ≡ but_text (held (text_value k q))
 text_holds TextSort.decimal p q = refl
 text_holds TextSort.char p q = refl
-text_holds TextSort.varChar p q = refl
+text_holds TextSort.var_char p q = refl
 text_holds TextSort.clob p q = refl
-text_holds TextSort.rowId p q = refl
+text_holds TextSort.row_id p q = refl
 text_holds TextSort.date p q = refl
 text_holds TextSort.time p q = refl
 text_holds TextSort.timestamp p q = refl

@@ -52,7 +52,7 @@ real_range : (n : ℕ) → n < 2 ^ 32 → InRange (number_value (real_of n))
 unfolding real_of
 real_range n h = go (nan_bits binary32 n) refl
   where
-    go : (b : Bool) → nan_bits binary32 n ≡ b → InRange (number_value (cond b (Number.realNan n) (Number.real (of_bits binary32 n))))
+    go : (b : Bool) → nan_bits binary32 n ≡ b → InRange (number_value (cond b (Number.real_nan n) (Number.real (of_bits binary32 n))))
     go true e = h
     go false e = (of_bits-fits binary32 n, sym (nan_bits_is binary32 n) ∙ e)
 
@@ -60,7 +60,7 @@ double_range : (n : ℕ) → InRange (number_value (double_of n))
 unfolding double_of
 double_range n = go (nan_bits binary64 n) refl
   where
-    go : (b : Bool) → nan_bits binary64 n ≡ b → InRange (number_value (cond b (Number.doubleNan n) (Number.double (of_bits binary64 n))))
+    go : (b : Bool) → nan_bits binary64 n ≡ b → InRange (number_value (cond b (Number.double_nan n) (Number.double (of_bits binary64 n))))
     go true e = tt
     go false e = (of_bits-fits binary64 n, sym (nan_bits_is binary64 n) ∙ e)
 
@@ -221,9 +221,9 @@ module _ (release : ℕ) where
   text_range : (k : TextSort) (p : Place) → InRange (text_value k p)
   text_range TextSort.decimal p = tt
   text_range TextSort.char p = tt
-  text_range TextSort.varChar p = tt
+  text_range TextSort.var_char p = tt
   text_range TextSort.clob p = tt
-  text_range TextSort.rowId p = tt
+  text_range TextSort.row_id p = tt
   text_range TextSort.date p = tt
   text_range TextSort.time p = tt
   text_range TextSort.timestamp p = tt

@@ -1,15 +1,14 @@
 -- Likely text, piece by piece. Assumes nothing.
-use Prim.Native.Nat.{ℕ, zero, suc, ◌+◌, ◌*◌, ◌-◌, ◌/◌, ◌%◌, ◌≤◌, ◌<◌}
+use Prim.Native.Nat.{ℕ, zero, suc, ◌+◌, ◌-◌, ◌/◌, ◌%◌, ◌≤◌, ◌<◌}
 use mathlib.Core.Bool.{Bool, true, false, cond}
 use mathlib.Core.List.{List, [], ◌∷◌}
 use mathlib.Core.Path.{◌≡◌, refl, sym, ap, subst, ◌∙◌}
 use native.Mathlib.Omega.{arith}
-use native.Mathlib.Numerals.{add-one}
-use borrow.Author.Tests.{lt-ltb, le-ltb, le-leb, lt-leb, eq-eqb, ne_eqb, ltb-true, ltb-false, leb-true, leb-false}
-use lib.Dec.{T, ltb, leb, eqb}
+use borrow.Author.Tests.{lt-ltb, le-ltb, le-leb, lt-leb, eq-eqb, ne_eqb, ltb-true, ltb-false}
+use lib.Dec.{T, ltb, eqb}
 use lib.ListN.{length, take, drop, get_or, length-drop, drop_of_length-le}
 use lib.Seq.{drop-cons, drop-drop, get_or-drop}
-use Rattle.unicode_standard.specs.Unicode.{Piece, scalar, malformed, utf8, First, first_by, first_of, fit, scalar_from, table_3_7, within, range, read_from, utf8_pieces}
+use Rattle.unicode_standard.specs.Unicode.{Piece, scalar, malformed, utf8, first_by, first_of, fit, scalar_from, table_3_7, within, range, read_from}
 use Rattle.utf.specs.Utf8Code.{first_at, trail_at, is_scalar}
 use Rattle.unicode_standard.specs.Likely.{is_control, is_tab_or_line_end, likely_piece, all_likely, likely_text}
 use Rattle.utf.specs.declared.likely.Character.TheVariants.{Likely, Unlikely}

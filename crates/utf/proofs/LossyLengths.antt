@@ -3,14 +3,14 @@ use Prim.Native.Nat.{ℕ, zero, suc, ◌+◌, ◌*◌, ◌-◌, ◌/◌, ◌≤�
 use mathlib.Core.Bool.{Bool, true, false, cond, ◌||◌}
 use mathlib.Core.List.{List, [], ◌∷◌}
 use mathlib.Core.Logic.{⊎_elim}
-use mathlib.Core.Path.{◌≡◌, refl, sym, ap, ◌∙◌}
+use mathlib.Core.Path.{◌≡◌, refl, sym, ◌∙◌}
 use native.Mathlib.Omega.{arith}
 use borrow.Author.Tests.{ltb-true, ltb-false, ne_eqb}
 use borrow.Author.Count.{below_more}
-use lib.Dec.{ltb, eqb}
+use lib.Dec.{ltb}
 use lib.ListN.{length, take, drop, get_or, length-drop}
 use lib.Seq.{drop-drop, get_or-take, get_or-drop, length-take-le}
-use Rattle.unicode_standard.specs.Unicode.{Range, range, trail, within, table_3_7, utf8_text}
+use Rattle.unicode_standard.specs.Unicode.{range, trail, within, table_3_7, utf8_text}
 use Rattle.unicode_standard.proofs.Ranges.{outside}
 use Rattle.buffer.proofs.Writing.{next}
 use Rattle.utf.specs.Utf8Code.{trail_at, ranges, lowest_after, highest_after, PieceAt, Good}

@@ -1,15 +1,15 @@
 -- Laws of the UTF-16 definitions of specs/Unicode.antt, at a position of a byte sequence. Assumes nothing.
-use Prim.Native.Nat.{ℕ, zero, suc, ◌+◌, ◌*◌, ◌-◌, ◌≤◌, ◌<◌}
-use mathlib.Core.Bool.{Bool, true, false, cond}
-use mathlib.Core.List.{List, [], ◌∷◌, ◌++◌}
-use mathlib.Core.Path.{◌≡◌, refl, sym, ap, ◌∙◌}
+use Prim.Native.Nat.{ℕ, suc, ◌+◌, ◌*◌, ◌-◌, ◌≤◌, ◌<◌}
+use mathlib.Core.Bool.{Bool, true, false}
+use mathlib.Core.List.{List, [], ◌∷◌}
+use mathlib.Core.Path.{◌≡◌, refl, ap, ◌∙◌}
 use native.Mathlib.Omega.{arith}
 use native.Mathlib.Numerals.{add-one, add-two}
 use borrow.Author.Tests.{leb-true, leb-false}
 use lib.Dec.{leb}
-use lib.ListN.{length, drop, get_or, length-drop, drop_of_length-le, length-append}
+use lib.ListN.{length, drop, length-drop, length-append}
 use lib.Seq.{drop-cons}
-use Rattle.unicode_standard.specs.Unicode.{Piece, scalar, malformed, utf8, piece_text, pieces_text, replacements_in, replacements, Range, range, within, First, read_from, units, high_surrogates, low_surrogates, pair_of, unit_of, utf16_pieces}
+use Rattle.unicode_standard.specs.Unicode.{Piece, scalar, malformed, utf8, piece_text, pieces_text, replacements_in, replacements, within, read_from, units, high_surrogates, low_surrogates, pair_of, unit_of, utf16_pieces}
 use Rattle.utf.specs.Utf16Code.{unit_at, Utf16Next}
 use Rattle.unicode_standard.specs.Unicode.{utf16_text}
 use Rattle.unicode_standard.proofs.Reading.{read_cons, read_most}

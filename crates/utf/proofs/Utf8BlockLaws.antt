@@ -5,13 +5,13 @@ use mathlib.Core.List.{List, [], ◌∷◌}
 use mathlib.Core.Logic.{⊎_elim}
 use mathlib.Core.Path.{◌≡◌, refl, sym, subst, ◌∙◌}
 use native.Mathlib.Omega.{arith}
-use borrow.Author.Tests.{ltb-true, ltb-false, lt-ltb, leb-true, leb-false, le-leb, lt-leb, eqb-true, eqb-false, eq-eqb, not-false}
+use borrow.Author.Tests.{ltb-true, ltb-false, lt-ltb, leb-false, le-leb, lt-leb, eqb-true, eqb-false, eq-eqb, not-false}
 use borrow.Author.Count.{below_more}
 use native.Mathlib.Numerals.{add-one, add-two, add-three}
 use lib.Dec.{leb, ltb, eqb}
-use lib.ListN.{length, get_or, take, drop, length-take, length-drop}
+use lib.ListN.{length, get_or, take, drop, length-drop}
 use lib.Seq.{get_or-take, get_or-drop, length-take-le}
-use Rattle.unicode_standard.specs.Unicode.{Range, range, within, trail, table_3_7}
+use Rattle.unicode_standard.specs.Unicode.{range, within, trail, table_3_7}
 use Rattle.unicode_standard.proofs.Ranges.{never, inside, is_inside, is_above, outside}
 use Rattle.utf.specs.Utf8Code.{trail_at, ranges, PieceAt, fit_after, Good}
 use Rattle.utf.specs.Utf8Blocks.{wanted, Follows, Each, Joined, Ends, led}

@@ -1,21 +1,19 @@
 -- Laws of the UTF-8 definitions of specs/Unicode.antt, for the loops over them. Assumes nothing.
-use Prim.Native.Nat.{ℕ, zero, suc, ◌+◌, ◌*◌, ◌-◌, ◌/◌, ◌%◌, ◌≤◌, ◌<◌}
+use Prim.Native.Nat.{ℕ, zero, suc, ◌+◌, ◌≤◌, ◌<◌}
 use mathlib.Core.Bool.{Bool, true, false, cond}
-use mathlib.Core.List.{List, [], ◌∷◌, ◌++◌}
-use mathlib.Core.Option.{Option, none, some}
+use mathlib.Core.List.{List, [], ◌∷◌}
+use mathlib.Core.Option.{none, some}
 use mathlib.Core.Path.{◌≡◌, refl, sym, ap, ◌∙◌}
 use native.Mathlib.Omega.{arith}
 use native.Mathlib.Numerals.{add-one, add-two, add-three}
-use native.Mathlib.Nat.{not-suc-le-zero, le_of_suc-le-suc}
-use borrow.Author.Tests.{ltb-true, ltb-false, lt-ltb, le-ltb, le-leb, lt-leb, eq-eqb, ne_eqb, eqb-true, eqb-false}
+use borrow.Author.Tests.{ltb-true, ltb-false, lt-ltb, le-leb, lt-leb, ne_eqb, eqb-true, eqb-false}
 use lib.Dec.{leb, ltb, eqb}
-use lib.ListN.{replicate, length, take, drop, get_or, drop_of_length-le, length-replicate}
-use lib.Seq.{drop-cons, drop-nil}
-use Rattle.unicode_standard.specs.Unicode.{Piece, scalar, malformed, utf8, piece_text, pieces_text, Range, Sequence, range, sequence, trail, within, table_3_7, sequence_in, fit, scalar_from, First, first_by, first_of, utf8_pieces}
+use lib.ListN.{replicate, length, drop, get_or, drop_of_length-le, length-replicate}
+use lib.Seq.{drop-cons}
+use Rattle.unicode_standard.specs.Unicode.{scalar, malformed, Range, Sequence, range, sequence, trail, within, table_3_7, sequence_in, fit, first_by, first_of}
 use Rattle.utf.specs.Utf8Code.{trail_at, first_at, is_scalar, ranges, PieceAt, fit_after, lowest_after, highest_after, with_first, Coded, Common}
 use Rattle.utf.specs.declared.utf8.Look.TheVariants.{Known}
 use Rattle.utf.specs.declared.utf8.Standing.TheVariants.{WellFormed, Malformed}
-use Rattle.unicode_standard.specs.Unicode.{utf8_text}
 
 -- ---- which row of the table a byte begins
 

@@ -6,12 +6,10 @@ use mathlib.Core.Option.{Option, none, some}
 use mathlib.Core.Path.{◌≡◌, refl, sym, ap, subst, ◌∙◌}
 use native.Mathlib.Omega.{arith}
 use native.Mathlib.Nat.{not-suc-le-zero}
-use native.Mathlib.Numerals.{add-one}
-use borrow.Author.Tests.{ltb-true, ltb-false, leb-true}
 use lib.Dec.{T}
 use lib.ListN.{length, take, drop, get_or, length-drop, drop_of_length-le, length-append}
 use lib.Seq.{drop-cons, drop-drop, take-add, take_at, length-take-le}
-use Rattle.unicode_standard.specs.Unicode.{Piece, scalar, malformed, utf8, piece_text, pieces_text, replacements_in, replacements, Range, Sequence, within, fit, First, first_by, first_of, sequence_in, table_3_7, read_from, utf8_pieces}
+use Rattle.unicode_standard.specs.Unicode.{Piece, scalar, malformed, utf8, piece_text, pieces_text, replacements_in, replacements, Range, Sequence, within, fit, first_by, first_of, sequence_in, table_3_7, read_from, utf8_pieces}
 use Rattle.utf.specs.Utf8Code.{first_at, is_scalar, PieceAt, Good, Stop}
 use Rattle.unicode_standard.specs.Unicode.{utf8_text}
 use Rattle.utf.specs.Ascii.{AsciiRun}

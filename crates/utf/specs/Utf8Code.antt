@@ -1,5 +1,5 @@
 -- What the UTF-8 functions of src/utf8.rt say of a position in a slice: for inner functions; no public promise rests on it. Assumes nothing.
-use Rattle.std.specs.Prelude.{ℕ, zero, suc, ◌+◌, ◌-◌, ◌≤◌, ◌<◌, Bool, true, false, cond, List, [], ◌∷◌, ◌++◌, ◌≡◌, leb, ltb, eqb, length, take, drop, get_or, replicate}
+use Rattle.std.specs.Prelude.{ℕ, suc, ◌+◌, ◌≤◌, ◌<◌, Bool, true, false, cond, List, ◌∷◌, ◌++◌, ◌≡◌, ltb, eqb, length, take, drop, get_or, replicate}
 use Rattle.utf.specs.declared.utf8.Standing.{Standing}
 use Rattle.utf.specs.declared.utf8.Standing.TheVariants.{WellFormed, Malformed}
 use Rattle.utf.specs.declared.utf8.Look.{Look}

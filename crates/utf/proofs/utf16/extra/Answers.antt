@@ -1,0 +1,9 @@
+use Prim.Native.Nat.{◌+◌}
+use Rattle.utf.specs.Utf16Code.{Extra}
+use Rattle.utf.proofs.Utf16BlockLaws.{extra}
+use Rattle.utf.proofs.utf16.extra.Goals as goal
+
+pub returns : goal.returns
+returns c =
+    let said : Extra c.args.on c.args.a c.args.b c.args.c (c.bit.result + c.bit-2.result) = extra _ _ _ _ _ _ c.between.ensures c.between-2.ensures _ _ c.bit.ensures c.bit-2.ensures in
+    said

@@ -1,5 +1,5 @@
 -- The column of a LID of a D0 group, and the environment entries that declare LIDs: Q3, Q5, Q6, Q10, N2a and N2b. Assumes nothing.
-use Rattle.std.specs.Prelude.{ℕ, Bool, true, false, cond, List, [], ◌∷◌, eqb}
+use Rattle.std.specs.Prelude.{ℕ, true, false, cond, List, [], ◌∷◌, eqb}
 use Rattle.types.specs.Types.{base_of, nullable_bit, listed_or, from_drda_type}
 use Rattle.types.specs.FixedLength.{packed_length}
 use Rattle.types.specs.Names.{named_in}

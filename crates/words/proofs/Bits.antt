@@ -1,16 +1,16 @@
 -- A signed number's bits and a float's bits, each over the width. Assumes nothing.
 use mathlib.Core.Path.{◌≡◌, refl, sym, ap, ◌∙◌, subst}
-use mathlib.Core.Bool.{Bool, true, false, not, cond, ◌&&◌, ◌||◌, beq}
-use Prim.Native.Nat.{ℕ, zero, suc, ◌+◌, ◌-◌, ◌*◌, ◌≤◌, ◌<◌, ◌^◌}
+use mathlib.Core.Bool.{Bool, true, false, not, cond, beq}
+use Prim.Native.Nat.{ℕ, suc, ◌-◌, ◌*◌, ◌≤◌, ◌<◌, ◌^◌}
 use native.Mathlib.Omega.{arith}
 use borrow.Author.Tests.{le-ltb, eq-eqb}
-use lib.Dec.{T, ltb, eqb}
+use lib.Dec.{T, ltb}
 use lib.IntN.{ℤ, pos, negsuc, nat_abs, ◌-ℤ◌}
 use lib.Signed.{lt_z, non_neg}
 use lib.Ieee.{Float, Format, nan, inf, fin, up, down, eq, is_nan, to_bits}
 use mir.Syntax.{Width, w16, w32, w64}
 use mir.Val.{Fits, SFits, bits, hbits, to_z, of_z}
-use mir.ValLaws.{pow-bits, to_z_pos, to_z-of_z, half_full}
+use mir.ValLaws.{to_z_pos, to_z-of_z, half_full}
 use Rattle.types.specs.Held.{float_bits}
 
 -- ---- -1 - z, of a negative z, is its distance from -1

@@ -1,9 +1,9 @@
 -- The words of columns are read as those columns. Assumes nothing.
 use Prim.Native.Nat.{ℕ, suc, ◌+◌, ◌*◌, ◌/◌, ◌%◌, ◌≤◌, ◌<◌, ◌^◌}
-use mathlib.Core.Path.{◌≡◌, refl, sym, ap, ◌∙◌}
-use mathlib.Core.Bool.{Bool, true, false, cond, ◌&&◌}
+use mathlib.Core.Path.{◌≡◌, refl, ap, ◌∙◌}
+use mathlib.Core.Bool.{Bool, true, false, cond}
 use mathlib.Core.List.{List, [], ◌∷◌}
-use mathlib.Core.Option.{Option, some, none}
+use mathlib.Core.Option.{some, none}
 use native.Mathlib.Omega.{arith}
 use borrow.Author.Tests.{eq-eqb}
 use Rattle.types.specs.Names.{name_of, own_numbers}
@@ -17,7 +17,7 @@ use Rattle.types.specs.declared.ColumnDescriptor.{ColumnDescriptor}
 use lib.Dec.{eqb}
 use lib.ListN.{length, drop, get_or, drop_of_length-le}
 use lib.Seq.{drop-cons}
-use Rattle.words.specs.Words.{pack_type, little_endian_bit, reference_bit, reference_width, origin_number, first_word, second_word, pack_columns, type_named}
+use Rattle.words.specs.Words.{little_endian_bit, reference_bit, reference_width, origin_number, first_word, second_word, pack_columns}
 use Rattle.words.specs.Reading.{order_named, reference_named, origin_named, column_named, is_column, read_column, joined, read_columns}
 use Rattle.words.proofs.TypeWords.{Named, named}
 use Rattle.words.proofs.Fields.{WidthFits, Fits, Fields, origin_small, fields}

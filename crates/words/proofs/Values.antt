@@ -1,19 +1,19 @@
 -- The words of a value are read as that value. Assumes nothing.
-use Prim.Native.Nat.{ℕ, zero, suc, ◌+◌, ◌-◌, ◌*◌, ◌/◌, ◌%◌, ◌≤◌, ◌<◌, ◌^◌}
-use mathlib.Core.Path.{◌≡◌, refl, sym, ap, ◌∙◌, subst}
-use mathlib.Core.Bool.{Bool, true, false, not, cond}
+use Prim.Native.Nat.{◌*◌, ◌/◌, ◌%◌, ◌<◌, ◌^◌}
+use mathlib.Core.Path.{◌≡◌, refl, ap, ◌∙◌}
+use mathlib.Core.Bool.{Bool, true, false, cond}
 use native.Mathlib.Omega.{arith}
 use lib.Dec.{T, eqb}
 use lib.IntN.{ℤ, pos, negsuc}
 use lib.Ieee.{Float, Format, binary32, binary64, is_nan, fits, nan_bits, of_bits, to_bits, top}
 use lib.Ieee.Bits.{of_bits-to_bits, to_bits-lt, nan_bits_is}
-use mir.Syntax.{Width, w16, w32, w64}
-use mir.Val.{SFits, to_z, of_z}
+use mir.Syntax.{w16, w32, w64}
+use mir.Val.{SFits, of_z}
 use mir.ValLaws.{to_z-of_z}
 use Rattle.types.specs.declared.Db2Value.{Db2Value}
 use Rattle.types.specs.declared.ValuePlace.{ValuePlace}
 use Rattle.types.specs.Held.{float_bits}
-use Rattle.numbers.specs.Number.{Number, number_value, real_of, double_of}
+use Rattle.numbers.specs.Number.{number_value, real_of, double_of}
 use Rattle.words.specs.Values.{sort_word, kind_word, number_word, length_word}
 use Rattle.words.specs.ValueReading.{variant_named, value_named}
 

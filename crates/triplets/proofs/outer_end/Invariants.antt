@@ -1,0 +1,15 @@
+use native.Mathlib.Omega.{arith}
+use mathlib.Core.Path.{◌≡◌, refl, ◌∙◌}
+use Prim.Native.Nat.{◌-◌, ◌≤◌}
+use lib.ListN.{length}
+use Rattle.triplets.specs.Steps.{end_from}
+use Rattle.triplets.proofs.ReadingLaws.{next_unread, next_some}
+use Rattle.triplets.proofs.StepLaws.{end_here, end_after}
+use borrow.Author.Rules.{rules}
+use Rattle.triplets.proofs.outer_end.Given as goal
+
+abbrev pub invariant-loop-end : goal.invariant-loop-end
+invariant-loop-end l = (l.at ≤ length l.«data») × (end_from l.«data» l.at ≡ end_from l.«data» l.start)
+
+abbrev pub decreases-loop-end : goal.decreases-loop-end
+decreases-loop-end l = length l.«data» - l.at

@@ -1,7 +1,7 @@
 -- What a function that goes by cases on the conversion shows in each. Assumes nothing.
 use Prim.Native.Nat.{ℕ, ◌≤◌}
 use mathlib.Core.List.{List}
-use mathlib.Core.Path.{◌≡◌, refl, sym, ap, subst, ◌∙◌}
+use mathlib.Core.Path.{◌≡◌, sym, ap, subst, ◌∙◌}
 use lib.ListN.{length}
 use Rattle.buffer.specs.Buffer.{overwritten}
 use Rattle.buffer.specs.declared.Written.{Written}

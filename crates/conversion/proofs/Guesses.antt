@@ -9,7 +9,7 @@ use lib.ListN.{length, take, drop}
 use lib.Seq.{length-take-le}
 use Rattle.unicode_standard.specs.Ascii.{all_ascii}
 use Rattle.unicode_standard.specs.Laws.{AreBytes}
-use Rattle.buffer.specs.Buffer.{Converted, unreplaced, overwritten}
+use Rattle.buffer.specs.Buffer.{unreplaced, overwritten}
 use Rattle.buffer.proofs.Writing.{Writing}
 use Rattle.codepage.proofs.Bound.{ebcdic_least}
 use Rattle.conversion.specs.declared.Conversion.TheVariants.{Plain, Ebcdic037}

@@ -1,7 +1,7 @@
 -- Upper-case hexadecimal text, at a position. Assumes nothing.
 use Prim.Native.Nat.{ℕ, ◌+◌, ◌/◌, ◌%◌, ◌<◌, ◌≤◌}
 use mathlib.Core.List.{List, [], ◌∷◌}
-use mathlib.Core.Path.{◌≡◌, refl}
+use mathlib.Core.Path.{◌≡◌}
 use lib.ListN.{length, drop, get_or, drop_of_length-le}
 use Rattle.conversion.specs.Hex.{hex_digit, hex_text}
 use Rattle.buffer.proofs.Writing.{next}

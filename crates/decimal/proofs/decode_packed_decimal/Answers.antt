@@ -13,4 +13,4 @@ returns-then-text-needed c = let all_of = no_room _ _ _ c.if-data-eq0.false c.if
 
 pub returns : goal.returns
 returns c =
-    let w = (c.decimal_write-written.ensures.count, c.decimal_write-written.ensures.bytes) in let all_of = fitting _ _ _ c.if-data-eq0.false c.if-data-gt-MOST_BYTES.false c.decimal_len-needed.ensures c.if-text-needed.false w.0 w.1 in record { answer = all_of.0; buffer = all_of.1 }
+    let w = c.decimal_write-written.ensures in let all_of = fitting _ _ _ c.if-data-eq0.false c.if-data-gt-MOST_BYTES.false c.decimal_len-needed.ensures c.if-text-needed.false w.count w.bytes in record { answer = all_of.0; buffer = all_of.1 }

@@ -1,5 +1,5 @@
 -- Every number of a description's columns has its bits. So the words of these columns say them (words' `reads_columns`). Assumes nothing.
-use Prim.Native.Nat.{ℕ, ◌+◌, ◌-◌, ◌*◌, ◌/◌, ◌%◌, ◌^◌, ◌≤◌, ◌<◌}
+use Prim.Native.Nat.{ℕ, ◌+◌, ◌≤◌, ◌<◌}
 use mathlib.Core.Bool.{Bool, true, false, cond}
 use mathlib.Core.List.{List, [], ◌∷◌}
 use native.Mathlib.Omega.{arith}
@@ -16,7 +16,6 @@ use Rattle.types.specs.declared.ByteOrder.{ByteOrder}
 use Rattle.types.specs.declared.ByteOrder.TheVariants.{BigEndian, LittleEndian}
 use Rattle.types.specs.declared.Origin.{Origin}
 use Rattle.types.specs.declared.Origin.TheVariants.{Sda, UndeclaredLid, DeclaredLid}
-use Rattle.types.specs.declared.ReferenceLength.{ReferenceLength}
 use Rattle.types.specs.declared.ReferenceLength.TheVariants.{Absent, Width}
 use Rattle.types.specs.declared.ColumnDescriptor.{ColumnDescriptor}
 use Rattle.column.specs.declared.Numbers.{Numbers}
@@ -26,7 +25,7 @@ use Rattle.column.specs.Group.{entry_of, no_entry, group_type, group_ccsid, unde
 use Rattle.triplets.specs.Descriptors.{columns_of}
 use Rattle.triplets.proofs.Every.{Every, Describes, every_column}
 use Rattle.numbers.specs.Number.{unsigned}
-use Rattle.qrydsc.specs.Qrydsc.{with_index, numbered}
+use Rattle.qrydsc.specs.Qrydsc.{numbered}
 use Rattle.words.proofs.TypeWords.{Fitting}
 use Rattle.words.proofs.Fields.{WidthFits, Fits}
 use Rattle.words.proofs.Columns.{AllFit}

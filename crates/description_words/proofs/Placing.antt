@@ -1,19 +1,18 @@
 -- What holds while the words of a description's columns are written: the words of the columns to come are still to be written. Assumes nothing.
-use mathlib.Core.Path.{◌≡◌, refl, sym, ap, subst, ◌∙◌}
+use mathlib.Core.Path.{◌≡◌, refl, ap, ◌∙◌}
 use mathlib.Core.List.{List, [], ◌∷◌}
 use Prim.Native.Nat.{ℕ, suc, ◌+◌, ◌*◌, ◌≤◌, ◌<◌}
 use native.Mathlib.Omega.{arith}
-use lib.ListN.{length, get_or, set}
+use lib.ListN.{length, set}
 use Rattle.buffer.specs.Buffer.{overwritten}
 use Rattle.buffer.proofs.Writing.{Writing, start, stored, fits, end}
 use Rattle.types.specs.declared.ColumnDescriptor.{ColumnDescriptor}
 use Rattle.types.specs.Places.{max_columns}
 use Rattle.column.specs.declared.EnvEntry.{EnvEntry}
-use Rattle.column.specs.Group.{first_entry, no_entry}
 use Rattle.triplets.specs.declared.Pending.TheVariants as pending
 use Rattle.triplets.specs.declared.Cursor.{Cursor}
 use Rattle.triplets.specs.declared.Cursor.TheVariants as cursor
-use Rattle.triplets.specs.Descriptors.{no_entries, declare, columns_of}
+use Rattle.triplets.specs.Descriptors.{no_entries, columns_of}
 use Rattle.triplets.specs.Steps.{to_come, CursorWithin, Goes}
 use Rattle.qrydsc.specs.Qrydsc.{with_index, numbered}
 use Rattle.qrydsc.proofs.Progress.{all_to_come}

@@ -8,7 +8,7 @@ use lib.Dec.{ltb, eqb, leb}
 use lib.ListN.{length, get_or, take, drop, length-drop, length-append, take-append-drop}
 use lib.Seq.{take_at, drop_at, take-length, take-append-add, length-take-le}
 use borrow.Author.Tests.{ltb-true, ltb-false, le-leb, lt-leb, leb-true}
-use Rattle.refusal.specs.Refusal.{Told, accepted, refused, told_number}
+use Rattle.refusal.specs.Refusal.{Told, accepted, told_number}
 use Rattle.types.specs.declared.ColumnDescriptor.{ColumnDescriptor}
 use Rattle.types.specs.declared.Columns.{Columns}
 use Rattle.types.specs.Places.{max_columns, column_list}

@@ -2,7 +2,7 @@
 use mathlib.Core.Path.{◌≡◌, refl, sym, ap, ◌∙◌}
 use mathlib.Core.Bool.{Bool, true, false, cond, ◌&&◌}
 use mathlib.Core.List.{List, [], ◌∷◌}
-use Prim.Native.Nat.{ℕ, zero, suc, ◌+◌, ◌-◌, ◌≤◌, ◌<◌}
+use Prim.Native.Nat.{ℕ, zero, suc, ◌+◌, ◌-◌, ◌≤◌}
 use native.Mathlib.Omega.{arith}
 use native.Mathlib.Nat.{not-suc-le-zero}
 use lib.Dec.{leb}
@@ -11,7 +11,7 @@ use lib.Seq.{slice, drop-drop, length-slice}
 use borrow.Author.Tests.{leb-true}
 use Rattle.triplets.specs.declared.Next.{Next}
 use Rattle.triplets.specs.declared.Next.TheVariants as next
-use Rattle.triplets.specs.Triplets.{Triplet, Reading, triplet, begins, first_triplet, stopped, cons_triplet, reading_of, reading}
+use Rattle.triplets.specs.Triplets.{Reading, triplet, begins, first_triplet, stopped, cons_triplet, reading_of, reading}
 use Rattle.triplets.specs.Steps.{next_of}
 use Rattle.triplets.proofs.Slices.{slice_slice}
 

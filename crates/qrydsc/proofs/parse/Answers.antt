@@ -1,13 +1,10 @@
-use borrow.Author.Rules.{rules}
-use native.Mathlib.Omega.{arith}
 use mathlib.Core.Path.{◌∙◌}
 use borrow.Author.Tests.{lt-ltb, le-ltb}
 use Rattle.column.specs.Group.{no_entry}
 use Rattle.triplets.specs.Descriptors.{no_entries}
-use Rattle.triplets.specs.Steps.{ahead}
 use Rattle.qrydsc.proofs.Filling.{fill}
 use Rattle.qrydsc.proofs.Entries.{too_long}
-use Rattle.qrydsc.proofs.Progress.{Progress, progress_start, progress_broken, progress_any, progress_whole, progress_skip, progress_declared, progress_full, progress_column}
+use Rattle.qrydsc.proofs.Progress.{progress_start, progress_broken, progress_any, progress_whole, progress_declared, progress_full, progress_column}
 use Rattle.qrydsc.proofs.parse.Goals as goal
 
 pub returns-then-data-gt-MAX_QRYDSC : goal.returns-then-data-gt-MAX_QRYDSC

@@ -1,5 +1,4 @@
 use Rattle.types.specs.Places.{column_list, filled}
-use borrow.Author.Rules.{rules}
 use Rattle.qrydsc.proofs.refused.Goals as goal
 
 pub returns : goal.returns

@@ -1,10 +1,8 @@
-use borrow.Author.Rules.{rules}
 use native.Mathlib.Omega.{arith}
 use mathlib.Core.Path.{ap, ◌∙◌}
 use mathlib.Core.Bool.{not}
 use lib.ListN.{length}
 use Rattle.triplets.specs.Steps.{end_from, outer_at}
-use Rattle.triplets.proofs.StepLaws.{outer_within}
 use Rattle.qrydsc.proofs.Entries.{any_full, broken_full, whole_full}
 use Rattle.qrydsc.proofs.too_many.Goals as goal
 

@@ -1,6 +1,5 @@
 use borrow.Author.Tests.{lt-ltb, le-ltb, eq-eqb, ne_eqb}
 use Rattle.triplets.specs.Steps.{group_at}
-use borrow.Author.Rules.{rules}
 use Rattle.triplets.proofs.group_at.Goals as goal
 
 pub returns-then-data-start : goal.returns-then-data-start

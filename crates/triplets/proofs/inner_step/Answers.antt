@@ -1,9 +1,6 @@
 use native.Mathlib.Omega.{arith}
-use Prim.Native.Nat.{◌+◌}
-use Rattle.triplets.proofs.Slices.{part_slice}
 use Rattle.triplets.proofs.ReadingLaws.{ends, next_none, next_some}
 use Rattle.triplets.proofs.StepLaws.{inner_none, inner_column, inner_empty, inner_other}
-use borrow.Author.Rules.{rules}
 use Rattle.triplets.proofs.inner_step.Goals as goal
 
 pub returns-in_default : goal.returns-in_default

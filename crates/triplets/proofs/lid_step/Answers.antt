@@ -1,6 +1,5 @@
 use native.Mathlib.Omega.{arith}
 use Rattle.triplets.proofs.StepLaws.{lids_end, lids_more}
-use borrow.Author.Rules.{rules}
 use Rattle.triplets.proofs.lid_step.Goals as goal
 
 pub returns-then-end-at-lt3 : goal.returns-then-end-at-lt3

@@ -4,7 +4,6 @@ use lib.Seq.{length-slice}
 use Rattle.triplets.specs.Steps.{next_of}
 use Rattle.triplets.proofs.Slices.{get_d_slice}
 use Rattle.triplets.proofs.StepLaws.{first_byte}
-use borrow.Author.Rules.{rules}
 use Rattle.triplets.proofs.next_triplet.Goals as goal
 
 pub returns-then-remain-least : goal.returns-then-remain-least

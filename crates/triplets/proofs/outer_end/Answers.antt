@@ -1,11 +1,8 @@
 use native.Mathlib.Omega.{arith}
-use mathlib.Core.Path.{◌≡◌, refl, ◌∙◌}
-use Prim.Native.Nat.{◌-◌, ◌≤◌}
+use mathlib.Core.Path.{◌∙◌}
 use lib.ListN.{length}
-use Rattle.triplets.specs.Steps.{end_from}
 use Rattle.triplets.proofs.ReadingLaws.{next_unread, next_some}
 use Rattle.triplets.proofs.StepLaws.{end_here, end_after}
-use borrow.Author.Rules.{rules}
 use Rattle.triplets.proofs.outer_end.Goals as goal
 
 pub returns-in_default : goal.returns-in_default

@@ -4,7 +4,6 @@ use lib.ListN.{length}
 use Rattle.triplets.proofs.Slices.{part_slice}
 use Rattle.triplets.proofs.ReadingLaws.{next_none, next_unread, next_some}
 use Rattle.triplets.proofs.StepLaws.{end_here, outer_end, outer_empty, outer_column, outer_declare, outer_group, outer_mdd, outer_other}
-use borrow.Author.Rules.{rules}
 use Rattle.triplets.proofs.outer_step.Goals as goal
 
 pub returns-in_default : goal.returns-in_default

@@ -2,7 +2,6 @@ use native.Mathlib.Omega.{arith}
 use mathlib.Core.Path.{sym}
 use Rattle.triplets.specs.Descriptors.{last_of}
 use Rattle.triplets.proofs.StepLaws.{no_data, last_byte}
-use borrow.Author.Rules.{rules}
 use Rattle.triplets.proofs.pending_of.Goals as goal
 
 -- `triplets::pending_of` meets its contract: the last byte of the part. Assumes nothing.

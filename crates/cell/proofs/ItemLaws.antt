@@ -1,7 +1,7 @@
 -- Laws of items that the code rests on: looking for a byte that is not zero one byte on, all bytes from a place on, what a reference begins with.
 -- Assumes nothing.
 use Prim.Native.Nat.{ℕ, ◌+◌, ◌-◌, ◌≤◌, ◌<◌}
-use mathlib.Core.Path.{◌≡◌, refl, sym, ap, ◌∙◌, subst}
+use mathlib.Core.Path.{◌≡◌, refl, sym, ◌∙◌, subst}
 use mathlib.Core.Bool.{Bool, true, false, cond, ◌&&◌, true≢false}
 use mathlib.Core.List.{List}
 use native.Mathlib.Numerals.{add-one}
@@ -12,21 +12,17 @@ use lib.Seq.{drop-cons, take_all, length-take-le}
 use lib.Dec.{leb, eqb}
 use borrow.Author.Tests.{leb-true, eq-eqb, ne_eqb}
 use Rattle.types.specs.declared.Db2Type.{Db2Type}
-use Rattle.types.specs.declared.Db2Value.{Db2Value}
 use Rattle.types.specs.declared.ReferenceLength.{ReferenceLength}
 use Rattle.types.specs.declared.ReferenceLength.TheVariants.{Absent}
 use Rattle.types.specs.declared.ColumnDescriptor.{ColumnDescriptor}
-use Rattle.numbers.specs.Number.{Number as RowNumber, number_value}
 use Rattle.refusal.specs.Refusal.{most_bytes}
 use Rattle.types.specs.FixedLength.{packed_length}
-use Rattle.rules.specs.declared.Extent.{Extent}
 use Rattle.rules.specs.declared.Extent.TheVariants.{Fixed, Counted, Inline, Locator}
 use Rattle.rules.specs.Extent.{be32, is_reference, reference_mark, lob_need, need, lob_extent, length_extent, type_extent, extent_of}
 use Rattle.rules.specs.Meaning.{ByteSort, Item, all_zero, type_item, item_in}
 use Rattle.rules.specs.Conversions.{conversions_of}
 use Rattle.rules.proofs.Extents.{cuts}
 use Rattle.cell.specs.declared.CellItem.{CellItem}
-use Rattle.cell.specs.declared.CellItem.TheVariants as cell
 use Rattle.cell.specs.Cell.{Holds}
 
 module _ (s : List ℕ) (i : ℕ) (h : i < length s) where

@@ -1,7 +1,7 @@
 -- Laws of numbers that the code rests on: they take as many bytes as their type says, and refer to nothing. Assumes nothing.
 use Prim.Native.Nat.{ℕ}
-use mathlib.Core.Path.{◌≡◌, refl, sym, ap, ◌∙◌}
-use mathlib.Core.Bool.{Bool, false, not, ◌&&◌}
+use mathlib.Core.Path.{◌≡◌, sym, ap, ◌∙◌}
+use mathlib.Core.Bool.{false, not, ◌&&◌}
 use mathlib.Core.List.{List}
 use lib.ListN.{take}
 use Rattle.types.specs.declared.Db2Type.{Db2Type}

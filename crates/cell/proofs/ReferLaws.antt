@@ -185,3 +185,47 @@ module _ (release : ℕ) where
     -- a locator has four bytes
     pub locator_refers : (k : Lob) → need (Fixed 4) s ≡ length s → true ≡ (not (is_empty_lob (lob_reference L k s)) && true)
     locator_refers k h = rw (reference_some k s (omega (arith, fixed_there 4 s h))) refl
+
+-- a type that is none of those that can refer
+pub plain_type : (t : Db2Type) (c : ColumnDescriptor) (s : List ℕ)
+    → ((x : ℕ) → t ≡ type.VarChar x → ⊥)
+    → (t ≡ type.Clob → ⊥)
+    → (t ≡ type.Blob → ⊥)
+    → (t ≡ type.BlobLocator → ⊥)
+    → ((x : ℕ) → t ≡ type.VarGraphic x → ⊥)
+    → (t ≡ type.DbClob → ⊥)
+    → (t ≡ type.ClobLocator → ⊥)
+    → (t ≡ type.DbClobLocator → ⊥)
+    → ((x : ℕ) → t ≡ type.LobBytes x → ⊥)
+    → ((x : ℕ) → t ≡ type.LobChar x → ⊥)
+    → (t ≡ type.Xml → ⊥)
+    → type_refers t c s ≡ false
+plain_type (type.VarChar x) c s h _ _ _ _ _ _ _ _ _ _ = absurd (h x refl)
+plain_type type.Clob c s _ h _ _ _ _ _ _ _ _ _ = absurd (h refl)
+plain_type type.Blob c s _ _ h _ _ _ _ _ _ _ _ = absurd (h refl)
+plain_type type.BlobLocator c s _ _ _ h _ _ _ _ _ _ _ = absurd (h refl)
+plain_type (type.VarGraphic x) c s _ _ _ _ h _ _ _ _ _ _ = absurd (h x refl)
+plain_type type.DbClob c s _ _ _ _ _ h _ _ _ _ _ = absurd (h refl)
+plain_type type.ClobLocator c s _ _ _ _ _ _ h _ _ _ _ = absurd (h refl)
+plain_type type.DbClobLocator c s _ _ _ _ _ _ _ h _ _ _ = absurd (h refl)
+plain_type (type.LobBytes x) c s _ _ _ _ _ _ _ _ h _ _ = absurd (h x refl)
+plain_type (type.LobChar x) c s _ _ _ _ _ _ _ _ _ h _ = absurd (h x refl)
+plain_type type.Xml c s _ _ _ _ _ _ _ _ _ _ h = absurd (h refl)
+plain_type type.SmallInt c s _ _ _ _ _ _ _ _ _ _ _ = refl
+plain_type type.Integer c s _ _ _ _ _ _ _ _ _ _ _ = refl
+plain_type type.BigInt c s _ _ _ _ _ _ _ _ _ _ _ = refl
+plain_type type.Real c s _ _ _ _ _ _ _ _ _ _ _ = refl
+plain_type type.Double c s _ _ _ _ _ _ _ _ _ _ _ = refl
+plain_type (type.Decimal x y) c s _ _ _ _ _ _ _ _ _ _ _ = refl
+plain_type (type.DecFloat x) c s _ _ _ _ _ _ _ _ _ _ _ = refl
+plain_type (type.Char x) c s _ _ _ _ _ _ _ _ _ _ _ = refl
+plain_type type.LongVarChar c s _ _ _ _ _ _ _ _ _ _ _ = refl
+plain_type (type.Binary x) c s _ _ _ _ _ _ _ _ _ _ _ = refl
+plain_type (type.VarBinary x) c s _ _ _ _ _ _ _ _ _ _ _ = refl
+plain_type type.Date c s _ _ _ _ _ _ _ _ _ _ _ = refl
+plain_type type.Time c s _ _ _ _ _ _ _ _ _ _ _ = refl
+plain_type type.Timestamp c s _ _ _ _ _ _ _ _ _ _ _ = refl
+plain_type (type.Graphic x) c s _ _ _ _ _ _ _ _ _ _ _ = refl
+plain_type (type.RowId x) c s _ _ _ _ _ _ _ _ _ _ _ = refl
+plain_type type.Boolean c s _ _ _ _ _ _ _ _ _ _ _ = refl
+plain_type type.Null c s _ _ _ _ _ _ _ _ _ _ _ = refl

@@ -1,5 +1,5 @@
 -- For inner functions; no public promise rests on it. Assumes nothing.
-use Rattle.std.specs.Prelude.{ℕ, ◌≤◌, ◌≡◌, Bool, true, false, cond, not, ◌||◌, List, [], drop}
+use Rattle.std.specs.Prelude.{ℕ, ◌≤◌, ◌≡◌, Bool, false, cond, not, ◌||◌, List, [], drop}
 use Rattle.types.specs.declared.ReferenceLength.{ReferenceLength}
 use Rattle.types.specs.declared.ReferenceLength.TheVariants.{Absent, Width}
 use Rattle.rules.specs.declared.Extent.{Extent}

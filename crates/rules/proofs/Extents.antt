@@ -348,27 +348,49 @@ is_short_header Inline = false
 is_short_header Locator = false
 is_short_header (Materialized n) = false
 
--- the others end themselves
-abbrev pub ends_itself : Extent → Bool
-ends_itself e = not (declares_many e || (is_locator e || is_short_header e))
+-- and all others
+abbrev pub is_unlisted : Extent → Bool
+is_unlisted e = not (declares_many e || (is_locator e || is_short_header e))
 
-pub from_2 : (n : ℕ) → ends_itself (Header n) ≡ true → 2 ≤ n
+-- those that end themselves
+unfoldable pub ends_itself : Extent → Bool
+ends_itself (Fixed n) = true
+ends_itself (Counted w) = true
+ends_itself (Header n) = leb 2 n
+ends_itself Inline = true
+ends_itself Locator = false
+ends_itself (Materialized n) = ltb n 1024
+
+pub from_2 : (n : ℕ) → is_unlisted (Header n) ≡ true → 2 ≤ n
 from_2 n t = leb-false n 1 (not_true (leb n 1) t)
 
-pub below_1024 : (n : ℕ) → ends_itself (Materialized n) ≡ true → n < 1024
+pub below_1024 : (n : ℕ) → is_unlisted (Materialized n) ≡ true → n < 1024
 below_1024 n t = leb-false 1024 n (or_left (leb 1024 n) false (not_true (leb 1024 n || false) t))
 
 fixed_stays : (n : ℕ) → Stays (need (Fixed n))
 unfolding need
 fixed_stays n s u h = refl
 
+pub unlisted_ends : (e : Extent) → is_unlisted e ≡ true → ends_itself e ≡ true
+unfolding ends_itself
+unlisted_ends (Fixed n) t = refl
+unlisted_ends (Counted w) t = refl
+unlisted_ends (Header n) t = le-leb 2 n (from_2 n t)
+unlisted_ends Inline t = refl
+unlisted_ends Locator t = t
+unlisted_ends (Materialized n) t = lt-ltb n 1024 (below_1024 n t)
+
 pub stays : (e : Extent) → ends_itself e ≡ true → Stays (need e)
+unfolding ends_itself
 stays (Fixed n) t = fixed_stays n
 stays (Counted w) t = counted_stays w
-stays (Header n) t = header_stays n (from_2 n t)
+stays (Header n) t = header_stays n (leb-true 2 n t)
 stays Inline t = inline_stays
 stays Locator t = absurd (false≢true t)
-stays (Materialized n) t = materialized_stays n (below_1024 n t)
+stays (Materialized n) t = materialized_stays n (ltb-true n 1024 t)
+
+pub unlisted_stays : (e : Extent) → is_unlisted e ≡ true → Stays (need e)
+unlisted_stays e t = stays e (unlisted_ends e t)
 
 fixed_cuts : (n : ℕ) → Cuts (need (Fixed n))
 unfolding need
@@ -436,6 +458,65 @@ column_exceptions c = type_exceptions c.db2_type c
 none_of : {a b x y z w : Bool} → a ≡ x → b ≡ y → z ≡ w → not (a || (b || z)) ≡ not (x || (y || w))
 none_of e f g = cc
 
-pub column_ends : (c : ColumnDescriptor) → carries_own_end c ≡ ends_itself (extent_of c)
+pub column_unlisted : (c : ColumnDescriptor) → carries_own_end c ≡ is_unlisted (extent_of c)
 unfolding carries_own_end
-column_ends c = let x = column_exceptions c in none_of x.0 x.1 x.2
+column_unlisted c = let x = column_exceptions c in none_of x.0 x.1 x.2
+
+-- a column that W9 does not list has an extent that ends itself
+header_ends : (b : Bool) (k unit : ℕ) → (b && leb k 1) ≡ false → ends_itself (cond b (Header k) (Counted unit)) ≡ true
+unfolding ends_itself
+header_ends true k unit e = le-leb 2 k (omega (arith, leb-false k 1 e))
+header_ends false k unit e = refl
+
+lob_ends : (r : ReferenceLength) (b : Bool) → ((is_absent r && b) || false) ≡ false → ends_itself (lob_extent r (cond b Locator Inline)) ≡ true
+unfolding ends_itself
+lob_ends (Width w) b e = refl
+lob_ends Absent true e = absurd (true≢false e)
+lob_ends Absent false e = refl
+
+xml_ends : (r : ReferenceLength) → ends_itself (lob_extent r Inline) ≡ true
+unfolding ends_itself
+xml_ends (Width w) = refl
+xml_ends Absent = refl
+
+materialized_ends : (k : ℕ) → (leb 1024 k || false) ≡ false → ends_itself (Materialized k) ≡ true
+unfolding ends_itself
+materialized_ends k e = lt-ltb k 1024 (leb-false 1024 k (or_left (leb 1024 k) false e))
+
+type_ends : (t : Db2Type) (c : ColumnDescriptor) → (is_long_materialized t || (is_lob_of_length0 t c || is_tiny_header t)) ≡ false → ends_itself (type_extent t c) ≡ true
+unfolding ends_itself
+type_ends type.SmallInt c e = refl
+type_ends type.Integer c e = refl
+type_ends type.BigInt c e = refl
+type_ends type.Real c e = refl
+type_ends type.Double c e = refl
+type_ends (type.Decimal precision scale) c e = refl
+type_ends (type.DecFloat digits) c e = refl
+type_ends (type.Char n) c e = refl
+type_ends (type.VarChar n) c e = header_ends (leb 0x8000 n) (low15 n) 1 e
+type_ends type.LongVarChar c e = refl
+type_ends type.Clob c e = lob_ends c.extdta_reference_length (eqb c.length 0) e
+type_ends (type.Binary n) c e = refl
+type_ends (type.VarBinary n) c e = refl
+type_ends type.Blob c e = lob_ends c.extdta_reference_length (eqb c.length 0) e
+type_ends type.BlobLocator c e = refl
+type_ends type.Date c e = refl
+type_ends type.Time c e = refl
+type_ends type.Timestamp c e = refl
+type_ends (type.Graphic n) c e = refl
+type_ends (type.VarGraphic n) c e = header_ends (leb 0x8000 n) (low15 n) (graphic_unit c) e
+type_ends type.DbClob c e = lob_ends c.extdta_reference_length (eqb c.length 0) e
+type_ends type.ClobLocator c e = refl
+type_ends type.DbClobLocator c e = refl
+type_ends (type.LobBytes n) c e = materialized_ends (low15 n) e
+type_ends (type.LobChar n) c e = materialized_ends (low15 n) e
+type_ends (type.RowId n) c e = refl
+type_ends type.Boolean c e = refl
+type_ends type.Xml c e = xml_ends c.extdta_reference_length
+type_ends type.Null c e = refl
+
+pub column_ends : (c : ColumnDescriptor) → carries_own_end c ≡ true → ends_itself (extent_of c) ≡ true
+unfolding carries_own_end
+column_ends c e =
+    let t = c.db2_type in
+    type_ends t c (not_true (is_long_materialized t || (is_lob_of_length0 t c || is_tiny_header t)) e)

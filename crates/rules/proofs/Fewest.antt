@@ -30,7 +30,7 @@ use Rattle.rules.specs.Waiting.{TooShort, Accepts, zero_bytes, settling, lacking
 use Rattle.rules.specs.WaitingCall.{ReachesWalk, AcceptsIn}
 use Rattle.rules.specs.Fewest.{shortest, fewest_need, fewest_cell, fewest_taken, fewest_for, Fewest, WaitingLimit}
 use Rattle.rules.proofs.Tests.{lt_or_le, is_false, and_left, and_right}
-use Rattle.rules.proofs.Extents.{ends_itself, from_2, below_1024, column_ends, be32_of_02, is_reference_lem, reference_is, counted_short, counted_long, header_total, header_short, header_long, lob_short, lob_reference_lem, lob_plain, materialized_below}
+use Rattle.rules.proofs.Extents.{is_unlisted, from_2, below_1024, column_unlisted, be32_of_02, is_reference_lem, reference_is, counted_short, counted_long, header_total, header_short, header_long, lob_short, lob_reference_lem, lob_plain, materialized_below}
 use Rattle.rules.proofs.Walks.{is_done, used_of, cell_stays, walk_first, walk_rest, done_walk, short_walk}
 use Rattle.rules.proofs.Rows.{skip_fits, walk_row_at}
 use Rattle.rules.proofs.Zeros.{length_zeros, bytes_append, zeros_bytes, not_reference, settles}
@@ -123,7 +123,7 @@ unfolding need
 fixed_is n s = refl
 
 -- a value of which nothing is there
-none_least : (e : Extent) → ends_itself e ≡ true → (u : List ℕ) → need e u ≤ length u → shortest e ≤ need e u
+none_least : (e : Extent) → is_unlisted e ≡ true → (u : List ℕ) → need e u ≤ length u → shortest e ≤ need e u
 unfolding need
 none_least (Fixed n) t u h = omega arith
 none_least (Counted w) t u h = go (leb 2 (length u))
@@ -141,7 +141,7 @@ none_least Locator t u h = absurd (false≢true t)
 none_least (Materialized n) t u h = le_of_eq (sym (materialized_below n u (below_1024 n t)))
 
 -- and one that begins with x
-some_least : (e : Extent) → ends_itself e ≡ true → (x : ℕ) (s u : List ℕ) → AreBytes u → need e (x ∷ s ++ u) ≤ length (x ∷ s ++ u)
+some_least : (e : Extent) → is_unlisted e ≡ true → (x : ℕ) (s u : List ℕ) → AreBytes u → need e (x ∷ s ++ u) ≤ length (x ∷ s ++ u)
     → need e (x ∷ s ++ zero_bytes (settling e)) ≤ need e (x ∷ s ++ u)
 some_least (Fixed n) t x s u b h = le_of_eq (fixed_is n (x ∷ s ++ zero_bytes 0) ∙ sym (fixed_is n (x ∷ s ++ u)))
 some_least (Counted w) t x s u b h = counted_least w (x ∷ s) u h
@@ -151,7 +151,7 @@ some_least Locator t x s u b h = absurd (false≢true t)
 some_least (Materialized n) t x s u b h =
     let l = below_1024 n t in le_of_eq (materialized_below n (x ∷ s ++ zero_bytes n) l ∙ sym (materialized_below n (x ∷ s ++ u) l))
 
-least : (e : Extent) → ends_itself e ≡ true → AtLeast (need e) (fewest_need e)
+least : (e : Extent) → is_unlisted e ≡ true → AtLeast (need e) (fewest_need e)
 unfolding fewest_need
 least e t [] u b h = none_least e t u h
 least e t (x ∷ s) u b h = some_least e t x s u b h
@@ -175,7 +175,7 @@ nullable_least e f (x ∷ s) u b h = go (eqb x 255) h
 abbrev There : (List ℕ → ℕ) → (List ℕ → ℕ) → Type 0
 There f g = (s : List ℕ) → g s ≤ length s → f s ≡ g s
 
-none_there : (e : Extent) → ends_itself e ≡ true → shortest e ≤ 0 → need e [] ≡ shortest e
+none_there : (e : Extent) → is_unlisted e ≡ true → shortest e ≤ 0 → need e [] ≡ shortest e
 none_there (Fixed n) t h = fixed_is n []
 none_there (Counted w) t h = absurd (omega arith)
 none_there (Header n) t h = absurd (omega arith)
@@ -184,7 +184,7 @@ none_there Locator t h = absurd (omega arith)
 none_there (Materialized n) t h = materialized_below n [] (below_1024 n t)
 
 -- by the law of zeros, where some are there
-there : (e : Extent) → ends_itself e ≡ true → There (need e) (fewest_need e)
+there : (e : Extent) → is_unlisted e ≡ true → There (need e) (fewest_need e)
 unfolding fewest_need
 there e t [] h = none_there e t h
 there e t (b ∷ s) h = ap (need e) (sym (append-nil (b ∷ s))) ∙ settles e (b ∷ s) (settling e) 0 (omega arith) (omega (arith, h))
@@ -203,7 +203,7 @@ nullable_there e f (b ∷ s) h = go (eqb b 255) h
 abbrev Filled : (List ℕ → ℕ) → (List ℕ → ℕ) → Type 0
 Filled f g = (s : List ℕ) → length s < g s → (v : List ℕ) × AreBytes v × (length (s ++ v) ≡ g s) × (f (s ++ v) ≡ g s)
 
-none_fills : (e : Extent) → ends_itself e ≡ true → (v : List ℕ) × AreBytes v × (length v ≡ shortest e) × (need e v ≡ shortest e)
+none_fills : (e : Extent) → is_unlisted e ≡ true → (v : List ℕ) × AreBytes v × (length v ≡ shortest e) × (need e v ≡ shortest e)
 unfolding need says_header lob_need is_reference unsigned
 none_fills (Fixed n) t = (zero_bytes n, zeros_bytes n, length_zeros [] n ∙ zero-add n, refl)
 none_fills (Counted w) t = (zero_bytes 2, zeros_bytes 2, refl, ap (λ (x : ℕ). 2 + x) (mul-zero w))
@@ -217,7 +217,7 @@ none_fills Inline t = (zero_bytes 4, zeros_bytes 4, refl, refl)
 none_fills Locator t = absurd (false≢true t)
 none_fills (Materialized n) t = (zero_bytes n, zeros_bytes n, length_zeros [] n ∙ zero-add n, materialized_below n (zero_bytes n) (below_1024 n t))
 
-fills : (e : Extent) → ends_itself e ≡ true → Filled (need e) (fewest_need e)
+fills : (e : Extent) → is_unlisted e ≡ true → Filled (need e) (fewest_need e)
 unfolding fewest_need
 fills e t [] h = none_fills e t
 fills e t (b ∷ s) h =
@@ -242,8 +242,8 @@ nullable_fills e f (b ∷ s) h = go (eqb b 255) h
 -- ---- a column
 
 module _ (c : ColumnDescriptor) (own : carries_own_end c ≡ true) where
-  ends : ends_itself (extent_of c) ≡ true
-  ends = sym (column_ends c) ∙ own
+  ends : is_unlisted (extent_of c) ≡ true
+  ends = sym (column_unlisted c) ∙ own
 
   -- as by_indicator, of what is taken beside the fewest
   by_both : (P : (List ℕ → ℕ) → (List ℕ → ℕ) → Type 0) → P (nullable_need (extent_of c)) (fewest_cell true (extent_of c)) → P (need (extent_of c)) (fewest_need (extent_of c))

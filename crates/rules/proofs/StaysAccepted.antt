@@ -19,7 +19,7 @@ use Rattle.rules.specs.OwnEnd.{is_long_materialized, is_lob_of_length0, is_tiny_
 use Rattle.rules.specs.Walk.{nullable_need, column_need, cell_of, walk, walk_row, skip_of}
 use Rattle.rules.specs.Waiting.{Accepts, zero_bytes, settling, filled_need, keeps_acceptance, all_keep_acceptance, StaysAccepted}
 use Rattle.rules.proofs.Tests.{lt_or_le, not_true, and_left, and_right, or_right}
-use Rattle.rules.proofs.Extents.{is_locator, is_short_header, ends_itself, stays, whole_of, short_is, is_short_reference_lem, materialized_there, column_exceptions}
+use Rattle.rules.proofs.Extents.{is_locator, is_short_header, is_unlisted, unlisted_stays, whole_of, short_is, is_short_reference_lem, materialized_there, column_exceptions}
 use Rattle.rules.proofs.Walks.{is_done, used_of, done_walk, by_indicator, walk_step, walk_first, walk_rest, cons_done}
 use Rattle.rules.proofs.Rows.{skip_append, skip_fits, walk_row_at}
 use Rattle.rules.proofs.Zeros.{length_zeros, zeros_zeros, settled_alike}
@@ -53,10 +53,10 @@ materialized_keeps n s u h = go (is_short_reference n s) refl
         inl (materialized_there n (s ++ u) (omega (arith, length-append s u)) ∙ sym w)
 
 keeps : (e : Extent) → (is_locator e || is_short_header e) ≡ false → Keeps (need e)
-keeps (Fixed n) t s u h = inl (stays (Fixed n) refl s u h)
-keeps (Counted w) t s u h = inl (stays (Counted w) refl s u h)
-keeps (Header n) t s u h = inl (stays (Header n) (ap not t) s u h)
-keeps Inline t s u h = inl (stays Inline refl s u h)
+keeps (Fixed n) t s u h = inl (unlisted_stays (Fixed n) refl s u h)
+keeps (Counted w) t s u h = inl (unlisted_stays (Counted w) refl s u h)
+keeps (Header n) t s u h = inl (unlisted_stays (Header n) (ap not t) s u h)
+keeps Inline t s u h = inl (unlisted_stays Inline refl s u h)
 keeps Locator t s u h = absurd (true≢false t)
 keeps (Materialized n) t s u h = materialized_keeps n s u h
 
@@ -110,10 +110,10 @@ materialized_zeros n s j k p h = go (is_short_reference n (s ++ zero_bytes k)) r
         inl (omega (arith, h, w, materialized_there n (s ++ zero_bytes j) (omega (arith, p, length_zeros s j))))
 
 -- where it stays, zeros that settle it change nothing
-ending_zeros : (e : Extent) → ends_itself e ≡ true → (s : List ℕ) (j k : ℕ) → settling e ≤ j → need e (s ++ zero_bytes k) ≤ length s + k → need e (s ++ zero_bytes j) ≤ length s + k
+ending_zeros : (e : Extent) → is_unlisted e ≡ true → (s : List ℕ) (j k : ℕ) → settling e ≤ j → need e (s ++ zero_bytes k) ≤ length s + k → need e (s ++ zero_bytes j) ≤ length s + k
 ending_zeros e t s j k p h =
     let i = k + settling e in
-    let a = stays e t (s ++ zero_bytes k) (zero_bytes (settling e)) (omega (arith, h, length_zeros s k)) in
+    let a = unlisted_stays e t (s ++ zero_bytes k) (zero_bytes (settling e)) (omega (arith, h, length_zeros s k)) in
     let b = ap (need e) (zeros_zeros s k (settling e)) in
     omega (arith, h, a, b, settled_alike e s j i p (omega arith))
 

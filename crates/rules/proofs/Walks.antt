@@ -73,7 +73,7 @@ by_indicator P c nulls plain = go c.nullable
     go false = plain
 
 pub cell_stays : (c : ColumnDescriptor) → carries_own_end c ≡ true → Stays (column_need c)
-cell_stays c own = let h = stays (extent_of c) (sym (column_ends c) ∙ own) in by_indicator Stays c (nullable_stays (extent_of c) h) h
+cell_stays c own = let h = stays (extent_of c) (column_ends c own) in by_indicator Stays c (nullable_stays (extent_of c) h) h
 
 cell_cuts : (c : ColumnDescriptor) → Cuts (column_need c)
 cell_cuts c = let h = cuts (extent_of c) in by_indicator Cuts c (nullable_cuts (extent_of c) h) h

@@ -1,14 +1,13 @@
 -- For inner functions; no public promise rests on it. The cell that a column makes of the rest of the row, and its text. Assumes nothing.
-use Rattle.std.specs.Prelude.{ℕ, ◌+◌, ◌≤◌, ◌<◌, ◌≡◌, Bool, true, false, cond, List, [], ◌∷◌, eqb, length, take, drop}
+use Rattle.std.specs.Prelude.{ℕ, ◌+◌, ◌≤◌, ◌≡◌, Bool, true, false, cond, List, [], ◌∷◌, eqb, length, take, drop}
 use Rattle.types.specs.declared.ColumnDescriptor.{ColumnDescriptor}
 use Rattle.types.specs.declared.Db2Type.{Db2Type}
 use Rattle.types.specs.declared.Db2Type.TheVariants as type
 use Rattle.types.specs.declared.Db2Value.{Db2Value}
 use Rattle.types.specs.declared.ValuePlace.{ValuePlace}
 use Rattle.types.specs.Names.{named_in}
-use Rattle.rules.specs.declared.Extent.TheVariants.{Fixed}
-use Rattle.rules.specs.Extent.{need, extent_of, type_extent}
-use Rattle.rules.specs.Meaning.{type_item, item_in}
+use Rattle.rules.specs.Extent.{need, extent_of}
+use Rattle.rules.specs.Meaning.{item_in}
 use Rattle.rules.specs.Walk.{Cell, absent, present, column_need, cell_of}
 use Rattle.rules.specs.Row.{place, part_value, text_value, start_of, item_text, item_replaced, cell_item}
 use Rattle.rules.specs.Conversions.{conversions_of}

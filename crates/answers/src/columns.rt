@@ -150,7 +150,7 @@ fn more_columns_at(line: &[u8], at: usize, count: usize) -> usize {
 
 // The number of columns, and each behind a space; a column's number is its place. A count above 128, for which the row call has a refusal, says more
 // columns than a list has places for.
-pub fn columns_at(line: &[u8], at: usize, full: bool, columns: Columns) -> usize {
+pub fn columns_at(line: &[u8], at: usize, full: bool, columns: &Columns) -> usize {
     let count = columns.count;
     let mut p = decimal_at(line, at, count as u64);
     let mut i: usize = 0;

@@ -96,7 +96,7 @@ fn value_at<'a>(
 fn values_at<'a>(
     line: &[u8],
     at: usize,
-    answer: RowAnswer,
+    answer: &RowAnswer,
     count: usize,
     row: &'a [u8],
     text: &'a [u8],
@@ -133,7 +133,7 @@ fn external_at(line: &[u8], start: usize, at: usize, v: ValuePlace, i: usize) ->
 }
 
 // The external columns, by commas, or `-` where there are none.
-fn externals_at(line: &[u8], at: usize, answer: RowAnswer, count: usize) -> usize {
+fn externals_at(line: &[u8], at: usize, answer: &RowAnswer, count: usize) -> usize {
     if MAX_COLUMNS < count {
         return NOWHERE;
     }
@@ -155,7 +155,7 @@ fn externals_at(line: &[u8], at: usize, answer: RowAnswer, count: usize) -> usiz
 fn accepted_at<'a>(
     line: &[u8],
     full: bool,
-    answer: RowAnswer,
+    answer: &RowAnswer,
     count: usize,
     row: &'a [u8],
     text: &'a [u8],
@@ -172,7 +172,7 @@ fn accepted_at<'a>(
 }
 
 // SHORT <expected> <actual>, or REFUSE and a number.
-fn refused_at(line: &[u8], answer: RowAnswer) -> usize {
+fn refused_at(line: &[u8], answer: &RowAnswer) -> usize {
     let outcome = answer.outcome;
     let number = outcome.number();
     if number != 8 {
@@ -190,7 +190,7 @@ fn refused_at(line: &[u8], answer: RowAnswer) -> usize {
 pub fn is_answer<'a>(
     line: &[u8],
     full: bool,
-    answer: RowAnswer,
+    answer: &RowAnswer,
     count: usize,
     row: &'a [u8],
     text: &'a [u8],

@@ -10,6 +10,7 @@ ghost use Rattle.edges.specs.Edges.{Given, values, too_short, text_found, within
 
 use check::same;
 use refusal::{BUFFER_TOO_SHORT, Outcome};
+use std::io::Stdout;
 use types::{Db2Value, MAX_COLUMNS, Place, RowAnswer, ValuePlace};
 
 // The text buffer that each case is given: 24 bytes, all of them AA.
@@ -36,11 +37,12 @@ fn decode(description: &[u8], row: &[u8]) -> Decoded {
     let d = qrydsc::parse_qrydsc(description);
     let outcome = d.outcome;
     let columns = d.columns;
+    let count = columns.count;
     let mut text = [BEFORE; TEXT];
     let answer = row::decode_row(row, columns, RELEASE, &mut text);
     Decoded {
         description: outcome,
-        columns: columns.count,
+        columns: count,
         answer,
         text,
     }
@@ -131,7 +133,7 @@ fn same_value_place(want: ValuePlace, got: ValuePlace) -> bool {
 }
 
 // Whether the first two value places are these, and all the others blank.
-fn has_values(answer: RowAnswer, first: ValuePlace, second: ValuePlace) -> bool {
+fn has_values(answer: &RowAnswer, first: ValuePlace, second: ValuePlace) -> bool {
     let blank = within(Db2Value::Null);
     let mut want = [blank; MAX_COLUMNS];
     want[0] = first;
@@ -170,7 +172,7 @@ fn byte_after(texts: &[u8], i: usize) -> u8 {
 }
 
 // Whether value_bytes shows these bytes of the value at a place.
-fn has_bytes(d: Decoded, row: &[u8], value: ValuePlace, bytes: &[u8]) -> bool {
+fn has_bytes(d: &Decoded, row: &[u8], value: ValuePlace, bytes: &[u8]) -> bool {
     let text = d.text;
     let shown = value.value;
     same(row::value_bytes(shown, row, &text), bytes)
@@ -178,7 +180,7 @@ fn has_bytes(d: Decoded, row: &[u8], value: ValuePlace, bytes: &[u8]) -> bool {
 
 // Whether all but the values' bytes is as in the table: an accepted description of so many columns, an accepted row.
 fn is_accepted_row(
-    d: Decoded,
+    d: &Decoded,
     columns: usize,
     first: ValuePlace,
     second: ValuePlace,
@@ -186,7 +188,7 @@ fn is_accepted_row(
     used: usize,
 ) -> bool {
     let description = d.description;
-    let answer = d.answer;
+    let answer = &d.answer;
     let outcome = answer.outcome;
     let text = d.text;
     if !is_accepted(description) {
@@ -220,11 +222,10 @@ fn is_one(
     used: usize,
 ) -> bool {
     let d = decode(description, row);
-    if !is_accepted_row(d, 1, value, within(Db2Value::Null), texts, used) {
+    if !is_accepted_row(&d, 1, value, within(Db2Value::Null), texts, used) {
         return false;
     }
-    let answer = d.answer;
-    has_bytes(d, row, answer.places[0], bytes)
+    has_bytes(&d, row, d.answer.places[0], bytes)
 }
 
 // A description of two columns, the first a number or Null, and a row.
@@ -238,21 +239,20 @@ fn are_two(
     used: usize,
 ) -> bool {
     let d = decode(description, row);
-    if !is_accepted_row(d, 2, first, second, texts, used) {
+    if !is_accepted_row(&d, 2, first, second, texts, used) {
         return false;
     }
-    let answer = d.answer;
-    if !has_bytes(d, row, answer.places[0], b"") {
+    if !has_bytes(&d, row, d.answer.places[0], b"") {
         return false;
     }
-    has_bytes(d, row, answer.places[1], bytes)
+    has_bytes(&d, row, d.answer.places[1], bytes)
 }
 
 // A description of one column and a row that is too short for it: all places are blank, no byte is used or written, no character replaced.
 fn is_short(description: &[u8], row: &[u8], expected: usize, actual: usize) -> bool {
     let d = decode(description, row);
     let parsed = d.description;
-    let answer = d.answer;
+    let answer = &d.answer;
     let outcome = answer.outcome;
     let text = d.text;
     let blank = within(Db2Value::Null);
@@ -277,7 +277,7 @@ fn is_short(description: &[u8], row: &[u8], expected: usize, actual: usize) -> b
     if !has_text(text, b"") {
         return false;
     }
-    has_bytes(d, row, answer.places[0], b"")
+    has_bytes(&d, row, answer.places[0], b"")
 }
 
 // A packed decimal of this scale, and its text.
@@ -297,17 +297,18 @@ fn is_decimal(data: &[u8], scale: u8, want: &[u8]) -> bool {
     has_text(text, want)
 }
 
-fn tell(letter: u8, is_same: bool) {
-    io::write_all(libc::STDOUT_FILENO, &[letter]);
+fn tell(out: Stdout, letter: u8, is_same: bool) {
+    let _ = out.write_all(&[letter]);
     if is_same {
-        io::write_all(libc::STDOUT_FILENO, b" same\n");
+        let _ = out.write_all(b" same\n");
         return;
     }
-    io::write_all(libc::STDOUT_FILENO, b" differs\n");
+    let _ = out.write_all(b" differs\n");
 }
 
 // A case of one column.
 fn one(
+    out: Stdout,
     letter: u8,
     description: &[u8],
     row: &[u8],
@@ -320,11 +321,16 @@ fn one(
     requires { IsEdge letter (Given.row_case description.now row.now) (values (record { value = value; external = external } ∷ []) texts.now (bytes.now ∷ []) used) }
 {
     let place = ValuePlace { value, external };
-    tell(letter, is_one(description, row, place, texts, bytes, used));
+    tell(
+        out,
+        letter,
+        is_one(description, row, place, texts, bytes, used),
+    );
 }
 
 // A case of two columns, neither external, of which the first has no bytes to show.
 fn two(
+    out: Stdout,
     letter: u8,
     description: &[u8],
     row: &[u8],
@@ -339,23 +345,31 @@ fn two(
     let place = within(first);
     let next = within(second);
     tell(
+        out,
         letter,
         are_two(description, row, place, next, texts, bytes, used),
     );
 }
 
 // A case of one column, for which the row is too short.
-fn too_short(letter: u8, description: &[u8], row: &[u8], expected: usize, actual: usize)
+fn too_short(
+    out: Stdout,
+    letter: u8,
+    description: &[u8],
+    row: &[u8],
+    expected: usize,
+    actual: usize,
+)
     requires { IsEdge letter (Given.row_case description.now row.now) (too_short 1 expected actual) }
 {
-    tell(letter, is_short(description, row, expected, actual));
+    tell(out, letter, is_short(description, row, expected, actual));
 }
 
 // A case of a packed decimal.
-fn packed_decimal(letter: u8, data: &[u8], scale: u8, want: &[u8])
+fn packed_decimal(out: Stdout, letter: u8, data: &[u8], scale: u8, want: &[u8])
     requires { IsEdge letter (Given.decimal_case «data».now scale) (text_found want.now) }
 {
-    tell(letter, is_decimal(data, scale, want));
+    tell(out, letter, is_decimal(data, scale, want));
 }
 
 // The descriptions that several cases share.
@@ -367,10 +381,11 @@ const HEADER_OF_ONE_BYTE: [u8; 7] = [0x07, 0x70, 0x32, 0x80, 0x01, 0x04, 0xB8];
 
 const CLOB_OF_LENGTH_0: [u8; 6] = [0x06, 0x76, 0xD0, 0xCA, 0x00, 0x00];
 
-fn a() {
+fn a(out: Stdout) {
     let integer = [0x05, 0x70, 0x02, 0x00, 0x04];
     let row = [0x2A, 0x00, 0x00, 0x00];
     one(
+        out,
         b'A',
         &integer,
         &row,
@@ -382,12 +397,13 @@ fn a() {
     );
 }
 
-fn b() {
+fn b(out: Stdout) {
     let description = SMALL_INT_AND_DECIMAL;
     let row = [0x00, 0x00, 0x2A, 0x00, 0x12, 0x34, 0x5C];
     let first = Db2Value::SmallInt(42);
     let second = Db2Value::Decimal(Place { start: 0, len: 6 });
     two(
+        out,
         b'B',
         &description,
         &row,
@@ -399,17 +415,18 @@ fn b() {
     );
 }
 
-fn c() {
+fn c(out: Stdout) {
     let description = SMALL_INT_AND_DECIMAL;
     let row = [0xFF, 0x00, 0xFF, 0xFF];
     let first = Db2Value::Null;
     let second = Db2Value::Null;
-    two(b'C', &description, &row, first, second, b"", b"", 4);
+    two(out, b'C', &description, &row, first, second, b"", b"", 4);
 }
 
-fn d() {
+fn d(out: Stdout) {
     let description = NULLABLE_INTEGER;
     one(
+        out,
         b'D',
         &description,
         &[0xFF],
@@ -421,48 +438,59 @@ fn d() {
     );
 }
 
-fn e() {
+fn e(out: Stdout) {
     let description = NULLABLE_INTEGER;
-    too_short(b'E', &description, &[0xFF, 0xFF], 1, 0);
+    too_short(out, b'E', &description, &[0xFF, 0xFF], 1, 0);
 }
 
-fn f() {
-    packed_decimal(b'F', &[0x00, 0x5C], 2, b"0.05");
+fn f(out: Stdout) {
+    packed_decimal(out, b'F', &[0x00, 0x5C], 2, b"0.05");
 }
 
-fn g() {
-    packed_decimal(b'G', &[0x1C], 3, b"0.001");
+fn g(out: Stdout) {
+    packed_decimal(out, b'G', &[0x1C], 3, b"0.001");
 }
 
-fn h() {
-    packed_decimal(b'H', &[0x0D], 0, b"-0");
+fn h(out: Stdout) {
+    packed_decimal(out, b'H', &[0x0D], 0, b"-0");
 }
 
-fn i() {
-    packed_decimal(b'I', &[0x12, 0x3B], 0, b"123");
+fn i(out: Stdout) {
+    packed_decimal(out, b'I', &[0x12, 0x3B], 0, b"123");
 }
 
-fn j() {
+fn j(out: Stdout) {
     let description = [
         0x03, 0x78, 0x31, 0x08, 0x70, 0x40, 0x00, 0x00, 0x00, 0x00, 0x25, 0x06, 0x76, 0xD0, 0x40,
         0x00, 0x03,
     ];
     let row = [0x00, 0xC1, 0xC2, 0xC3];
     let value = Db2Value::Char(Place { start: 0, len: 3 });
-    one(b'J', &description, &row, value, false, b"ABC", b"ABC", 4);
+    one(
+        out,
+        b'J',
+        &description,
+        &row,
+        value,
+        false,
+        b"ABC",
+        b"ABC",
+        4,
+    );
 }
 
-fn k() {
+fn k(out: Stdout) {
     let description = [0x05, 0x70, 0xC8, 0x80, 0x00];
     let value = Db2Value::Blob(Place { start: 0, len: 0 });
-    one(b'K', &description, b"", value, false, b"", b"", 0);
+    one(out, b'K', &description, b"", value, false, b"", b"", 0);
 }
 
-fn l() {
+fn l(out: Stdout) {
     let description = [0x05, 0x70, 0xC8, 0x80, 0x04];
     let row = [0x00, 0x00, 0x00, 0x07];
     let value = Db2Value::Blob(Place { start: 0, len: 4 });
     one(
+        out,
         b'L',
         &description,
         &row,
@@ -474,18 +502,19 @@ fn l() {
     );
 }
 
-fn m() {
+fn m(out: Stdout) {
     let description = HEADER_OF_ONE_BYTE;
     let value = Db2Value::Clob(Place { start: 0, len: 16 });
     let text = b"LOB locator 0x80";
-    one(b'M', &description, &[0x80], value, true, text, text, 1);
+    one(out, b'M', &description, &[0x80], value, true, text, text, 1);
 }
 
-fn n() {
+fn n(out: Stdout) {
     let description = HEADER_OF_ONE_BYTE;
     let value = Db2Value::Clob(Place { start: 0, len: 14 });
     let text = b"LOB locator 0x";
     one(
+        out,
         b'N',
         &description,
         &[0x80, 0x00],
@@ -497,36 +526,37 @@ fn n() {
     );
 }
 
-fn o() {
+fn o(out: Stdout) {
     let description = CLOB_OF_LENGTH_0;
     let row = [0x02, 0x00, 0x00, 0x00];
     let value = Db2Value::Clob(Place { start: 0, len: 22 });
     let text = b"LOB locator 0x02000000";
-    one(b'O', &description, &row, value, true, text, text, 4);
+    one(out, b'O', &description, &row, value, true, text, text, 4);
 }
 
-fn p() {
+fn p(out: Stdout) {
     let description = CLOB_OF_LENGTH_0;
     let row = [0x02, 0x00, 0x00, 0x00, 0x00, 0x00, 0x00, 0x00, 0x00];
     let value = Db2Value::Clob(Place { start: 0, len: 0 });
-    one(b'P', &description, &row, value, false, b"", b"", 9);
+    one(out, b'P', &description, &row, value, false, b"", b"", 9);
 }
 
-fn main() {
-    a();
-    b();
-    c();
-    d();
-    e();
-    f();
-    g();
-    h();
-    i();
-    j();
-    k();
-    l();
-    m();
-    n();
-    o();
-    p();
+fn main(rt: HostRuntime) {
+    let out = rt.stdout();
+    a(out);
+    b(out);
+    c(out);
+    d(out);
+    e(out);
+    f(out);
+    g(out);
+    h(out);
+    i(out);
+    j(out);
+    k(out);
+    l(out);
+    m(out);
+    n(out);
+    o(out);
+    p(out);
 }

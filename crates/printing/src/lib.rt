@@ -11,6 +11,7 @@ mod wide;
 use characters::{Shown, character_at, shown_as};
 use conversion::hex::hex_digit;
 use floats::{Digits, MOST_DIGITS, POINT};
+use std::io::{Stderr, Stdout};
 
 // How many bytes are kept before they are written out.
 const ROOM: usize = 512;
@@ -18,55 +19,72 @@ const ROOM: usize = 512;
 // A line that is longer than this has no columns behind it.
 const WIDEST: usize = 200;
 
+// Where a line is written to.
+#[derive(Clone, Copy)]
+enum Stream {
+    Output(Stdout),
+    Error(Stderr),
+}
+
 // What is kept, how many bytes of the line stand before the next one, and where it is written to.
 #[derive(Drop)]
 pub struct Line {
     bytes: [u8; ROOM],
     len: usize,
     column: usize,
-    fd: i32,
+    stream: Stream,
+}
+
+// Writes all of s, as far as the system takes it.
+fn write_all(stream: Stream, s: &[u8]) {
+    let _ = match stream {
+        Stream::Output(out) => out.write_all(s),
+        Stream::Error(err) => err.write_all(s),
+    };
 }
 
 // Writes out the first n bytes, which are there.
-fn write_first(fd: i32, s: &[u8], n: usize) {
+fn write_first(stream: Stream, s: &[u8], n: usize) {
     if n <= s.len() {
-        io::write_all(fd, &s[0..n]);
+        write_all(stream, &s[0..n]);
     }
 }
 
 impl Line {
-    // An empty line of standard output.
-    pub fn new() -> Line {
+    fn empty(stream: Stream) -> Line {
         Line {
             bytes: [0u8; ROOM],
             len: 0,
             column: 0,
-            fd: libc::STDOUT_FILENO,
+            stream,
         }
     }
 
+    // An empty line of standard output.
+    pub fn new(out: Stdout) -> Line {
+        Line::empty(Stream::Output(out))
+    }
+
     // One of standard error.
-    pub fn of_error() -> Line {
-        let mut line = Line::new();
-        line.fd = libc::STDERR_FILENO;
-        line
+    pub fn of_error(err: Stderr) -> Line {
+        Line::empty(Stream::Error(err))
     }
 
     // Writes out what is kept.
     pub fn flush(self) -> Line {
         let bytes = self.bytes;
-        let fd = self.fd;
-        write_first(fd, &bytes, self.len);
+        let stream = self.stream;
+        write_first(stream, &bytes, self.len);
         Line {
             bytes,
             len: 0,
             column: self.column,
-            fd,
+            stream,
         }
     }
 
     // The next place of a line behind this one.
-    fn next_column(self) -> usize {
+    fn next_column(&self) -> usize {
         let column = self.column;
         if column < WIDEST {
             return column + 1;
@@ -85,7 +103,7 @@ impl Line {
                 bytes,
                 len: len + 1,
                 column,
-                fd: self.fd,
+                stream: self.stream,
             };
         }
         self

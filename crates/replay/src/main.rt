@@ -20,6 +20,7 @@ use decimal::{WholeAnswer, decode_packed_whole};
 use qrydsc::{Description, parse_qrydsc, parse_whole_qrydsc};
 use refusal::{Outcome, TEXT_BUFFER_TOO_SHORT};
 use row::decode_row;
+use std::io::{Read, Stdin, Stdout};
 use types::{Columns, Db2Value, FixedLength, ValuePlace};
 use words::{TypeRead, value_words};
 
@@ -44,7 +45,7 @@ const PRECISION: u8 = 31;
 const MOST_RELEASE: usize = 4294967295;
 
 // How a line asks: by which host release, and whether it is full.
-#[derive(Drop)]
+#[derive(Clone, Copy)]
 struct Form {
     release: u32,
     full: bool,
@@ -59,7 +60,7 @@ fn plain() -> Form {
 }
 
 // What is said of a line.
-#[derive(Drop)]
+#[derive(Clone, Copy)]
 enum Verdict {
     Same,
     Differs,
@@ -74,7 +75,7 @@ fn judged(is_same: bool) -> Verdict {
 }
 
 // A call that writes one text.
-#[derive(Drop)]
+#[derive(Clone, Copy)]
 enum Call {
     // By CCSID and host release.
     Character { ccsid: u16, release: u32 },
@@ -83,7 +84,7 @@ enum Call {
     Decimal(u8),
 }
 
-#[derive(Drop)]
+#[derive(Clone, Copy)]
 enum Asked {
     For(Call),
     Nothing,
@@ -205,7 +206,7 @@ fn writes_each(
 }
 
 // What a stored answer is: a refusal by its number, as `REFUSE6`, or something else.
-#[derive(Drop)]
+#[derive(Clone, Copy)]
 enum Stored {
     Refusal(u32),
     Other,
@@ -307,9 +308,17 @@ fn length_line(request: &[u8], answer: &[u8]) -> Verdict {
     }
 }
 
+// The row call takes a list of columns for itself.
+fn copied(columns: &Columns) -> Columns {
+    Columns {
+        columns: columns.columns,
+        count: columns.count,
+    }
+}
+
 // Whether the row call answers so, with a text buffer of this length: then every byte of it is a text's, or none is changed.
 fn decodes(
-    columns: Columns,
+    columns: &Columns,
     row: &[u8],
     form: Form,
     answer: &[u8],
@@ -318,9 +327,9 @@ fn decodes(
 ) -> bool {
     fill(text, FILL);
     let count = columns.count;
-    let a = decode_row(row, columns, form.release, text);
+    let a = decode_row(row, copied(columns), form.release, text);
     let outcome = a.outcome;
-    if !is_answer(answer, form.full, a, count, row, text, want) {
+    if !is_answer(answer, form.full, &a, count, row, text, want) {
         return false;
     }
     if outcome.number() == 0 {
@@ -330,9 +339,15 @@ fn decodes(
 }
 
 // Whether the row call refuses for want of text space, with this length, and writes and counts nothing.
-fn lacks_space(columns: Columns, row: &[u8], release: u32, needed: usize, text: &mut [u8]) -> bool {
+fn lacks_space(
+    columns: &Columns,
+    row: &[u8],
+    release: u32,
+    needed: usize,
+    text: &mut [u8],
+) -> bool {
     fill(text, FILL);
-    let a = decode_row(row, columns, release, text);
+    let a = decode_row(row, copied(columns), release, text);
     let outcome = a.outcome;
     if outcome.number() != TEXT_BUFFER_TOO_SHORT {
         return false;
@@ -348,7 +363,7 @@ fn lacks_space(columns: Columns, row: &[u8], release: u32, needed: usize, text: 
 
 // Whether the row call leaves alone what lies behind the texts in a larger buffer.
 fn leaves_rest(
-    columns: Columns,
+    columns: &Columns,
     row: &[u8],
     release: u32,
     written: usize,
@@ -358,7 +373,7 @@ fn leaves_rest(
         return false;
     }
     fill(text, FILL);
-    let a = decode_row(row, columns, release, text);
+    let a = decode_row(row, copied(columns), release, text);
     let outcome = a.outcome;
     if outcome.number() == 0 {
         return is_filled(&text[written..]);
@@ -369,7 +384,7 @@ fn leaves_rest(
 // Whether the row call gives the stored answer with a buffer that the texts fill; leaves alone the rest of a larger one; and refuses one that is a byte
 // shorter. The length of the texts is field 3 of an accepted answer; number makes 0 of what stands there in others.
 fn row_answers(
-    columns: Columns,
+    columns: &Columns,
     row: &[u8],
     form: Form,
     answer: &[u8],
@@ -395,7 +410,7 @@ fn row_answers(
 
 // The row of a Q or H line, whose columns are known, from a place of the request on.
 fn row_line(
-    columns: Columns,
+    columns: &Columns,
     request: &[u8],
     at: usize,
     form: Form,
@@ -416,17 +431,17 @@ fn row_line(
 }
 
 // Whether an accepted description is told: `C`, the number of columns, and each of them; in a full line with their origins, and with its ending.
-fn is_told(described: Description, full: bool, told: &[u8]) -> bool {
-    let columns = described.columns;
+fn is_told(described: &Description, full: bool, told: &[u8]) -> bool {
+    let columns = &described.columns;
     let count = text_at(told, 0, b"C ");
     let ending = columns_at(told, count, full, columns);
     ending_at(told, ending, full, described.broken_off) == told.len()
 }
 
 // Whether a description is refused with the stored number, has no column, and does not count as broken off.
-fn is_refused(described: Description, answer: &[u8]) -> bool {
+fn is_refused(described: &Description, answer: &[u8]) -> bool {
     let outcome = described.outcome;
-    let columns = described.columns;
+    let columns = &described.columns;
     if columns.count != 0 {
         return false;
     }
@@ -438,7 +453,7 @@ fn is_refused(described: Description, answer: &[u8]) -> bool {
 
 // The rest of a line of kind Q whose description is accepted.
 fn described_line(
-    described: Description,
+    described: &Description,
     request: &[u8],
     form: Form,
     answer: &[u8],
@@ -446,7 +461,7 @@ fn described_line(
     want: &mut [u8],
     text: &mut [u8],
 ) -> Verdict {
-    let columns = described.columns;
+    let columns = &described.columns;
     let told = part_start(request, 4, b' ');
     if !is_told(described, form.full, &request[told..]) {
         return Verdict::Differs;
@@ -475,13 +490,13 @@ fn description_line(
     let described = parse_qrydsc(&data[0..n]);
     let outcome = described.outcome;
     if outcome.number() == 0 {
-        return described_line(described, request, form, answer, data, want, text);
+        return described_line(&described, request, form, answer, data, want, text);
     }
     let told = part_start(request, 4, b' ');
     if !same(&request[told..], b"C -") {
         return Verdict::Differs;
     }
-    judged(is_refused(described, answer))
+    judged(is_refused(&described, answer))
 }
 
 // A line of kind n: `n <description>`.
@@ -496,9 +511,9 @@ fn whole_description_line(request: &[u8], answer: &[u8], data: &mut [u8]) -> Ver
     }
     let described = parse_whole_qrydsc(&data[0..n]);
     let outcome = described.outcome;
-    let columns = described.columns;
+    let columns = &described.columns;
     if outcome.number() != 0 {
-        return judged(is_refused(described, answer));
+        return judged(is_refused(&described, answer));
     }
     if described.broken_off {
         return Verdict::Differs;
@@ -556,9 +571,9 @@ fn own_line(
 ) -> Verdict {
     let columns = columns_of(request);
     let count = part_start(request, 1, b' ');
-    let told = columns_at(request, count, form.full, columns);
+    let told = columns_at(request, count, form.full, &columns);
     let row = text_at(request, told, b" R ");
-    row_line(columns, request, row, form, answer, data, want, text)
+    row_line(&columns, request, row, form, answer, data, want, text)
 }
 
 // A line in lower case, which is full: a host release, and what the same kind in upper case has. Without its letter it has each field where that has it.
@@ -614,22 +629,22 @@ fn replay_line(line: &[u8], data: &mut [u8], want: &mut [u8], text: &mut [u8]) -
     }
 }
 
-fn say(line: u64, what: &[u8]) {
-    io::write_all(1, b"line ");
-    io::print_decimal(1, line);
-    io::write_all(1, what);
+fn say(out: Stdout, line: u64, what: &[u8]) {
+    let _ = out.write_all(b"line ");
+    let _ = out.print(line);
+    let _ = out.write_all(what);
 }
 
 // Says what is to be said of a line, and counts it where it is the same.
-fn told(v: Verdict, line: u64) -> u64 {
+fn told(out: Stdout, v: Verdict, line: u64) -> u64 {
     match v {
         Verdict::Same => 1,
         Verdict::Differs => {
-            say(line, b" differs\n");
+            say(out, line, b" differs\n");
             0
         }
         Verdict::NoRequest => {
-            say(line, b" is no request\n");
+            say(out, line, b" is no request\n");
             0
         }
     }
@@ -646,6 +661,7 @@ struct Progress {
 
 // Replays the whole lines of a block.
 fn replay_block(
+    out: Stdout,
     block: &[u8],
     p: Progress,
     data: &mut [u8],
@@ -670,7 +686,7 @@ fn replay_block(
         }
         lines = std::num::wrapping_add_u64(lines, 1);
         let v = replay_line(&block[at..end], data, want, text);
-        same = std::num::wrapping_add_u64(same, told(v, lines));
+        same = std::num::wrapping_add_u64(same, told(out, v, lines));
         at = end + 1;
     }
     Progress {
@@ -693,22 +709,33 @@ fn move_down(list: &mut [u8], from: usize, to: usize)
     }
 }
 
-fn finish(lines: u64, same: u64) {
-    io::print_decimal(1, lines);
-    io::write_all(1, b" lines, ");
-    io::print_decimal(1, same);
-    io::write_all(1, b" same\n");
+fn finish(out: Stdout, lines: u64, same: u64) {
+    let _ = out.print(lines);
+    let _ = out.write_all(b" lines, ");
+    let _ = out.print(same);
+    let _ = out.write_all(b" same\n");
 }
 
 // Replays a last line without a line end, if there is one, and says how many lines there were.
-fn replay_rest(rest: &[u8], p: Progress, data: &mut [u8], want: &mut [u8], text: &mut [u8]) {
+fn replay_rest(
+    out: Stdout,
+    rest: &[u8],
+    p: Progress,
+    data: &mut [u8],
+    want: &mut [u8],
+    text: &mut [u8],
+) {
     if rest.len() == 0 {
-        finish(p.lines, p.same);
+        finish(out, p.lines, p.same);
         return;
     }
     let lines = std::num::wrapping_add_u64(p.lines, 1);
     let v = replay_line(rest, data, want, text);
-    finish(lines, std::num::wrapping_add_u64(p.same, told(v, lines)));
+    finish(
+        out,
+        lines,
+        std::num::wrapping_add_u64(p.same, told(out, v, lines)),
+    );
 }
 
 fn stopped() -> Progress {
@@ -722,6 +749,8 @@ fn stopped() -> Progress {
 
 // Reads once, behind the bytes that are left, and replays the lines that are then whole.
 fn replay_some(
+    input: Stdin,
+    out: Stdout,
     list: &mut [u8],
     p: Progress,
     data: &mut [u8],
@@ -730,33 +759,38 @@ fn replay_some(
 ) -> Progress {
     let left = p.left;
     if left >= list.len() {
-        say(std::num::wrapping_add_u64(p.lines, 1), b" is too long\n");
+        say(
+            out,
+            std::num::wrapping_add_u64(p.lines, 1),
+            b" is too long\n",
+        );
         return stopped();
     }
-    let got = libc::read(0, &mut list[left..]);
-    let n = io::count(got, list);
-    if got == 0 {
-        replay_rest(&list[0..left], p, data, want, text);
+    let mut from = input;
+    let Ok(n) = from.read(&mut list[left..]) else {
+        let _ = out.write_all(b"the list cannot be read\n");
         return stopped();
-    }
-    if got < 0 {
-        io::write_all(1, b"the list cannot be read\n");
-        return stopped();
-    }
-    // What read promises; asked again here, it needs no proof.
-    if n > list.len() - left {
-        io::write_all(1, b"the list cannot be read\n");
+    };
+    if n == 0 {
+        replay_rest(out, &list[0..left], p, data, want, text);
         return stopped();
     }
     let end = left + n;
-    let q = replay_block(&list[0..end], p, data, want, text);
+    let q = replay_block(out, &list[0..end], p, data, want, text);
     let rest = q.left;
     move_down(list, end - rest, end);
     q
 }
 
 // Reads the list to its end. Nothing says that an input ends, so the loop counts its turns down, from a number that no run uses up.
-fn replay(list: &mut [u8], data: &mut [u8], want: &mut [u8], text: &mut [u8]) {
+fn replay(
+    input: Stdin,
+    out: Stdout,
+    list: &mut [u8],
+    data: &mut [u8],
+    want: &mut [u8],
+    text: &mut [u8],
+) {
     let mut p = Progress {
         lines: 0,
         same: 0,
@@ -765,7 +799,7 @@ fn replay(list: &mut [u8], data: &mut [u8], want: &mut [u8], text: &mut [u8]) {
     };
     let mut turns = u64::MAX;
     while turns > 0 {
-        p = replay_some(list, p, data, want, text);
+        p = replay_some(input, out, list, p, data, want, text);
         if !p.more {
             return;
         }
@@ -773,10 +807,17 @@ fn replay(list: &mut [u8], data: &mut [u8], want: &mut [u8], text: &mut [u8]) {
     }
 }
 
-fn main() {
+fn main(rt: HostRuntime) {
     let mut list = [0u8; LINE];
     let mut data = [0u8; DATA];
     let mut want = [0u8; BYTES];
     let mut text = [0u8; TEXT];
-    replay(&mut list, &mut data, &mut want, &mut text);
+    replay(
+        rt.stdin(),
+        rt.stdout(),
+        &mut list,
+        &mut data,
+        &mut want,
+        &mut text,
+    );
 }

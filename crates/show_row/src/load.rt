@@ -4,46 +4,90 @@ use crate::hex;
 use crate::hex::{Fault, Reading};
 use check::same;
 use printing::Line;
+use printing::type_names::first;
+use std::env::{Env, FillError};
+use std::fs::File;
+use std::io::{Cursor, Read, Stderr, Write};
+use std::str::from_utf8;
+use std::{fs, io};
 use tables::warnings::warning;
 
+// The most bytes of a file's name.
+const NAME: usize = 4096;
+
+// More bytes than the system says of an error.
+const REASON: usize = 512;
+
+// How much of a hexadecimal text is read at once.
+const CHUNK: usize = 4096;
+
 // How much of a file was read, if it can be read.
-#[derive(Drop)]
+#[derive(Clone, Copy)]
 pub enum Loaded {
     Bytes(usize),
     Failed,
 }
 
 // Reads the file that an argument names; `-` is standard input.
-pub fn load(argument: usize, is_hex: bool, out: &mut [u8]) -> Loaded {
-    let mut path = io::buffer();
-    let n = os::arg(argument, &mut path);
-    if os::errno() != 0 {
-        os::fail(b"show-row: argument");
-        return Loaded::Failed;
+pub fn load(rt: &HostRuntime, argument: usize, is_hex: bool, out: &mut [u8]) -> Loaded {
+    let err = rt.stderr();
+    let mut path = [0u8; NAME];
+    match rt.arg(argument, &mut path) {
+        Ok(n) => load_named(rt, &path[..n], is_hex, out),
+        Err(FillError::NotPresent) => no_argument(err, b"Invalid argument"),
+        Err(FillError::TooLong) => no_argument(err, b"File name too long"),
     }
-    if same(&path[..n], b"-") {
-        return load_from(libc::STDIN_FILENO, b"standard input", is_hex, out);
-    }
-    let fd = os::open_read(&path[..n]);
-    if fd < 0 {
-        return failed(&path[..n]);
-    }
-    let loaded = load_from(fd, &path[..n], is_hex, out);
-    libc::close(fd);
-    loaded
 }
 
-fn load_from(fd: i32, name: &[u8], is_hex: bool, out: &mut [u8]) -> Loaded {
-    if is_hex {
-        return load_hex(fd, name, out);
+// Says why there is no such argument.
+fn no_argument(err: Stderr, why: &[u8]) -> Loaded {
+    Line::of_error(err)
+        .text(b"show-row: argument: ")
+        .text(why)
+        .end()
+        .flush();
+    Loaded::Failed
+}
+
+fn load_named(rt: &HostRuntime, name: &[u8], is_hex: bool, out: &mut [u8]) -> Loaded {
+    let err = rt.stderr();
+    if same(name, b"-") {
+        return load_from(err, &mut rt.stdin(), b"standard input", is_hex, out);
     }
-    let loaded = load_raw(fd, name, out);
-    warn_hex(loaded, name, out);
+    match open_read(rt, name) {
+        Ok(file) => {
+            let mut opened = file;
+            load_from(err, &mut opened, name, is_hex, out)
+        }
+        Err(e) => failed(err, name, e),
+    }
+}
+
+// std takes a file's name as a text.
+fn open_read(rt: &HostRuntime, name: &[u8]) -> io::Result<File> {
+    match from_utf8(name) {
+        Ok(path) => fs::open(rt, path),
+        Err(_) => Err(io::Error::new(io::ErrorKind::InvalidFilename, "its name is no UTF-8")),
+    }
+}
+
+fn load_from<R: Read>(
+    err: Stderr,
+    from: &mut R,
+    name: &[u8],
+    is_hex: bool,
+    out: &mut [u8],
+) -> Loaded {
+    if is_hex {
+        return load_hex(err, from, name, out);
+    }
+    let loaded = load_raw(err, from, name, out);
+    warn_hex(err, loaded, name, out);
     loaded
 }
 
 // Warns where raw bytes look like hexadecimal text.
-fn warn_hex(loaded: Loaded, name: &[u8], out: &[u8]) {
+fn warn_hex(err: Stderr, loaded: Loaded, name: &[u8], out: &[u8]) {
     let Loaded::Bytes(n) = loaded else {
         return;
     };
@@ -54,36 +98,54 @@ fn warn_hex(loaded: Loaded, name: &[u8], out: &[u8]) {
     if !hex::looks_like_hex(&out[0..n]) {
         return;
     }
-    warning()
+    warning(err)
         .text(name)
         .text(b" looks like hexadecimal text and is read as raw bytes: -x reads it as hexadecimal")
         .end()
         .flush();
 }
 
-// Says why the system could not open or read a file.
-fn say_unreadable(name: &[u8]) {
-    io::write_all(libc::STDERR_FILENO, b"show-row: cannot read ");
-    os::fail(name);
+// The words of what is said of an error: the system's come with a number behind them.
+fn words_of(said: &[u8]) -> &[u8] {
+    let Ok(text) = from_utf8(said) else {
+        return said;
+    };
+    match text.split_once(" (os error ") {
+        Some((words, _)) => words.as_bytes(),
+        None => said,
+    }
 }
 
-fn failed(name: &[u8]) -> Loaded {
-    say_unreadable(name);
+fn with_reason(line: Line, e: io::Error) -> Line {
+    let mut said = Cursor::new([0u8; REASON]);
+    let _ = write!(said, "{e}");
+    let len = said.position() as usize;
+    let bytes = said.into_inner();
+    line.text(words_of(first(&bytes, len)))
+}
+
+// Says why the system could not open or read a file.
+fn say_unreadable(err: Stderr, name: &[u8], e: io::Error) {
+    let named = Line::of_error(err)
+        .text(b"show-row: cannot read ")
+        .text(name)
+        .text(b": ");
+    with_reason(named, e).end().flush();
+}
+
+fn failed(err: Stderr, name: &[u8], e: io::Error) -> Loaded {
+    say_unreadable(err, name, e);
     Loaded::Failed
 }
 
-fn load_raw(fd: i32, name: &[u8], out: &mut [u8]) -> Loaded {
+fn load_raw<R: Read>(err: Stderr, from: &mut R, name: &[u8], out: &mut [u8]) -> Loaded {
     let mut at: usize = 0;
     while at < out.len() {
-        let got = libc::read(fd, &mut out[at..]);
-        if got < 0 {
-            return failed(name);
+        match from.read(&mut out[at..]) {
+            Ok(0) => return Loaded::Bytes(at),
+            Ok(n) => at += n,
+            Err(e) => return failed(err, name, e),
         }
-        let n = io::count(got, &out[at..]);
-        if n == 0 {
-            return Loaded::Bytes(at);
-        }
-        at += n;
     }
     Loaded::Bytes(at)
 }
@@ -136,9 +198,9 @@ fn fault_name(line: Line, fault: Fault, b: u8) -> Line {
 }
 
 // Says where a hexadecimal text has a fault, and which. `b` is the byte there.
-fn say_fault(name: &[u8], r: Reading, b: u8) {
+fn say_fault(err: Stderr, name: &[u8], r: Reading, b: u8) {
     let fault = r.fault;
-    let named = Line::of_error().text(b"show-row: ").text(name);
+    let named = Line::of_error(err).text(b"show-row: ").text(name);
     let placed = named
         .text(b": line ")
         .decimal(r.line)
@@ -149,14 +211,14 @@ fn say_fault(name: &[u8], r: Reading, b: u8) {
 }
 
 // Goes on with a chunk of text.
-fn take_hex(chunk: &[u8], name: &[u8], p: Progress, out: &mut [u8]) -> Progress {
+fn take_hex(err: Stderr, chunk: &[u8], name: &[u8], p: Progress, out: &mut [u8]) -> Progress {
     let mut at = p.at;
     let mut r = p.reading;
     let mut i: usize = 0;
     while i < chunk.len() {
         r = hex::step(r, chunk[i]);
         if !hex::is_good(r) {
-            say_fault(name, r, chunk[i]);
+            say_fault(err, name, r, chunk[i]);
             return stopped(0, true);
         }
         if out.len() <= at {
@@ -175,32 +237,36 @@ fn take_hex(chunk: &[u8], name: &[u8], p: Progress, out: &mut [u8]) -> Progress 
 }
 
 // Reads once.
-fn read_hex(fd: i32, name: &[u8], p: Progress, out: &mut [u8]) -> Progress {
-    let mut chunk = io::buffer();
-    let got = libc::read(fd, &mut chunk);
-    if got < 0 {
-        say_unreadable(name);
-        return stopped(0, true);
+fn read_hex<R: Read>(
+    err: Stderr,
+    from: &mut R,
+    name: &[u8],
+    p: Progress,
+    out: &mut [u8],
+) -> Progress {
+    let mut chunk = [0u8; CHUNK];
+    match from.read(&mut chunk) {
+        Ok(0) => end_hex(err, name, p),
+        Ok(n) => take_hex(err, &chunk[..n], name, p, out),
+        Err(e) => {
+            say_unreadable(err, name, e);
+            stopped(0, true)
+        }
     }
-    if got == 0 {
-        return end_hex(name, p);
-    }
-    let n = io::count(got, &chunk);
-    take_hex(&chunk[..n], name, p, out)
 }
 
 // The end of the text.
-fn end_hex(name: &[u8], p: Progress) -> Progress {
+fn end_hex(err: Stderr, name: &[u8], p: Progress) -> Progress {
     let r = hex::finish(p.reading);
     if !hex::is_good(r) {
-        say_fault(name, r, 0);
+        say_fault(err, name, r, 0);
         return stopped(0, true);
     }
     stopped(p.at, false)
 }
 
 // Nothing says that a file ends, so the loop counts its turns down, from a number that no run uses up.
-fn load_hex(fd: i32, name: &[u8], out: &mut [u8]) -> Loaded {
+fn load_hex<R: Read>(err: Stderr, from: &mut R, name: &[u8], out: &mut [u8]) -> Loaded {
     let mut p = Progress {
         reading: hex::start(),
         at: 0,
@@ -209,7 +275,7 @@ fn load_hex(fd: i32, name: &[u8], out: &mut [u8]) -> Loaded {
     };
     let mut turns = u64::MAX;
     while turns > 0 {
-        p = read_hex(fd, name, p, out);
+        p = read_hex(err, from, name, p, out);
         if p.failed {
             return Loaded::Failed;
         }

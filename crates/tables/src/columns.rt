@@ -1,6 +1,7 @@
 // A column in the table: its number, type, nullable, CCSID, byte order and origin; and, where there is no row, its type code, length and reference length.
 use printing::Line;
 use printing::type_names::{first, name_of, number_count};
+use std::io::Stdout;
 use types::{ByteOrder, ColumnDescriptor, Columns, Db2Type, MAX_COLUMNS, Origin, ReferenceLength};
 
 // Where the columns of the table begin; numbers end before theirs.
@@ -101,16 +102,16 @@ fn last_line(line: Line, count: usize) -> Line {
     line.text(b"columns: ").decimal(count as u64).end()
 }
 
-fn head() -> Line {
-    Line::new()
+fn head(out: Stdout) -> Line {
+    Line::new(out)
         .text(b" no  type               null  ccsid  order   origin      code  length  reference")
         .end()
 }
 
 // The columns of a description, and how many they are.
-pub fn show_columns(columns: Columns) {
+pub fn show_columns(out: Stdout, columns: &Columns) {
     let count = columns.count;
-    let mut line = head();
+    let mut line = head(out);
     let mut i: usize = 0;
     while i < count {
         if MAX_COLUMNS <= i {

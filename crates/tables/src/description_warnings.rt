@@ -5,10 +5,11 @@ use crate::triplet_list::{Lack, Listed, listed_triplets};
 use crate::warnings::{warn_columns, warning};
 use printing::Line;
 use qrydsc::Description;
+use std::io::Stderr;
 
-fn warn_no_columns(count: usize) {
+fn warn_no_columns(err: Stderr, count: usize) {
     if count == 0 {
-        warning()
+        warning(err)
             .text(b"the description has no columns")
             .end()
             .flush();
@@ -16,12 +17,12 @@ fn warn_no_columns(count: usize) {
 }
 
 // Where the description breaks off, after how many of its bytes.
-fn warn_broken_off(broken_off: bool, description: &[u8]) {
+fn warn_broken_off(err: Stderr, broken_off: bool, description: &[u8]) {
     if !broken_off {
         return;
     }
     let end = triplets::outer_end(description, 0);
-    warning()
+    warning(err)
         .text(b"the description breaks off after ")
         .byte_count(end as u64)
         .text(b" of ")
@@ -51,12 +52,12 @@ fn lack_name(line: Line, lack: Lack) -> Line {
 }
 
 // How many triplets lack something, and of the first where it begins and its type.
-fn warn_triplets(lack: Lack, description: &[u8]) {
+fn warn_triplets(err: Stderr, lack: Lack, description: &[u8]) {
     let found = listed_triplets(lack, description);
     if found.count == 0 {
         return;
     }
-    lack_name(counted(warning(), found.count), lack)
+    lack_name(counted(warning(err), found.count), lack)
         .text(b" (the first at byte ")
         .decimal(found.first as u64)
         .text(b", of type ")
@@ -67,7 +68,7 @@ fn warn_triplets(lack: Lack, description: &[u8]) {
 }
 
 // A row begins so, and no description.
-fn warn_swapped(description: &[u8]) {
+fn warn_swapped(err: Stderr, description: &[u8]) {
     if description.len() < 2 {
         return;
     }
@@ -77,35 +78,35 @@ fn warn_swapped(description: &[u8]) {
     if description[1] != 0 {
         return;
     }
-    warning()
+    warning(err)
         .text(b"the description begins FF 00, as a row does")
         .end()
         .flush();
 }
 
 // What the description alone tells.
-pub fn warn_of_description(d: Description, description: &[u8]) {
-    let columns = d.columns;
+pub fn warn_of_description(err: Stderr, d: &Description, description: &[u8]) {
+    let columns = &d.columns;
     let outcome = d.outcome;
     if outcome.number() != 0 {
         return;
     }
-    warn_swapped(description);
-    warn_header(b"the description", description);
-    warn_no_columns(columns.count);
-    warn_broken_off(d.broken_off, description);
-    warn_triplets(Lack::Continued, description);
-    warn_triplets(Lack::Unused, description);
-    warn_triplets(Lack::LeftOver, description);
+    warn_swapped(err, description);
+    warn_header(err, b"the description", description);
+    warn_no_columns(err, columns.count);
+    warn_broken_off(err, d.broken_off, description);
+    warn_triplets(err, Lack::Continued, description);
+    warn_triplets(err, Lack::Unused, description);
+    warn_triplets(err, Lack::LeftOver, description);
     let none = [0u8; 0];
-    warn_columns(Concern::TakenForVarChar, columns, &none);
-    warn_columns(Concern::OtherNumber, columns, &none);
-    warn_columns(Concern::ByteCounted, columns, &none);
-    warn_columns(Concern::Length, columns, &none);
-    warn_columns(Concern::Unmeasured, columns, &none);
-    warn_columns(Concern::BitData, columns, &none);
-    warn_columns(Concern::As037, columns, &none);
-    warn_columns(Concern::LobText, columns, &none);
+    warn_columns(err, Concern::TakenForVarChar, columns, &none);
+    warn_columns(err, Concern::OtherNumber, columns, &none);
+    warn_columns(err, Concern::ByteCounted, columns, &none);
+    warn_columns(err, Concern::Length, columns, &none);
+    warn_columns(err, Concern::Unmeasured, columns, &none);
+    warn_columns(err, Concern::BitData, columns, &none);
+    warn_columns(err, Concern::As037, columns, &none);
+    warn_columns(err, Concern::LobText, columns, &none);
 }
 
 // How a host's release has texts read whose CCSID no conversion is known for.
@@ -117,9 +118,9 @@ fn unnamed(release: u32) -> Concern {
 }
 
 // What it tells of the rows to come, where there is none yet.
-pub fn warn_of_rows(d: Description, release: u32) {
-    let columns = d.columns;
+pub fn warn_of_rows(err: Stderr, d: &Description, release: u32) {
+    let columns = &d.columns;
     let none = [0u8; 0];
-    warn_columns(unnamed(release), columns, &none);
-    warn_columns(Concern::DecFloat, columns, &none);
+    warn_columns(err, unnamed(release), columns, &none);
+    warn_columns(err, Concern::DecFloat, columns, &none);
 }

@@ -1,6 +1,7 @@
 // Headers of DRDA that were left before what was cut out of a trace. A DDM object begins with two bytes of length and a code point, a DSS with six bytes: its
 // length, D0, its kind and a number.
 use crate::warnings::warning;
+use std::io::Stderr;
 
 // The number of two bytes.
 fn number(high: u8, low: u8) -> usize {
@@ -68,12 +69,12 @@ fn header_length(s: &[u8]) -> usize {
 }
 
 // `name` says which file it is. Whether there was something to say.
-pub fn warn_header(name: &[u8], s: &[u8]) -> bool {
+pub fn warn_header(err: Stderr, name: &[u8], s: &[u8]) -> bool {
     let n = header_length(s);
     if n == 0 {
         return false;
     }
-    warning()
+    warning(err)
         .text(name)
         .text(b" begins with a header of DRDA: its first ")
         .byte_count(n as u64)

@@ -8,6 +8,7 @@ use refusal::{
     DECIMAL_OUT_OF_RANGE, DECIMAL_SIGN, DECIMAL_TOO_LONG, INPUT_TOO_LONG, Outcome,
     QRYDSC_BROKEN_OFF, QRYDSC_TOO_LONG, TEXT_BUFFER_TOO_SHORT, TOO_MANY_COLUMNS, UNKNOWN_RELEASE,
 };
+use std::io::Stdout;
 use types::{Columns, Db2Type, MAX_COLUMNS};
 
 // A column, and where its bytes begin in the row.
@@ -18,7 +19,7 @@ struct Found {
 }
 
 // The column in which the row ends too early.
-fn short_column(row: &[u8], columns: Columns) -> Found {
+fn short_column(row: &[u8], columns: &Columns) -> Found {
     let count = columns.count;
     let mut found = Found {
         column: 0,
@@ -44,7 +45,7 @@ fn short_column(row: &[u8], columns: Columns) -> Found {
 }
 
 // The first DecFloat column.
-fn dec_float_column(columns: Columns) -> usize {
+fn dec_float_column(columns: &Columns) -> usize {
     let count = columns.count;
     let mut i: usize = 0;
     while i < count {
@@ -60,15 +61,15 @@ fn dec_float_column(columns: Columns) -> usize {
     i
 }
 
-fn begin(number: u32) -> Line {
-    Line::new()
+fn begin(out: Stdout, number: u32) -> Line {
+    Line::new(out)
         .text(b"refusal ")
         .decimal(number as u64)
         .text(b": ")
 }
 
-fn meaning(number: u32) -> Line {
-    let line = begin(number);
+fn meaning(out: Stdout, number: u32) -> Line {
+    let line = begin(out, number);
     match number {
         QRYDSC_TOO_LONG => line.text(b"the description is longer than 65,536 bytes"),
         TOO_MANY_COLUMNS => line.text(b"the description has more than 128 columns"),
@@ -88,12 +89,12 @@ fn meaning(number: u32) -> Line {
     }
 }
 
-pub fn show_refused_description(outcome: Outcome) {
-    meaning(outcome.number()).end().flush();
+pub fn show_refused_description(out: Stdout, outcome: Outcome) {
+    meaning(out, outcome.number()).end().flush();
 }
 
 // The type of a column; Null where there is no such column.
-fn type_at(columns: Columns, i: usize) -> Db2Type {
+fn type_at(columns: &Columns, i: usize) -> Db2Type {
     if MAX_COLUMNS <= i {
         return Db2Type::Null;
     }
@@ -101,13 +102,13 @@ fn type_at(columns: Columns, i: usize) -> Db2Type {
     column.db2_type
 }
 
-fn with_column(line: Line, columns: Columns, column: usize) -> Line {
+fn with_column(line: Line, columns: &Columns, column: usize) -> Line {
     let numbered = line.text(b"column ").decimal(column as u64);
     type_name(numbered.text(b", "), type_at(columns, column))
 }
 
 // Where the row ends, and in which column.
-fn row_end(line: Line, end: usize, columns: Columns, found: Found) -> Line {
+fn row_end(line: Line, end: usize, columns: &Columns, found: Found) -> Line {
     let ended = line.text(b": it ends at byte ").decimal(end as u64);
     let begins = found.begins;
     if begins == end {
@@ -126,11 +127,11 @@ fn expected(line: Line, first: u64, second: u64) -> Line {
         .decimal(second)
 }
 
-pub fn show_refused_row(outcome: Outcome, row: &[u8], columns: Columns) {
+pub fn show_refused_row(out: Stdout, outcome: Outcome, row: &[u8], columns: &Columns) {
     let number = outcome.number();
     let first = outcome.first_value() as u64;
     let second = outcome.second_value() as u64;
-    let line = meaning(number);
+    let line = meaning(out, number);
     let told = match number {
         DEC_FLOAT_COLUMN => with_column(line.text(b": "), columns, dec_float_column(columns)),
         BUFFER_TOO_SHORT => expected(

@@ -5,6 +5,7 @@ use crate::status::{is_status, with_state};
 use crate::warnings::{rest_at, warn_columns, warning, within};
 use piece::skip_of;
 use printing::Line;
+use std::io::Stderr;
 use types::Columns;
 
 fn replaced_name(line: Line, replaced: usize) -> Line {
@@ -16,18 +17,27 @@ fn replaced_name(line: Line, replaced: usize) -> Line {
 }
 
 // How many characters were replaced, if any were, and in which columns: those with which the sum grows.
-fn warn_replaced(columns: Columns, row: &[u8], release: u32, replaced: usize, text: &mut [u8]) {
+fn warn_replaced(
+    err: Stderr,
+    columns: &Columns,
+    row: &[u8],
+    release: u32,
+    replaced: usize,
+    text: &mut [u8],
+) {
     if replaced == 0 {
         return;
     }
     let count = columns.count;
-    let mut some = columns;
-    let mut line = replaced_name(warning(), replaced).text(b": column");
+    let mut line = replaced_name(warning(err), replaced).text(b": column");
     let mut sum: usize = 0;
     let mut i: usize = 0;
     while i < count {
         let next = i + 1;
-        some.count = next;
+        let some = Columns {
+            columns: columns.columns,
+            count: next,
+        };
         let a = row::decode_row(row, some, release, text);
         line = with_grown(line, sum, a.replaced, i);
         sum = a.replaced;
@@ -47,11 +57,11 @@ fn with_grown(line: Line, before: usize, after: usize, i: usize) -> Line {
 }
 
 // The two bytes skipped are FF 00 before a row of a host that sends them. Else they may be another thing.
-fn warn_skipped(second: u8) {
+fn warn_skipped(err: Stderr, second: u8) {
     if second == 0 {
         return;
     }
-    warning()
+    warning(err)
         .text(b"the row begins FF ")
         .hex_byte(second)
         .text(b" where a host sends FF 00: it may be no row, or one without these two bytes")
@@ -60,7 +70,7 @@ fn warn_skipped(second: u8) {
 }
 
 // Whether there was something to say.
-fn warn_status(row: &[u8]) -> bool {
+fn warn_status(err: Stderr, row: &[u8]) -> bool {
     if !is_status(row) {
         return false;
     }
@@ -68,7 +78,7 @@ fn warn_status(row: &[u8]) -> bool {
         return false;
     }
     with_state(
-        warning().text(b"this looks like a status (SQLCA) with SQLSTATE "),
+        warning(err).text(b"this looks like a status (SQLCA) with SQLSTATE "),
         &row[5..10],
     )
     .text(b", and not like a row")
@@ -92,7 +102,7 @@ fn can_follow(rest: &[u8]) -> bool {
 }
 
 // Where a row begins FF 00, so does the next.
-fn warn_rest(row: &[u8], used: usize) {
+fn warn_rest(err: Stderr, row: &[u8], used: usize) {
     if row.len() < 2 {
         return;
     }
@@ -106,7 +116,7 @@ fn warn_rest(row: &[u8], used: usize) {
     if can_follow(rest) {
         return;
     }
-    warning()
+    warning(err)
         .text(b"behind the row stands X'")
         .hex_bytes(within(rest, 2))
         .text(b"', and no next row (FF 00) and no status: the row may end elsewhere")
@@ -115,12 +125,12 @@ fn warn_rest(row: &[u8], used: usize) {
 }
 
 // One byte alone is not skipped, and what does not begin FF has no such bytes.
-fn warn_first(row: &[u8]) {
+fn warn_first(err: Stderr, row: &[u8]) {
     if row.len() == 0 {
         return;
     }
     if row[0] != 0xFF {
-        warning()
+        warning(err)
             .text(
                 b"the row does not begin FF 00, as a host sends it: it may be no row, or begin elsewhere",
             )
@@ -129,40 +139,41 @@ fn warn_first(row: &[u8]) {
         return;
     }
     if row.len() == 1 {
-        warning()
+        warning(err)
             .text(b"the row is FF alone: it may be the first byte of FF 00")
             .end()
             .flush();
         return;
     }
-    warn_skipped(row[1]);
+    warn_skipped(err, row[1]);
 }
 
 // What the row's first bytes tell, accepted or not.
-pub fn warn_of_beginning(row: &[u8]) {
-    if warn_header(b"the row", row) {
+pub fn warn_of_beginning(err: Stderr, row: &[u8]) {
+    if warn_header(err, b"the row", row) {
         return;
     }
-    if warn_status(row) {
+    if warn_status(err, row) {
         return;
     }
-    warn_first(row);
+    warn_first(err, row);
 }
 
 // Texts of a CCSID that no conversion is known for. At release 2 a look at the bytes decides how they are read; at release 3 they are code page 037.
-fn warn_unnamed(columns: Columns, row: &[u8], release: u32) {
+fn warn_unnamed(err: Stderr, columns: &Columns, row: &[u8], release: u32) {
     if release != 2 {
-        warn_columns(Concern::Unnamed, columns, row);
+        warn_columns(err, Concern::Unnamed, columns, row);
         return;
     }
-    warn_columns(Concern::ReadAs037, columns, row);
-    warn_columns(Concern::ReadAsAscii, columns, row);
-    warn_columns(Concern::GuessedAt, columns, row);
+    warn_columns(err, Concern::ReadAs037, columns, row);
+    warn_columns(err, Concern::ReadAsAscii, columns, row);
+    warn_columns(err, Concern::GuessedAt, columns, row);
 }
 
 // What the values of a row tell, and what is left behind it. Of a row that is refused, only the indicators.
 pub fn warn_of_values(
-    columns: Columns,
+    err: Stderr,
+    columns: &Columns,
     row: &[u8],
     release: u32,
     refused: u32,
@@ -170,14 +181,14 @@ pub fn warn_of_values(
     replaced: usize,
     text: &mut [u8],
 ) {
-    warn_columns(Concern::Indicator, columns, row);
+    warn_columns(err, Concern::Indicator, columns, row);
     if refused != 0 {
         return;
     }
-    warn_rest(row, used);
-    warn_replaced(columns, row, release, replaced, text);
-    warn_unnamed(columns, row, release);
-    warn_columns(Concern::AllAt, columns, row);
-    warn_columns(Concern::Longer, columns, row);
-    warn_columns(Concern::Packed, columns, row);
+    warn_rest(err, row, used);
+    warn_replaced(err, columns, row, release, replaced, text);
+    warn_unnamed(err, columns, row, release);
+    warn_columns(err, Concern::AllAt, columns, row);
+    warn_columns(err, Concern::Longer, columns, row);
+    warn_columns(err, Concern::Packed, columns, row);
 }

@@ -2,6 +2,7 @@
 use crate::columns;
 use piece::{piece_need, skip_of};
 use printing::Line;
+use std::io::Stdout;
 use types::{Columns, Db2Value, MAX_COLUMNS, RowAnswer, ValuePlace};
 
 const EXTERNAL: usize = 75;
@@ -108,8 +109,8 @@ fn value<'a>(line: Line, v: ValuePlace, row: &'a [u8], text: &'a [u8]) -> Line {
     shown(external.to_column(VALUE), form, words.number, s).end()
 }
 
-fn head() -> Line {
-    Line::new()
+fn head(out: Stdout) -> Line {
+    Line::new(out)
         .text(
             b" no  type               null  ccsid  order   origin      bytes of the row  external  value",
         )
@@ -138,9 +139,15 @@ fn last_line(line: Line, used: usize, len: usize) -> Line {
 }
 
 // The values of an accepted row, and the bytes used and left.
-pub fn show_values<'a>(columns: Columns, answer: RowAnswer, row: &'a [u8], text: &'a [u8]) {
+pub fn show_values<'a>(
+    out: Stdout,
+    columns: &Columns,
+    answer: &RowAnswer,
+    row: &'a [u8],
+    text: &'a [u8],
+) {
     let count = columns.count;
-    let mut line = skipped(head(), row);
+    let mut line = skipped(head(out), row);
     let mut at = skip_of(row);
     let mut i: usize = 0;
     while i < count {

@@ -3,11 +3,12 @@
 use crate::concerns::{Concern, is_concerned};
 use piece::{piece_need, skip_of};
 use printing::Line;
+use std::io::Stderr;
 use types::{Columns, MAX_COLUMNS};
 
 // How a warning begins.
-pub fn warning() -> Line {
-    Line::of_error().text(b"show-row: warning: ")
+pub fn warning(err: Stderr) -> Line {
+    Line::of_error(err).text(b"show-row: warning: ")
 }
 
 fn name(concern: Concern, line: Line) -> Line {
@@ -60,9 +61,9 @@ fn name(concern: Concern, line: Line) -> Line {
     }
 }
 
-fn listed(line: Line, concern: Concern, found: usize, i: usize) -> Line {
+fn listed(err: Stderr, line: Line, concern: Concern, found: usize, i: usize) -> Line {
     if found == 0 {
-        return name(concern, warning())
+        return name(concern, warning(err))
             .text(b": column ")
             .decimal(i as u64);
     }
@@ -76,9 +77,9 @@ fn end_list(line: Line, found: usize) {
 }
 
 // Lists the columns that a warning concerns, if there are any. Without a row the columns' parts of it are empty.
-pub fn warn_columns(concern: Concern, columns: Columns, row: &[u8]) {
+pub fn warn_columns(err: Stderr, concern: Concern, columns: &Columns, row: &[u8]) {
     let count = columns.count;
-    let mut line = Line::of_error();
+    let mut line = Line::of_error(err);
     let mut found: usize = 0;
     let mut at = skip_of(row);
     let mut i: usize = 0;
@@ -90,7 +91,7 @@ pub fn warn_columns(concern: Concern, columns: Columns, row: &[u8]) {
         let rest = rest_at(row, at);
         let n = piece_need(rest, column);
         if is_concerned(concern, column, within(rest, n)) {
-            line = listed(line, concern, found, i);
+            line = listed(err, line, concern, found, i);
             found = std::num::wrapping_add_usize(found, 1);
         }
         at = std::num::wrapping_add_usize(at, n);

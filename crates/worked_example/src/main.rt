@@ -4,6 +4,7 @@
 
 use printing::Line;
 use refusal::Outcome;
+use std::io::Stdout;
 use types::{Columns, Db2Value, RowAnswer, ValuePlace};
 
 // What a host sends once: here three triplets, the last of them with ten columns of three bytes each.
@@ -31,10 +32,10 @@ const ROW: [u8; 67] = *b"\xFF\x00\
 const RELEASE: u32 = 2;
 
 // The bytes of a text lie in the text buffer; value_bytes shows them. A number's bits are the second of its words.
-fn print_value<'a>(name: &[u8], v: ValuePlace, row: &'a [u8], text: &'a [u8]) {
+fn print_value<'a>(out: Stdout, name: &[u8], v: ValuePlace, row: &'a [u8], text: &'a [u8]) {
     let value = v.value;
     let words = words::value_words(v);
-    let line = Line::new().text(name);
+    let line = Line::new(out).text(name);
     let shown = match value {
         Db2Value::Null => line.text(b"null"),
         Db2Value::SmallInt(_) => line.signed(words.number),
@@ -45,11 +46,11 @@ fn print_value<'a>(name: &[u8], v: ValuePlace, row: &'a [u8], text: &'a [u8]) {
 }
 
 // A name may be another than the host's where part of its bytes was malformed: let someone look at it.
-fn print_replaced(replaced: usize) {
+fn print_replaced(out: Stdout, replaced: usize) {
     if replaced == 0 {
         return;
     }
-    Line::new()
+    Line::new(out)
         .text(b"beware: ")
         .decimal(replaced as u64)
         .text(b" malformed in its texts, shown as U+FFFD")
@@ -57,17 +58,17 @@ fn print_replaced(replaced: usize) {
         .flush();
 }
 
-fn print_order<'a>(answer: RowAnswer, row: &'a [u8], text: &'a [u8]) {
-    print_replaced(answer.replaced);
-    print_value(b"order    ", answer.places[0], row, text);
-    print_value(b"pattern  ", answer.places[1], row, text);
-    print_value(b"width    ", answer.places[3], row, text);
-    print_value(b"picks    ", answer.places[5], row, text);
-    print_value(b"note     ", answer.places[8], row, text);
+fn print_order<'a>(out: Stdout, answer: &RowAnswer, row: &'a [u8], text: &'a [u8]) {
+    print_replaced(out, answer.replaced);
+    print_value(out, b"order    ", answer.places[0], row, text);
+    print_value(out, b"pattern  ", answer.places[1], row, text);
+    print_value(out, b"width    ", answer.places[3], row, text);
+    print_value(out, b"picks    ", answer.places[5], row, text);
+    print_value(out, b"note     ", answer.places[8], row, text);
 }
 
-fn print_refusal(outcome: Outcome) {
-    Line::new()
+fn print_refusal(out: Stdout, outcome: Outcome) {
+    Line::new(out)
         .text(b"refusal ")
         .decimal(outcome.number() as u64)
         .text(b", ")
@@ -78,31 +79,40 @@ fn print_refusal(outcome: Outcome) {
         .flush();
 }
 
-// Where the texts need more than 256 bytes, refusal 9 says how many.
-fn print_row(columns: Columns, row: &[u8]) {
-    let mut text = [0u8; 256];
-    let answer = row::decode_row(row, columns, RELEASE, &mut text);
-    let outcome = answer.outcome;
-    match outcome {
-        Outcome::Accepted => print_order(answer, row, &text),
-        Outcome::Refused(_) => print_refusal(outcome),
+// The row call takes a list of columns for itself.
+fn copied(columns: &Columns) -> Columns {
+    Columns {
+        columns: columns.columns,
+        count: columns.count,
     }
 }
 
-fn main() {
+// Where the texts need more than 256 bytes, refusal 9 says how many.
+fn print_row(out: Stdout, columns: &Columns, row: &[u8]) {
+    let mut text = [0u8; 256];
+    let answer = row::decode_row(row, copied(columns), RELEASE, &mut text);
+    let outcome = answer.outcome;
+    match outcome {
+        Outcome::Accepted => print_order(out, &answer, row, &text),
+        Outcome::Refused(_) => print_refusal(out, outcome),
+    }
+}
+
+fn main(rt: HostRuntime) {
+    let out = rt.stdout();
     // The entry for what comes from a host: a description that was cut short is refused, and does not pass for one of fewer columns.
     let description = qrydsc::parse_whole_qrydsc(&DESCRIPTION);
     let outcome = description.outcome;
-    let columns = description.columns;
+    let columns = &description.columns;
     if outcome.number() != 0 {
-        print_refusal(outcome);
+        print_refusal(out, outcome);
         return;
     }
-    print_row(columns, &ROW);
+    print_row(out, columns, &ROW);
     // A byte of the note was changed on its way: C3 begins a character, and none goes on behind it.
     let mut damaged = ROW;
     damaged[47] = 0xC3;
-    print_row(columns, &damaged);
+    print_row(out, columns, &damaged);
     // Cut off within a text, the row is too short: refusal 8, with the bytes expected and those that are there.
-    print_row(columns, &ROW[0..57]);
+    print_row(out, columns, &ROW[0..57]);
 }

@@ -1,5 +1,5 @@
 //! Says where the archive libvejupa.a is: in the folder that VEJUPA_LIB names (absolute, or seen from this crate's folder), else where
-//! `rt staticlib vejupa` writes it, in target/staticlib at the repository's root.
+//! `tools/archive` writes it, in target/staticlib at the repository's root.
 //!
 //! An archive that is missing or out of date is a warning and no error, so that `cargo check` and `cargo doc` do without it. A program
 //! cannot be linked without it.
@@ -8,7 +8,7 @@ use std::fs;
 use std::path::{Path, PathBuf};
 use std::time::SystemTime;
 
-const COMMAND: &str = "run `rt staticlib vejupa` at the repository's root";
+const COMMAND: &str = "run `tools/archive` at the repository's root";
 
 fn main() {
     println!("cargo:rerun-if-env-changed=VEJUPA_LIB");
@@ -55,14 +55,17 @@ fn sources(root: &Path) -> Vec<PathBuf> {
     sources
 }
 
-/// `vejupa` and every crate that it rests on, by crates.txt: a line `NAME: NAME NAME ..` for each.
+/// `vejupa` and every crate that it rests on, by crates.txt: a line `NAME: NAME NAME ..` for each, of a static library `NAME staticlib: NAME NAME ..`.
 fn rests_on(text: &str) -> Vec<&str> {
     let mut names = vec!["vejupa"];
     let mut at = 0;
     while let Some(name) = names.get(at).copied() {
-        let line = text
-            .lines()
-            .find_map(|line| line.strip_prefix(name)?.strip_prefix(':'));
+        let line = text.lines().find_map(|line| {
+            let rest = line.strip_prefix(name)?;
+            rest.strip_prefix(" staticlib")
+                .unwrap_or(rest)
+                .strip_prefix(':')
+        });
         for below in line.unwrap_or_default().split_whitespace() {
             if !names.contains(&below) {
                 names.push(below);

@@ -53,7 +53,7 @@
 //!
 //! # The archive
 //!
-//! The crate links `libvejupa.a`, which `rt staticlib vejupa` writes into `target/staticlib` at the repository's root. The environment
+//! The crate links `libvejupa.a`, which `tools/archive` writes into `target/staticlib` at the repository's root. The environment
 //! variable `VEJUPA_LIB` names another folder with the archive, absolute or seen from this crate's folder. Without the archive, the crate
 //! can be checked and documented, but no program can be linked; nor can one with an archive of another version.
 #![deny(missing_docs)]

@@ -1,9 +1,10 @@
 //! How the crate finds its archive, and what cargo says where it is missing, old, or of another version. A copy of the crate is built
-//! here, in a repository that has the archive's sources or lacks them.
+//! here, in a repository that has the archive's sources or lacks them. That lies among the temporary files: a source of Rattle has no
+//! place in this repository but in a crate.
 use std::env;
 use std::fs::{self, File};
 use std::path::{Path, PathBuf};
-use std::process::Command;
+use std::process::{self, Command};
 use std::time::{Duration, SystemTime};
 use vejupa::{raw, VERSION};
 
@@ -22,12 +23,12 @@ fn the_archive_is_of_the_crates_version() {
     );
 }
 
-/// A repository of its own with a copy of the crate in it.
+/// A repository of its own with a copy of the crate in it. It is removed in the end.
 struct Repository(PathBuf);
 
 impl Repository {
     fn new(name: &str) -> Repository {
-        let root = Path::new(env!("CARGO_TARGET_TMPDIR")).join(name);
+        let root = env::temp_dir().join(format!("vejupa-{}-{name}", process::id()));
         let _ = fs::remove_dir_all(&root);
         let repository = Repository(root);
         let here = Path::new(env!("CARGO_MANIFEST_DIR"));
@@ -76,6 +77,12 @@ impl Repository {
     }
 }
 
+impl Drop for Repository {
+    fn drop(&mut self) {
+        let _ = fs::remove_dir_all(&self.0);
+    }
+}
+
 fn read(file: &Path) -> Vec<u8> {
     fs::read(file).unwrap_or_else(|error| panic!("{}: {error}", file.display()))
 }
@@ -97,7 +104,7 @@ fn an_archive_that_is_missing() {
         let (succeeds, said) = repository.cargo(arguments, None);
         assert!(succeeds, "{said}");
         assert!(said.contains("libvejupa.a is missing"), "{said}");
-        assert!(said.contains("`rt staticlib vejupa`"), "{said}");
+        assert!(said.contains("`tools/archive`"), "{said}");
     }
     let (succeeds, said) = repository.cargo(&["build", "--example", "program"], None);
     assert!(!succeeds);
@@ -120,7 +127,7 @@ fn an_archive_older_than_its_sources() {
     // The archive's own crate, one that it rests on, and one below that; and what is no source of it: a program, the list, a proof.
     repository.write(
         "crates.txt",
-        b"text:\nrow: text\nvejupa: row\nshow_row: row\n",
+        b"text:\nrow: text\nvejupa staticlib: row\nshow_row: row\n",
     );
     let sources = [
         "crates/vejupa/src/lib.rt",
@@ -155,7 +162,7 @@ fn an_archive_older_than_its_sources() {
         let said = check();
         assert!(said.contains("libvejupa.a is older than"), "{said}");
         assert!(
-            said.contains(file) && said.contains("`rt staticlib vejupa`"),
+            said.contains(file) && said.contains("`tools/archive`"),
             "{said}"
         );
         repository.date(file, 1000);

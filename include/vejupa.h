@@ -1,6 +1,6 @@
 /* Vejupa: a proved decoder of Db2 rows. The calls of the static library libvejupa.a, for C (C99 and later) and C++.
  *
- *     rt staticlib vejupa                                  writes target/staticlib/libvejupa.a, for x86-64 Linux
+ *     tools/archive                                        writes target/staticlib/libvejupa.a, for x86-64 Linux
  *     cc -Iinclude program.c target/staticlib/libvejupa.a
  *
  * examples/weave_order.c is a whole program. docs/RULES.md has the rules of descriptions, rows and texts.

@@ -18,7 +18,7 @@ use types::{ByteOrder, ColumnDescriptor, Columns, Db2Type, MAX_COLUMNS, Origin, 
 pub const MAX_QRYDSC: usize = 65536;
 
 // What both calls answer. After a refusal no column is there, and broken_off is false.
-#[derive(Drop)]
+#[derive(Clone, Copy)]
 pub struct Description {
     pub outcome: Outcome,
     pub columns: Columns,

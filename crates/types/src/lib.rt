@@ -102,7 +102,7 @@ pub struct ColumnDescriptor {
 }
 
 // The columns in order, and how many they are. The places after them are unused.
-#[derive(Drop)]
+#[derive(Clone, Copy)]
 pub struct Columns {
     pub columns: [ColumnDescriptor; MAX_COLUMNS],
     pub count: usize,
@@ -149,7 +149,7 @@ pub struct ValuePlace {
 }
 
 // What the row call answers: a value place for each column, how many bytes of the input were used, and how many U+FFFD its texts' conversions put in.
-#[derive(Drop)]
+#[derive(Clone, Copy)]
 pub struct RowAnswer {
     pub outcome: Outcome,
     pub places: [ValuePlace; MAX_COLUMNS],

@@ -1,7 +1,7 @@
 -- What owning a column list tells of its columns: the scale of a Decimal fits a byte, so it is known how long the texts of a row are at most. Assumes nothing.
 use Prim.Native.Nat.{ℕ, zero, suc, ◌+◌, ◌*◌, ◌-◌, ◌≤◌}
-use mathlib.Core.Path.{◌≡◌, subst}
-use mathlib.Core.List.{List, [], ◌∷◌, map}
+use mathlib.Core.Path.{subst}
+use mathlib.Core.List.{List, [], ◌∷◌}
 use lib.ListN.{length, take}
 use lib.Seq.{length-take-le}
 use mir.Val.{Val}
@@ -22,12 +22,12 @@ use Rattle.row.specs.Whole.{Whole}
 use Rattle.row.proofs.Wholes.{whole_is}
 
 -- a column: its type is the ninth field, and a Decimal's scale the second number of that
-column_scaled : (c : ColumnDescriptor) (vs : List Val) → shadow ((column.the_field).row.own_val ((column.the_type).to c) vs) → Scaled c.db2_type
+column_scaled : (c : ColumnDescriptor) (vs : List Val) → shadow ((column.the_row).own_val c vs) → Scaled c.db2_type
 column_scaled c vs o precision scale e =
-    let t = subst (λ (t : Db2Type). shadow ((db2.the_field).row.own_val ((db2.the_type).to t) o.0.1.1.1.1.1.1.1.1.0)) e o.1.1.1.1.1.1.1.1.1.1.0 in
+    let t = subst (λ (t : Db2Type). shadow ((db2.the_row).own_val t o.0.1.1.1.1.1.1.1.1.0)) e o.1.1.1.1.1.1.1.1.1.1.0 in
     t.1.1.1.1.1.0.1
 
-pub owned_scaled : (cs : List ColumnDescriptor) (us : List Val) → shadow (each (column.the_field).row.Denot (column.the_field).row.own_val (map (column.the_type).to cs) us) → AllScaled cs
+pub owned_scaled : (cs : List ColumnDescriptor) (us : List Val) → shadow (each (column.the_row).Denot (column.the_row).own_val cs us) → AllScaled cs
 owned_scaled [] us o = tt
 owned_scaled (c ∷ cs) [] o = absurd o
 owned_scaled (c ∷ cs) (u ∷ us) o = (column_scaled c (u ∷ []) o.0, owned_scaled cs us o.1)

@@ -6,11 +6,10 @@ use native.Mathlib.Omega.{arith}
 use borrow.Author.Tests.{lt-ltb, le-ltb}
 use lib.ListN.{length}
 use Rattle.types.specs.declared.ColumnDescriptor.{ColumnDescriptor}
-use Rattle.rules.specs.Walk.{Cell, Walk, done, short, walk_body}
-use Rattle.rules.specs.Row.{Decision, refuse, accept, row_texts, walk_decision, body_decision}
+use Rattle.rules.specs.Walk.{Walk, done, short, walk_body}
+use Rattle.rules.specs.Row.{refuse, accept, row_texts, walk_decision, body_decision}
 use Rattle.rules.specs.Conversions.{conversions_of}
 use Rattle.rules.proofs.Walks.{pieces_of}
-use Rattle.row_words.specs.declared.Walked.{Walked}
 use Rattle.row_words.specs.declared.Walked.TheVariants.{Done, Short}
 use Rattle.row_words.specs.Passes.{outline}
 use Rattle.piece.specs.Texts.{texts_of}

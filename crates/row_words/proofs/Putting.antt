@@ -1,14 +1,13 @@
 -- What holds while values and texts are written: of the columns cs, i are passed, their values stand in the first words, and their texts in the
 -- first bytes; so many U+FFFD were put in. Assumes nothing.
-use Prim.Native.Nat.{ℕ, ◌+◌, ◌-◌, ◌*◌, ◌≤◌, ◌<◌}
-use mathlib.Core.Path.{◌≡◌, refl, sym, ap, ◌∙◌}
+use Prim.Native.Nat.{ℕ, ◌+◌, ◌-◌, ◌*◌, ◌≤◌}
+use mathlib.Core.Path.{◌≡◌, refl, ap, ◌∙◌}
 use mathlib.Core.List.{List, [], ◌∷◌, ◌++◌}
 use native.Mathlib.Omega.{arith}
 use lib.ListN.{length, take, drop, set, length-append, length-drop}
 use Rattle.types.specs.declared.ColumnDescriptor.{ColumnDescriptor}
 use Rattle.types.specs.declared.ValuePlace.{ValuePlace}
 use Rattle.buffer.specs.Buffer.{overwritten}
-use Rattle.buffer.proofs.Writing as writing
 use Rattle.rules.specs.Walk.{Cell, column_need, done, walk_body}
 use Rattle.rules.specs.Row.{cell_value, row_values, row_texts, row_replaced}
 use Rattle.rules.specs.Conversions.{conversions_of}

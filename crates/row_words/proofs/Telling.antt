@@ -1,10 +1,10 @@
 -- What is told of a row at each way out: the outcome, the words of values and the text buffer, by what is decided. Assumes nothing.
 use Prim.Native.Nat.{ℕ, ◌≤◌, ◌<◌}
-use mathlib.Core.Path.{◌≡◌, refl, sym, ap, ◌∙◌}
-use mathlib.Core.List.{List, [], ◌∷◌}
+use mathlib.Core.Path.{◌≡◌, refl, ap, ◌∙◌}
+use mathlib.Core.List.{List}
 use lib.ListN.{length}
 use Rattle.types.specs.declared.ColumnDescriptor.{ColumnDescriptor}
-use Rattle.rules.specs.Walk.{Walk, skip_of, walk_body}
+use Rattle.rules.specs.Walk.{skip_of, walk_body}
 use Rattle.rules.specs.Row.{body_decision, text_after}
 use Rattle.rules.specs.Conversions.{conversions_of}
 use Rattle.rules.proofs.Walks.{pieces_of}

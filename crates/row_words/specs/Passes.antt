@@ -1,10 +1,8 @@
 -- For inner functions; no public promise rests on it. What each pass over the columns tells. Assumes nothing.
-use Rattle.std.specs.Prelude.{ℕ, ◌+◌, ◌/◌, ◌%◌, ◌^◌, ◌≡◌, Bool, false, cond, List, [], ◌∷◌, ltb, eqb, length, get_or, set, take, drop}
+use Rattle.std.specs.Prelude.{ℕ, ◌+◌, ◌/◌, ◌%◌, ◌^◌, ◌≡◌, Bool, false, List, [], ◌∷◌, eqb, length, set}
 use Rattle.std.proofs.Math.Option.{Option, some, none}
-use Rattle.types.specs.declared.Db2Type.TheVariants as type
 use Rattle.types.specs.declared.ColumnDescriptor.{ColumnDescriptor}
 use Rattle.types.specs.declared.ValuePlace.{ValuePlace}
-use Rattle.types.specs.Names.{named_in}
 use Rattle.rules.specs.Walk.{Cell, Walk, done, short}
 use Rattle.rules.specs.Row.{any_dec_float, Decision, refuse, accept, row_texts, row_replaced}
 use Rattle.rules.specs.Conversions.{conversions_of}

@@ -1,0 +1,8 @@
+use Rattle.row_words.proofs.Typed.{is_other}
+use Rattle.row_words.proofs.values.decode_made.Goals as goal
+
+pub decode_other_value-requires : goal.decode_other_value-requires
+decode_other_value-requires c = rw c.column_named-column.ensures (record { there = c.requires.there; other = is_other c.args.first c.args.second c.requires.other })
+
+pub returns : goal.returns
+returns c = λ release. rw (← c.column_named-column.ensures) (c.decode_other_value.ensures release)

@@ -4,9 +4,9 @@ use Prim.Native.Nat.{ℕ, ◌*◌, ◌^◌, ◌<◌}
 use mathlib.Core.Path.{◌≡◌, refl, sym, ap, ◌∙◌, subst}
 use mathlib.Core.Bool.{Bool, true, false, not, cond}
 use lib.Dec.{T}
-use lib.Ieee.{Float, Format, binary32, binary64, is_nan, nan_bits, of_bits, to_bits, top}
+use lib.Ieee.{Float, Format, binary32, binary64, is_nan, nan_bits, of_bits, top}
 use lib.Ieee.Bits.{to_bits-of_bits, nan_bits_is}
-use Rattle.types.specs.Held.{Held, bits, float_bits, held}
+use Rattle.types.specs.Held.{bits, float_bits, held}
 use Rattle.numbers.specs.Number.{Number, number_value, real_of, double_of}
 
 -- for either format: `number` makes the value of a float, and `kept` that of a NaN's pattern

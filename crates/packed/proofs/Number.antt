@@ -10,7 +10,7 @@ use mathlib.Core.Path.{◌≡◌, refl, sym, ap, ◌∙◌}
 use native.Mathlib.Omega.{arith}
 use borrow.Author.Tests.{lt-ltb, le-ltb, ne_eqb, eqb-true, ltb-true, ltb-false}
 use lib.Dec.{ltb, eqb}
-use lib.ListN.{length, take, drop, get_or, replicate, length-append, length-take, length-drop, length-map, length-replicate, take-append-drop}
+use lib.ListN.{length, take, drop, replicate, length-append, length-take, length-drop, length-map, length-replicate, take-append-drop}
 use lib.Seq.{get_or-take, get_or-drop, take_all}
 use Rattle.zdecimal.specs.ZDecimal.{base10, Sign, plus, minus, invalid, z_sign}
 use Rattle.zdecimal.proofs.Base10.{from, from_append, from_zeros, from_base10}

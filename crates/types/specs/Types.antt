@@ -1,5 +1,5 @@
 -- The type that a DRDA type code stands for: Y1, Y2 and Y4 (the Rust: from_drda_type). Assumes nothing.
-use Rattle.std.specs.Prelude.{ℕ, ◌-◌, ◌%◌, Bool, true, false, cond, List, [], ◌∷◌, ltb, eqb}
+use Rattle.std.specs.Prelude.{ℕ, ◌-◌, ◌%◌, Bool, false, cond, List, [], ◌∷◌, ltb, eqb}
 use Rattle.types.specs.declared.Db2Type.{Db2Type}
 use Rattle.types.specs.declared.Db2Type.TheVariants as type
 use Rattle.types.specs.declared.DrdaType.{DrdaType}

@@ -7,7 +7,7 @@ use mathlib.Core.Logic.{inl}
 use mathlib.Core.Path.{◌≡◌, refl, sym, ap, subst, ◌∙◌}
 use native.Mathlib.Omega.{arith}
 use borrow.Author.Tests.{ltb-true, le-leb}
-use lib.Dec.{ltb, eqb}
+use lib.Dec.{ltb}
 use lib.ListN.{length, take, drop, get_or, take-append-drop}
 use Rattle.unicode_standard.specs.Ascii.{all_ascii}
 use Rattle.unicode_standard.specs.Unicode.{Piece, scalar, malformed, is_scalar_value, within, utf8, replacement, piece_text, pieces_text, replacements, First, read_from, first_of, utf8_pieces, utf8_text, utf16, big_endian, units, unit_of, utf16_pieces, utf16_text}

@@ -1,6 +1,6 @@
 -- The Unicode Standard's worked examples of section 3.9, and a few at the edges of its tables: what each sequence is read as. Assumes nothing.
-use Rattle.std.specs.Prelude.{ℕ, Bool, true, false, ◌≡◌, refl, List, [], ◌∷◌, map}
-use Rattle.unicode_standard.specs.Unicode.{Piece, scalar, malformed, is_scalar_value, utf8, piece_text, pieces_text, sequence_in, within, fit, scalar_from, first_by, first_of, read_from, utf8_pieces, utf8_text, utf16, units, pair_of, unit_of, utf16_pieces}
+use Rattle.std.specs.Prelude.{ℕ, Bool, true, false, ◌≡◌, refl, [], ◌∷◌, map}
+use Rattle.unicode_standard.specs.Unicode.{scalar, malformed, is_scalar_value, utf8, piece_text, pieces_text, sequence_in, within, fit, scalar_from, first_by, first_of, read_from, utf8_pieces, utf8_text, utf16, units, pair_of, unit_of, utf16_pieces}
 use Rattle.unicode_standard.specs.Likely.{is_control, is_tab_or_line_end, likely_piece, all_likely, likely_text}
 
 -- `unfolding computed` opens what an example computes with

@@ -3,7 +3,6 @@ use Rattle.numbers.specs.Number.{unsigned}
 use native.Mathlib.Omega.{arith}
 use lib.ListN.{length}
 use Prim.Native.Nat.{◌≤◌}
-use borrow.Author.Rules.{rules}
 use Rattle.numbers.proofs.u32_of.Goals as goal
 
 pub returns-in-BigEndian : goal.returns-in-BigEndian

@@ -1,10 +1,10 @@
-use Prim.Native.Nat.{ℕ, ◌+◌, ◌-◌, ◌*◌, ◌≤◌, ◌/◌, ◌%◌}
+use Prim.Native.Nat.{ℕ, ◌+◌, ◌*◌, ◌/◌, ◌%◌}
 use mathlib.Core.List.{List, ◌∷◌}
 use mathlib.Core.Path.{◌≡◌, refl, ap}
 use native.Mathlib.Omega.{arith}
-use lib.ListN.{length, get_or, set, length-set}
+use lib.ListN.{length, get_or, length-set}
 use lib.Seq.{slice}
-use Rattle.buffer.proofs.Writing.{Writing, start, stored, fits, as_long, all, end}
+use Rattle.buffer.proofs.Writing.{stored, fits, all, end}
 use Rattle.packed.specs.Packed.{character, digit_text}
 use Rattle.packed.proofs.Nibbles.{bytes_next, slice_done}
 use Rattle.packed.proofs.by_byte_write.Goals as goal

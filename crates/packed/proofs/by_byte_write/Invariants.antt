@@ -1,12 +1,7 @@
-use Prim.Native.Nat.{ℕ, ◌+◌, ◌-◌, ◌*◌, ◌≤◌, ◌/◌, ◌%◌}
-use mathlib.Core.List.{List, ◌∷◌}
-use mathlib.Core.Path.{◌≡◌, refl, ap}
-use native.Mathlib.Omega.{arith}
-use lib.ListN.{length, get_or, set, length-set}
+use Prim.Native.Nat.{◌-◌, ◌*◌, ◌≤◌}
 use lib.Seq.{slice}
-use Rattle.buffer.proofs.Writing.{Writing, start, stored, fits, as_long, all, end}
-use Rattle.packed.specs.Packed.{character, digit_text}
-use Rattle.packed.proofs.Nibbles.{bytes_next, slice_done}
+use Rattle.buffer.proofs.Writing.{Writing}
+use Rattle.packed.specs.Packed.{digit_text}
 use Rattle.packed.proofs.by_byte_write.Given as goal
 
 abbrev pub invariant-loop-k : goal.invariant-loop-k

@@ -1,12 +1,7 @@
-use Prim.Native.Nat.{ℕ, ◌+◌, ◌-◌, ◌≤◌}
-use mathlib.Core.List.{List, ◌∷◌}
-use mathlib.Core.Path.{◌≡◌, ap}
-use native.Mathlib.Omega.{arith}
-use lib.ListN.{length}
+use Prim.Native.Nat.{◌-◌, ◌≤◌}
 use lib.Seq.{slice}
-use Rattle.buffer.proofs.Writing.{Writing, start, stored, fits, as_long, all, end}
+use Rattle.buffer.proofs.Writing.{Writing}
 use Rattle.packed.specs.Packed.{digit_text}
-use Rattle.packed.proofs.Nibbles.{slice_next, slice_done}
 use Rattle.packed.proofs.by_digit_write.Given as goal
 
 abbrev pub invariant-loop-k : goal.invariant-loop-k

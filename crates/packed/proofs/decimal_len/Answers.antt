@@ -1,7 +1,6 @@
 use mathlib.Core.List.{◌++◌}
 use mathlib.Core.Path.{ap}
 use native.Mathlib.Omega.{arith}
-use borrow.Author.Rules.{rules}
 use lib.ListN.{length, take, length-append}
 use Rattle.packed.specs.Packed.{sign_text, digit_text, trimmed, fraction}
 use Rattle.packed.proofs.Nibbles.{parts}

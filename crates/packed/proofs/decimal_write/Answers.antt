@@ -2,9 +2,8 @@ use Prim.Native.Nat.{ℕ, ◌+◌, ◌-◌}
 use mathlib.Core.List.{List, [], ◌++◌, append-nil}
 use mathlib.Core.Path.{◌≡◌, refl, sym, ap}
 use native.Mathlib.Omega.{arith}
-use borrow.Author.Rules.{rules}
 use lib.ListN.{length, take, drop, length-append}
-use Rattle.buffer.proofs.Writing.{Writing, wrote_first, wrote_rest, fits, fits_rest, as_long, all, end}
+use Rattle.buffer.proofs.Writing.{Writing, wrote_first, wrote_rest, fits_rest, all, end}
 use Rattle.packed.specs.Packed.{sign_text, digit_text, trimmed, fraction, decimal_text}
 use Rattle.packed.proofs.Nibbles.{parts}
 use Rattle.packed.proofs.decimal_write.Goals as goal

@@ -1,6 +1,3 @@
-use Prim.Native.Nat.{◌/◌}
-use native.Mathlib.Omega.{arith}
-use borrow.Author.Rules.{rules}
 use Rattle.packed.proofs.Nibbles.{even, odd}
 use Rattle.packed.proofs.digit_at.Goals as goal
 

@@ -2,10 +2,9 @@ use Prim.Native.Nat.{ℕ, ◌+◌, ◌-◌, ◌*◌, ◌/◌, ◌≤◌}
 use mathlib.Core.List.{List, [], ◌++◌, append-nil}
 use mathlib.Core.Path.{◌≡◌, refl, sym, ap, ◌∙◌}
 use native.Mathlib.Omega.{arith}
-use borrow.Author.Rules.{rules}
-use lib.ListN.{length, take, drop, length-append}
+use lib.ListN.{length, take, drop}
 use lib.Seq.{slice}
-use Rattle.buffer.proofs.Writing.{Writing, wrote_first, wrote_rest, fits, fits_rest, as_long, all, end}
+use Rattle.buffer.proofs.Writing.{Writing, wrote_first, wrote_rest, all, end}
 use Rattle.packed.specs.Packed.{digit_text}
 use Rattle.packed.proofs.Nibbles.{digits_length, slice_split}
 use Rattle.packed.proofs.digits_write.Goals as goal

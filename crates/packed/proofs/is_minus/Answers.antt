@@ -1,6 +1,5 @@
 use Prim.Native.Nat.{ℕ}
 use mathlib.Core.Path.{ap}
-use borrow.Author.Rules.{rules}
 use lib.Dec.{eqb}
 use Rattle.packed.proofs.Nibbles.{sign_nibble_lem}
 use Rattle.packed.proofs.is_minus.Goals as goal

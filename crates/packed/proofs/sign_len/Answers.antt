@@ -1,6 +1,5 @@
 use mathlib.Core.Path.{sym, ap}
 use native.Mathlib.Omega.{arith}
-use borrow.Author.Rules.{rules}
 use lib.ListN.{length}
 use Rattle.packed.proofs.Nibbles.{minus, plus}
 use Rattle.packed.proofs.sign_len.Goals as goal

@@ -1,7 +1,6 @@
 use mathlib.Core.List.{[]}
 use mathlib.Core.Path.{refl, ap}
 use native.Mathlib.Omega.{arith}
-use borrow.Author.Rules.{rules}
 use lib.ListN.{length}
 use Rattle.buffer.proofs.Writing.{start, stored, all, end}
 use Rattle.packed.proofs.Nibbles.{minus, plus}

@@ -1,7 +1,4 @@
-use Prim.Native.Nat.{◌-◌, ◌<◌}
-use mathlib.Core.Path.{refl}
-use native.Mathlib.Omega.{arith}
-use Rattle.packed.proofs.Nibbles.{Left, zero_goes, digit_stays, last_stays}
+use Rattle.packed.proofs.Nibbles.{zero_goes, digit_stays, last_stays}
 use Rattle.packed.proofs.whole_start.Goals as goal
 
 pub returns-then-digit_at-ne48 : goal.returns-then-digit_at-ne48

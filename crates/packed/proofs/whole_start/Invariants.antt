@@ -1,7 +1,5 @@
 use Prim.Native.Nat.{◌-◌, ◌<◌}
-use mathlib.Core.Path.{refl}
-use native.Mathlib.Omega.{arith}
-use Rattle.packed.proofs.Nibbles.{Left, zero_goes, digit_stays, last_stays}
+use Rattle.packed.proofs.Nibbles.{Left}
 use Rattle.packed.proofs.whole_start.Given as goal
 
 abbrev pub invariant-loop-z : goal.invariant-loop-z

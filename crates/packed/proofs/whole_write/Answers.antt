@@ -1,11 +1,8 @@
-use Prim.Native.Nat.{ℕ}
-use mathlib.Core.List.{List, []}
-use mathlib.Core.Path.{refl, sym, ap, ◌∙◌}
+use mathlib.Core.List.{[]}
+use mathlib.Core.Path.{refl, ap}
 use native.Mathlib.Omega.{arith}
-use borrow.Author.Rules.{rules}
 use lib.ListN.{length}
 use Rattle.buffer.proofs.Writing.{start, stored, all, end}
-use Rattle.buffer.specs.Buffer.{overwritten}
 use Rattle.packed.specs.Packed.{digit_text}
 use Rattle.packed.proofs.Nibbles.{no_whole}
 use Rattle.packed.proofs.whole_write.Goals as goal

@@ -1,10 +1,6 @@
-use Prim.Native.Nat.{ℕ, ◌-◌, ◌≤◌}
-use mathlib.Core.Path.{◌≡◌, ap, subst}
-use native.Mathlib.Omega.{arith}
-use lib.ListN.{length}
-use Rattle.buffer.proofs.Writing.{Writing, start, stored, fits, as_long, all, end}
+use Prim.Native.Nat.{◌-◌, ◌≤◌}
+use Rattle.buffer.proofs.Writing.{Writing}
 use Rattle.packed.specs.Packed.{zeros}
-use Rattle.packed.proofs.Nibbles.{zeros_next, zeros_done}
 use Rattle.packed.proofs.zeros_write.Given as goal
 
 abbrev pub invariant-loop-o : goal.invariant-loop-o

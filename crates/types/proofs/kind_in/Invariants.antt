@@ -1,11 +1,7 @@
-use borrow.Author.Rules.{rules}
-use native.Mathlib.Omega.{arith}
-use Prim.Native.Nat.{◌≤◌, ◌<◌, ◌-◌}
-use mathlib.Core.Path.{◌≡◌, refl, sym, ◌∙◌}
+use Prim.Native.Nat.{◌≤◌, ◌-◌}
+use mathlib.Core.Path.{◌≡◌}
 use lib.ListN.{length, drop}
-use lib.Seq.{drop-length}
 use Rattle.types.specs.Kinds.{kind_in}
-use Rattle.types.proofs.KindLaws.{kind_found, kind_next}
 use Rattle.types.proofs.kind_in.Given as goal
 
 abbrev pub invariant-loop-i : goal.invariant-loop-i

@@ -1,12 +1,11 @@
-use Prim.Native.Nat.{ℕ, ◌+◌, ◌-◌, ◌/◌, ◌≤◌}
+use Prim.Native.Nat.{ℕ, ◌-◌, ◌/◌}
 use mathlib.Core.List.{List}
-use mathlib.Core.Path.{◌≡◌, refl, subst}
+use mathlib.Core.Path.{◌≡◌, subst}
 use native.Mathlib.Omega.{arith}
-use borrow.Author.Rules.{rules}
 use lib.Dec.{ltb}
 use lib.ListN.{length, get_or}
 use Rattle.zdecimal.specs.ZDecimal.{z_digits, are_digits}
-use Rattle.zdecimal.proofs.Digits.{Left, high_fails, low_fails, both_pass, last_decides}
+use Rattle.zdecimal.proofs.Digits.{high_fails, low_fails, both_pass, last_decides}
 use Rattle.zdecimal.proofs.digits_valid.Goals as goal
 
 pub returns-then-b-gt9 : goal.returns-then-b-gt9

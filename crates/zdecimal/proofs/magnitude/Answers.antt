@@ -1,10 +1,9 @@
-use Prim.Native.Nat.{ℕ, ◌+◌, ◌-◌, ◌≤◌}
+use Prim.Native.Nat.{ℕ, ◌-◌}
 use mathlib.Core.List.{List}
 use mathlib.Core.Path.{◌≡◌, ap}
 use native.Mathlib.Omega.{arith}
-use borrow.Author.Rules.{rules}
 use lib.ListN.{length, get_or}
-use Rattle.zdecimal.proofs.Digits.{Makes, none_made, byte_made, beyond, beyond_at_last, last_made}
+use Rattle.zdecimal.proofs.Digits.{none_made, byte_made, beyond, beyond_at_last, last_made}
 use Rattle.zdecimal.proofs.ByPlace.{last_digit}
 use Rattle.zdecimal.proofs.magnitude.Goals as goal
 

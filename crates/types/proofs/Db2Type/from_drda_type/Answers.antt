@@ -1,4 +1,3 @@
-use borrow.Author.Rules.{rules}
 use borrow.Author.Tests.{eq-eqb, ne_eqb}
 use Rattle.types.specs.Types.{from_drda_type, base_types}
 use Rattle.types.proofs.KindLaws.{kinds_types}

@@ -13,8 +13,7 @@ use types::MAX_COLUMNS;
 use words::value_words;
 
 // The length of the column at a place of the list. The place is not known to the compiler: so every column is written.
-#[unsafe(no_mangle)]
-pub extern "C" fn by_value_parse_qrydsc(data: &[u8], index: u64) -> u64
+pub fn by_value_parse_qrydsc(data: &[u8], index: u64) -> u64
     ensures { result ≡ length_at (description «data».now).columns (index % max_columns) }
 {
     let described = qrydsc::parse_qrydsc(data);
@@ -26,8 +25,7 @@ pub extern "C" fn by_value_parse_qrydsc(data: &[u8], index: u64) -> u64
 
 // How many columns there are. It is the second caller, without which parse_qrydsc would be compiled into the first, and what that does not look
 // at would be left out.
-#[unsafe(no_mangle)]
-pub extern "C" fn by_value_count_columns(data: &[u8]) -> u64
+pub fn by_value_count_columns(data: &[u8]) -> u64
     ensures { result ≡ (description «data».now).columns.count }
 {
     let described = qrydsc::parse_qrydsc(data);
@@ -36,8 +34,7 @@ pub extern "C" fn by_value_count_columns(data: &[u8]) -> u64
 }
 
 // Whether the description breaks off, as 1 and 0.
-#[unsafe(no_mangle)]
-pub extern "C" fn by_value_broken_off(data: &[u8]) -> u64
+pub fn by_value_broken_off(data: &[u8]) -> u64
     ensures { result ≡ cond (description «data».now).broken_off 1 0 }
 {
     let described = qrydsc::parse_qrydsc(data);
@@ -45,8 +42,7 @@ pub extern "C" fn by_value_broken_off(data: &[u8]) -> u64
 }
 
 // The same as the first, by the entry that takes whole descriptions alone.
-#[unsafe(no_mangle)]
-pub extern "C" fn by_value_parse_whole_qrydsc(data: &[u8], index: u64) -> u64
+pub fn by_value_parse_whole_qrydsc(data: &[u8], index: u64) -> u64
     ensures { result ≡ length_at (whole_description «data».now).columns (index % max_columns) }
 {
     let described = qrydsc::parse_whole_qrydsc(data);
@@ -57,8 +53,7 @@ pub extern "C" fn by_value_parse_whole_qrydsc(data: &[u8], index: u64) -> u64
 }
 
 // Its refusal's number, or 0.
-#[unsafe(no_mangle)]
-pub extern "C" fn by_value_whole_number(data: &[u8]) -> u64
+pub fn by_value_whole_number(data: &[u8]) -> u64
     ensures { result ≡ told_number (whole_description «data».now).outcome }
 {
     let described = qrydsc::parse_whole_qrydsc(data);
@@ -69,8 +64,7 @@ pub extern "C" fn by_value_whole_number(data: &[u8]) -> u64
 // The number of the value at a place of a row's answer. The description is read once; the row is decoded once and then `rounds` times again, each time
 // from the input: so what the columns cost is not counted in. decode_row has two callers here, and is not compiled into either. Each round leaves in
 // `text` what the first one left.
-#[unsafe(no_mangle)]
-pub extern "C" fn by_value_decode_row(
+pub fn by_value_decode_row(
     described: &[u8],
     row: &[u8],
     release: u32,
@@ -100,13 +94,7 @@ pub extern "C" fn by_value_decode_row(
 }
 
 // How many characters were replaced in a row's texts: the comparison with the Rust holds it to a second opinion.
-#[unsafe(no_mangle)]
-pub extern "C" fn by_value_replaced(
-    described: &[u8],
-    row: &[u8],
-    release: u32,
-    text: &mut [u8],
-) -> u64
+pub fn by_value_replaced(described: &[u8], row: &[u8], release: u32, text: &mut [u8]) -> u64
     ensures number { result ≡ (row_answer release (description described.now).columns row.now text.old).replaced }
     ensures text { text.new ≡ row_text release (description described.now).columns row.now text.old }
 {

@@ -1,8 +1,8 @@
 -- What vejupa_raw_decode_row promises, at each of its ways out. Assumes nothing.
-use Prim.Native.Nat.{ℕ, zero, suc, ◌+◌, ◌-◌, ◌*◌, ◌/◌, ◌≤◌, ◌<◌}
+use Prim.Native.Nat.{ℕ, ◌-◌, ◌*◌, ◌/◌, ◌≤◌, ◌<◌}
 use mathlib.Core.Path.{◌≡◌, refl, sym, ap, ◌∙◌}
-use mathlib.Core.Bool.{Bool, true, false, cond}
-use mathlib.Core.List.{List, [], ◌∷◌, ◌++◌}
+use mathlib.Core.Bool.{Bool, true, false}
+use mathlib.Core.List.{List}
 use mathlib.Core.Option.{Option, some, none}
 use native.Mathlib.Omega.{arith}
 use borrow.Author.Tests.{lt-ltb, le-ltb}
@@ -11,12 +11,11 @@ use lib.Seq.{take_at}
 use Rattle.refusal.specs.Refusal.{input_limit}
 use Rattle.types.specs.declared.ColumnDescriptor.{ColumnDescriptor}
 use Rattle.types.specs.Places.{max_columns, filled, blank_column, column_list}
-use Rattle.rules.specs.Walk.{Cell, skip_of}
-use Rattle.rules.specs.Row.{refuse, accept, row_texts, any_dec_float, covered, body_decision, row_decision, text_after}
+use Rattle.rules.specs.Walk.{skip_of}
+use Rattle.rules.specs.Row.{any_dec_float, covered, body_decision, row_decision, text_after}
 use Rattle.rules.specs.Conversions.{conversions_of}
 use Rattle.conversion.specs.Conversion.{is_release}
 use Rattle.words.specs.Reading.{read_columns}
-use Rattle.row_words.specs.declared.Checked.{Checked}
 use Rattle.row_words.specs.declared.Checked.TheVariants.{Columns, NoColumn}
 use Rattle.row_words.specs.declared.RowOutcome.TheVariants.{Accepted, TooShort, TextTooShort}
 use Rattle.row_words.specs.Rows.{values_after}

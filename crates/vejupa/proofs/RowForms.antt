@@ -2,9 +2,8 @@
 -- their places. Assumes nothing.
 use Prim.Native.Nat.{ℕ, suc, ◌+◌, ◌-◌, ◌*◌, ◌/◌, ◌≤◌, ◌<◌}
 use mathlib.Core.Path.{◌≡◌, refl, sym, ap, ◌∙◌, subst}
-use mathlib.Core.Bool.{Bool, true, false, cond, not, false≢true}
+use mathlib.Core.Bool.{Bool, true, false, cond, not}
 use mathlib.Core.List.{List, [], ◌∷◌, ◌++◌}
-use mathlib.Core.Option.{Option, some}
 use mathlib.Core.Logic.{◌⊎◌, inl, inr}
 use native.Mathlib.Omega.{arith}
 use borrow.Author.Tests.{le-ltb}
@@ -16,7 +15,7 @@ use Rattle.types.specs.declared.ColumnDescriptor.{ColumnDescriptor}
 use Rattle.types.specs.declared.Columns.{Columns}
 use Rattle.types.specs.declared.ValuePlace.{ValuePlace}
 use Rattle.types.specs.Places.{max_columns, filled, blank_value, column_list}
-use Rattle.rules.specs.Walk.{column_need, Cell, cell_of, Walk, done, short, cons_cell, walk, walk_body, walk_row, skip_of}
+use Rattle.rules.specs.Walk.{column_need, Cell, cell_of, Walk, walk, walk_body, walk_row, skip_of}
 use Rattle.rules.specs.Row.{RowTold, Decision, refuse, accept, covered, row_values, row_decision, answer_of, text_after, answer_with, text_with, refused_row}
 use Rattle.rules.specs.Meaning.{Conversions}
 use Rattle.conversion.specs.Conversion.{is_release}
@@ -32,7 +31,6 @@ use Rattle.qrydsc.specs.Entries.{entry_answer}
 use Rattle.qrydsc.proofs.Lists.{length_numbered}
 use Rattle.description_words.proofs.Fitting.{description_fits}
 use Rattle.words.specs.Words.{pack_columns}
-use Rattle.words.specs.Reading.{read_columns}
 use Rattle.words.specs.Values.{pack_values}
 use Rattle.words.specs.ValueReading.{value_named}
 use Rattle.words.proofs.Columns.{AllFit, reads_columns, packed_length_lem}
@@ -45,7 +43,7 @@ use Rattle.vejupa.proofs.RowCall.{covered_list}
 use Rattle.vejupa.proofs.Described.{listing, Refuses, Accepts, sorted}
 use Rattle.rules.specs.Value.{value_bytes, texts_together}
 use Rattle.rules.proofs.Answers.{filled_together}
-use Rattle.vejupa.specs.Rows.{OnWords, decided, decision_for, words_decision, row_numbers, words_left, text_left, words_bytes}
+use Rattle.vejupa.specs.Rows.{decided, words_decision, row_numbers, words_left, text_left, words_bytes}
 use Rattle.vejupa.specs.Answers.{value_with}
 use Rattle.vejupa.proofs.ValueBytes.{three_bytes}
 use Rattle.vejupa.proofs.ValueRanges.{cons_all, walk_range, AllInRange, values_range, at_range}

@@ -1,12 +1,12 @@
 -- Each number of an accepted row of bytes is in the range of its variant, so that the row's words name its values. Assumes nothing.
-use Prim.Native.Nat.{ℕ, zero, suc, ◌+◌, ◌-◌, ◌*◌, ◌≤◌, ◌<◌, ◌^◌}
-use mathlib.Core.Path.{◌≡◌, refl, sym, ap, ◌∙◌}
+use Prim.Native.Nat.{ℕ, zero, suc, ◌+◌, ◌-◌, ◌≤◌, ◌<◌, ◌^◌}
+use mathlib.Core.Path.{◌≡◌, refl, sym, ◌∙◌}
 use mathlib.Core.Bool.{Bool, true, false, cond, false≢true}
 use mathlib.Core.List.{List, [], ◌∷◌}
 use native.Mathlib.Omega.{arith}
 use borrow.Author.Tests.{ltb-true, ltb-false, eqb-true}
 use lib.Dec.{ltb, eqb}
-use lib.IntN.{ℤ, pos, negsuc}
+use lib.IntN.{pos, negsuc}
 use lib.ListN.{length, get_or, take, drop, length-take}
 use lib.Ieee.{binary32, binary64, nan_bits, of_bits}
 use lib.Ieee.Bits.{of_bits-fits, nan_bits_is}
@@ -20,7 +20,7 @@ use Rattle.types.specs.declared.Db2Type.{Db2Type}
 use Rattle.types.specs.declared.Db2Type.TheVariants as type
 use Rattle.types.specs.declared.ColumnDescriptor.{ColumnDescriptor}
 use Rattle.types.specs.declared.ValuePlace.{ValuePlace}
-use Rattle.types.specs.Names.{name_of, own_numbers}
+use Rattle.types.specs.Names.{name_of}
 use Rattle.types.specs.Places.{blank_value}
 use Rattle.numbers.specs.Number.{Number, unsigned, number_value, real_of, double_of}
 use Rattle.rules.specs.declared.Extent.TheVariants.{Fixed}

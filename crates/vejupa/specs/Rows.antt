@@ -1,5 +1,5 @@
 -- What vejupa_raw_decode_row answers and leaves, by what decode_row decides for the columns that the words say, and what vejupa_raw_value_bytes shows. Assumes nothing.
-use Rattle.std.specs.Prelude.{ℕ, ◌*◌, ◌/◌, cond, not, List, [], ◌∷◌, ltb, length, get_or}
+use Rattle.std.specs.Prelude.{ℕ, ◌*◌, ◌/◌, cond, not, List, [], ltb, length, get_or}
 use Rattle.std.proofs.Math.Option.{Option, some, none}
 use Rattle.types.specs.declared.ColumnDescriptor.{ColumnDescriptor}
 use Rattle.types.specs.Places.{max_columns, column_list}

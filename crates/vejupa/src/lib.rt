@@ -42,8 +42,7 @@ const NO_COLUMN: u32 = 102;
 
 // The version of these calls, 0.6.0 as 10000 * 0 + 100 * 6 + 0. The number stands in the name, which include/vejupa.h and bindings/rust refer to: what was
 // compiled for another version does not link.
-#[unsafe(no_mangle)]
-pub extern "C" fn vejupa_version_0_6_0() -> u32
+pub fn vejupa_version_0_6_0() -> u32
     ensures { result ≡ 600 }
 {
     600
@@ -85,8 +84,7 @@ fn report_replaced(a: TextAnswer, text_length: &mut usize, replaced: &mut usize)
 }
 
 // The text of a character value, by its CCSID and the host's release; in replaced how many U+FFFD were put in for what was malformed.
-#[unsafe(no_mangle)]
-pub extern "C" fn vejupa_raw_decode_character_bytes(
+pub fn vejupa_raw_decode_character_bytes(
     data: &[u8],
     ccsid: u16,
     release: u32,
@@ -104,8 +102,7 @@ pub extern "C" fn vejupa_raw_decode_character_bytes(
 }
 
 // The same for a graphic value.
-#[unsafe(no_mangle)]
-pub extern "C" fn vejupa_raw_decode_graphic_bytes(
+pub fn vejupa_raw_decode_graphic_bytes(
     data: &[u8],
     ccsid: u16,
     release: u32,
@@ -123,12 +120,7 @@ pub extern "C" fn vejupa_raw_decode_graphic_bytes(
 }
 
 // `LOB locator 0x` and the bytes in hexadecimal.
-#[unsafe(no_mangle)]
-pub extern "C" fn vejupa_raw_format_lob_locator(
-    bytes: &[u8],
-    text: &mut [u8],
-    text_length: &mut usize,
-) -> u32
+pub fn vejupa_raw_format_lob_locator(bytes: &[u8], text: &mut [u8], text_length: &mut usize) -> u32
     ensures number { result ≡ told_number (conversion_answer bytes.now (unreplaced (locator_text bytes.now)) text.old).outcome }
     ensures length { text_length.new ≡ length_told (conversion_answer bytes.now (unreplaced (locator_text bytes.now)) text.old) }
     ensures buffer { text.new ≡ conversion_buffer bytes.now (locator_text bytes.now) text.old }
@@ -138,12 +130,7 @@ pub extern "C" fn vejupa_raw_format_lob_locator(
 }
 
 // `0x` and the bytes in hexadecimal.
-#[unsafe(no_mangle)]
-pub extern "C" fn vejupa_raw_format_rowid(
-    bytes: &[u8],
-    text: &mut [u8],
-    text_length: &mut usize,
-) -> u32
+pub fn vejupa_raw_format_rowid(bytes: &[u8], text: &mut [u8], text_length: &mut usize) -> u32
     ensures number { result ≡ told_number (conversion_answer bytes.now (unreplaced (row_id_text bytes.now)) text.old).outcome }
     ensures length { text_length.new ≡ length_told (conversion_answer bytes.now (unreplaced (row_id_text bytes.now)) text.old) }
     ensures buffer { text.new ≡ conversion_buffer bytes.now (row_id_text bytes.now) text.old }
@@ -153,8 +140,7 @@ pub extern "C" fn vejupa_raw_format_rowid(
 }
 
 // The text of a packed decimal. The precision has no part in it.
-#[unsafe(no_mangle)]
-pub extern "C" fn vejupa_raw_decode_packed_decimal(
+pub fn vejupa_raw_decode_packed_decimal(
     data: &[u8],
     precision: u8,
     scale: u8,
@@ -170,8 +156,7 @@ pub extern "C" fn vejupa_raw_decode_packed_decimal(
 }
 
 // The packed decimal as a whole number, by z/Architecture, in whole, and in whole_scale the scale that was handed in; 0 in both after a refusal.
-#[unsafe(no_mangle)]
-pub extern "C" fn vejupa_raw_decode_packed_whole(
+pub fn vejupa_raw_decode_packed_whole(
     data: &[u8],
     scale: u8,
     whole: &mut i64,
@@ -190,8 +175,7 @@ pub extern "C" fn vejupa_raw_decode_packed_whole(
 }
 
 // 1 where bytes are likely text, else 0.
-#[unsafe(no_mangle)]
-pub extern "C" fn vejupa_raw_bytes_are_likely_text(bytes: &[u8]) -> u32
+pub fn vejupa_raw_bytes_are_likely_text(bytes: &[u8]) -> u32
     ensures { result ≡ cond (likely_text bytes.now) 1 0 }
 {
     flag(text::bytes_are_likely_text(bytes))
@@ -264,8 +248,7 @@ fn parse(
 }
 
 // The columns that a description describes, in order: two words for each, how many they are, and whether the description breaks off.
-#[unsafe(no_mangle)]
-pub extern "C" fn vejupa_raw_parse_qrydsc(
+pub fn vejupa_raw_parse_qrydsc(
     data: &[u8],
     column_words: &mut [u64],
     count: &mut usize,
@@ -280,8 +263,7 @@ pub extern "C" fn vejupa_raw_parse_qrydsc(
 }
 
 // The same, save that a description that breaks off is refused: 15, behind 1 and before 2, and both before 101.
-#[unsafe(no_mangle)]
-pub extern "C" fn vejupa_raw_parse_whole_qrydsc(
+pub fn vejupa_raw_parse_whole_qrydsc(
     data: &[u8],
     column_words: &mut [u64],
     count: &mut usize,
@@ -295,12 +277,7 @@ pub extern "C" fn vejupa_raw_parse_whole_qrydsc(
 }
 
 // The byte count of a type's values, where the type alone tells it: fixed is 1, and 0 where it varies.
-#[unsafe(no_mangle)]
-pub extern "C" fn vejupa_raw_fixed_length(
-    type_word: u64,
-    fixed: &mut u32,
-    length: &mut usize,
-) -> u32
+pub fn vejupa_raw_fixed_length(type_word: u64, fixed: &mut u32, length: &mut usize) -> u32
     ensures number { result ≡ type_number (read_type type_word) }
     ensures fixed { fixed.new ≡ flag_of (length_of (read_type type_word)) }
     ensures length { length.new ≡ bytes_of (length_of (read_type type_word)) }
@@ -323,8 +300,7 @@ pub extern "C" fn vejupa_raw_fixed_length(
 // A row's values by columns that stand in words, two words a column, and the host's release: three words a value, texts in the text buffer. used are the bytes used,
 // text_length the bytes of the row's texts, written or with 9 needed; replaced are the U+FFFD that were put in for what was malformed; expected and actual are
 // 8's values. A number that does not apply is 0. It makes no list of 128 places.
-#[unsafe(no_mangle)]
-pub extern "C" fn vejupa_raw_decode_row(
+pub fn vejupa_raw_decode_row(
     column_words: &[u64],
     data: &[u8],
     release: u32,
@@ -397,8 +373,7 @@ pub extern "C" fn vejupa_raw_decode_row(
 
 // The bytes of the value that three words say, in the row or in the text buffer (H6). There are none for a number, a Boolean, Null and a place that
 // does not fit, nor where the words are fewer than three. Nothing is refused. As of value_bytes, the promise is on the bytes.
-#[unsafe(no_mangle)]
-pub extern "C" fn vejupa_raw_value_bytes<'a>(
+pub fn vejupa_raw_value_bytes<'a>(
     value_words: &[u64],
     data: &'a [u8],
     text: &'a [u8],

@@ -1,5 +1,4 @@
 use Prim.Native.Nat.{◌≤◌}
-use native.Mathlib.Omega.{arith}
 use Rattle.printing.proofs.Line.repeat.Given as goal
 
 abbrev pub invariant-loop-left : goal.invariant-loop-left

@@ -1,5 +1,4 @@
 use Prim.Native.Nat.{◌-◌, ◌≤◌}
-use native.Mathlib.Omega.{arith}
 use Rattle.printing.proofs.floats.divided.Given as goal
 
 abbrev pub invariant-loop-digit : goal.invariant-loop-digit

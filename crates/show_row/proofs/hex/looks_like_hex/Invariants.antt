@@ -1,4 +1,4 @@
-use Rattle.std.proofs.Common.{◌-◌, ◌≤◌, length, arith}
+use Rattle.std.proofs.Common.{◌-◌, ◌≤◌, length}
 use Rattle.show_row.proofs.hex.looks_like_hex.Given as goal
 
 abbrev pub invariant-loop-i : goal.invariant-loop-i

@@ -1,0 +1,8 @@
+use mathlib.Core.Path.{refl}
+use Rattle.edges.specs.Ascii.{ascii}
+use Rattle.edges.specs.Edges.{edges}
+use Rattle.cases.proofs.m.Goals as goal
+
+pub one-requires : goal.one-requires
+unfolding edges ascii
+one-requires c = (12, refl, refl, refl)

@@ -55,9 +55,9 @@ fn sources(root: &Path) -> Vec<PathBuf> {
     sources
 }
 
-/// `vejupa` and every crate that it rests on, by crates.txt: a line `NAME: NAME NAME ..` for each, of a static library `NAME staticlib: NAME NAME ..`.
+/// `vejupa_c`, which the archive is made of, and every crate that it rests on, by crates.txt: a line `NAME: NAME NAME ..` for each, of a static library `NAME staticlib: NAME NAME ..`.
 fn rests_on(text: &str) -> Vec<&str> {
-    let mut names = vec!["vejupa"];
+    let mut names = vec!["vejupa_c"];
     let mut at = 0;
     while let Some(name) = names.get(at).copied() {
         let line = text.lines().find_map(|line| {

@@ -124,12 +124,13 @@ fn an_archive_that_is_missing() {
 #[test]
 fn an_archive_older_than_its_sources() {
     let repository = Repository::new("old");
-    // The archive's own crate, one that it rests on, and one below that; and what is no source of it: a program, the list, a proof.
+    // The archive's own crate, two that it rests on, and one below these; and what is no source of it: a program, the list, a proof.
     repository.write(
         "crates.txt",
-        b"text:\nrow: text\nvejupa staticlib: row\nshow_row: row\n",
+        b"text:\nrow: text\nvejupa: row\nvejupa_c staticlib: row vejupa\nshow_row: row\n",
     );
     let sources = [
+        "crates/vejupa_c/src/lib.rt",
         "crates/vejupa/src/lib.rt",
         "crates/row/src/lib.rt",
         "crates/text/src/lib.rt",

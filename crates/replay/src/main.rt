@@ -308,14 +308,6 @@ fn length_line(request: &[u8], answer: &[u8]) -> Verdict {
     }
 }
 
-// The row call takes a list of columns for itself.
-fn copied(columns: &Columns) -> Columns {
-    Columns {
-        columns: columns.columns,
-        count: columns.count,
-    }
-}
-
 // Whether the row call answers so, with a text buffer of this length: then every byte of it is a text's, or none is changed.
 fn decodes(
     columns: &Columns,
@@ -327,7 +319,7 @@ fn decodes(
 ) -> bool {
     fill(text, FILL);
     let count = columns.count;
-    let a = decode_row(row, copied(columns), form.release, text);
+    let a = decode_row(row, *columns, form.release, text);
     let outcome = a.outcome;
     if !is_answer(answer, form.full, &a, count, row, text, want) {
         return false;
@@ -347,7 +339,7 @@ fn lacks_space(
     text: &mut [u8],
 ) -> bool {
     fill(text, FILL);
-    let a = decode_row(row, copied(columns), release, text);
+    let a = decode_row(row, *columns, release, text);
     let outcome = a.outcome;
     if outcome.number() != TEXT_BUFFER_TOO_SHORT {
         return false;
@@ -373,7 +365,7 @@ fn leaves_rest(
         return false;
     }
     fill(text, FILL);
-    let a = decode_row(row, copied(columns), release, text);
+    let a = decode_row(row, *columns, release, text);
     let outcome = a.outcome;
     if outcome.number() == 0 {
         return is_filled(&text[written..]);

@@ -109,14 +109,6 @@ fn show_description(rt: &HostRuntime, d: &Description) {
     }
 }
 
-// The row call takes a list of columns for itself.
-fn copied(columns: &Columns) -> Columns {
-    Columns {
-        columns: columns.columns,
-        count: columns.count,
-    }
-}
-
 fn show_row<'a>(
     rt: &HostRuntime,
     d: &Description,
@@ -127,7 +119,7 @@ fn show_row<'a>(
     let out = rt.stdout();
     let err = rt.stderr();
     let columns = &d.columns;
-    let answer = row::decode_row(row, copied(columns), release, text);
+    let answer = row::decode_row(row, *columns, release, text);
     let outcome = answer.outcome;
     match outcome {
         Outcome::Accepted => show_values(out, columns, &answer, row, text),

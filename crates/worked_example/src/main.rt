@@ -79,18 +79,10 @@ fn print_refusal(out: Stdout, outcome: Outcome) {
         .flush();
 }
 
-// The row call takes a list of columns for itself.
-fn copied(columns: &Columns) -> Columns {
-    Columns {
-        columns: columns.columns,
-        count: columns.count,
-    }
-}
-
 // Where the texts need more than 256 bytes, refusal 9 says how many.
 fn print_row(out: Stdout, columns: &Columns, row: &[u8]) {
     let mut text = [0u8; 256];
-    let answer = row::decode_row(row, copied(columns), RELEASE, &mut text);
+    let answer = row::decode_row(row, *columns, RELEASE, &mut text);
     let outcome = answer.outcome;
     match outcome {
         Outcome::Accepted => print_order(out, &answer, row, &text),

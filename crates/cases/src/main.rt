@@ -37,12 +37,11 @@ fn decode(description: &[u8], row: &[u8]) -> Decoded {
     let d = qrydsc::parse_qrydsc(description);
     let outcome = d.outcome;
     let columns = d.columns;
-    let count = columns.count;
     let mut text = [BEFORE; TEXT];
     let answer = row::decode_row(row, columns, RELEASE, &mut text);
     Decoded {
         description: outcome,
-        columns: count,
+        columns: columns.count,
         answer,
         text,
     }

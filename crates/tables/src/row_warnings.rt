@@ -29,15 +29,13 @@ fn warn_replaced(
         return;
     }
     let count = columns.count;
+    let mut some = *columns;
     let mut line = replaced_name(warning(err), replaced).text(b": column");
     let mut sum: usize = 0;
     let mut i: usize = 0;
     while i < count {
         let next = i + 1;
-        let some = Columns {
-            columns: columns.columns,
-            count: next,
-        };
+        some.count = next;
         let a = row::decode_row(row, some, release, text);
         line = with_grown(line, sum, a.replaced, i);
         sum = a.replaced;

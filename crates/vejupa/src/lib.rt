@@ -1,4 +1,4 @@
-// Face, for C and Rust: the library's calls as functions on numbers and slices of numbers, in a static library. A slice is a pointer and a
+// Face, for C and Rust: the library's calls as functions on numbers and slices of numbers, which `vejupa_c` exports. There a slice is a pointer and a
 // length; what is written overlaps nothing else. Each function that can refuse answers a refusal's number, or 0; each number beside it has a place of its
 // own and one meaning. A column is two words, a value three and a type one: crates/words has the layout. This crate has no
 // rules of its own but 101 and 102, of lent words: each promise cites what the call within promises, or what the call that it stands for does.

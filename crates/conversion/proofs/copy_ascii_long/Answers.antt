@@ -1,3 +1,4 @@
+use borrow.Author.Rules.{rules}
 use Prim.Native.Nat.{ℕ, ◌+◌, ◌-◌, ◌≤◌}
 use mathlib.Core.Path.{◌≡◌}
 use mathlib.Core.List.{List, ◌++◌}
@@ -22,6 +23,6 @@ loop-i-preserved c =
     let Block : List ℕ = take (I + 1024 - I) (drop I S) in
     let split : drop I S ≡ Block ++ drop (I + 1024) S = block S I (I + 1024) (omega arith) in
     let size : 1024 ≡ length Block = let k : length Block ≡ I + 1024 - I = length-take-le (I + 1024 - I) (drop I S) (omega (arith, there, length-drop I S)) in omega arith in (
-      run_block I (I + 1024) S c.loop-i.invariant.0 (omega arith) there (none_high _ _ c.has_high.ensures c.if-has_high.false),
+      run_block I (I + 1024) S c.loop-i.invariant.0 (omega arith) there (none_high _ _ c.has_high.ensures (search rules)),
       wrote_rest w Block (drop (I + 1024) S) split c.copy.new.out c.copy.ensures.bytes 1024 size,
     )

@@ -1,4 +1,3 @@
-use borrow.Author.Rules.{rules}
 use Rattle.decimal.proofs.Answer.{no_bytes, too_long, no_room, fitting}
 use Rattle.decimal.proofs.decode_packed_decimal.Goals as goal
 

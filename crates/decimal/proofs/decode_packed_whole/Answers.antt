@@ -1,6 +1,4 @@
 use mathlib.Core.Path.{sym, ap, ◌∙◌}
-use native.Mathlib.Omega.{arith}
-use borrow.Author.Tests.{not-true, not-false}
 use Rattle.zdecimal.specs.ZDecimal.{z_sign}
 use Rattle.decimal.proofs.Whole.{no_bytes, too_long, no_digit, no_sign, minus_sign, other_sign}
 use borrow.Author.Rules.{rules}
@@ -31,4 +29,4 @@ returns-then-code-eq13 c =
 pub returns : goal.returns
 returns c =
     c.positive.ensures
-    ∙ other_sign _ _ c.if-data-eq0.false c.if-data-gt-MOST_BYTES.false (sym c.if-not-digits_valid.false ∙ c.digits_valid.ensures) _ c.sign_code-code.ensures c.if-code-lt10.false _ c.magnitude-n.ensures c.if-code-eq11.false c.if-code-eq13.false
+    ∙ other_sign _ _ c.if-data-eq0.false c.if-data-gt-MOST_BYTES.false (sym c.if-not-digits_valid.false ∙ c.digits_valid.ensures) _ c.sign_code-code.ensures c.if-code-lt10.false _ c.magnitude-n.ensures (search rules) c.if-code-eq13.false

@@ -2,8 +2,7 @@ use Prim.Native.Nat.{ℕ}
 use lib.IntN.{pos, neg_ℤ}
 use mathlib.Core.Path.{◌≡◌, sym, ap, ◌∙◌}
 use Rattle.decimal.specs.Whole.{accepted_whole}
-use Rattle.decimal.proofs.Whole.{below, within_below, made_fits, made_is}
-use borrow.Author.Rules.{rules}
+use Rattle.decimal.proofs.Whole.{below, within_below, made_is}
 use Rattle.decimal.proofs.negative.Goals as goal
 
 pub returns-then-n-gt-TWO_63 : goal.returns-then-n-gt-TWO_63

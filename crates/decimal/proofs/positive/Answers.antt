@@ -3,7 +3,6 @@ use mir.Syntax.{w64}
 use mir.ValLaws.{to_z_pos}
 use Rattle.decimal.specs.Whole.{accepted_whole}
 use Rattle.decimal.proofs.Whole.{above, within}
-use borrow.Author.Rules.{rules}
 use Rattle.decimal.proofs.positive.Goals as goal
 
 pub returns-then-n-ge-TWO_63 : goal.returns-then-n-ge-TWO_63

@@ -1,3 +1,4 @@
+use native.Mathlib.Omega.{arith}
 use mathlib.Core.Bool.{not}
 use mathlib.Core.Path.{ap}
 use Rattle.vejupa.proofs.Described.{counted_full, counted_any, counted_broken, counted_whole}
@@ -25,4 +26,4 @@ pub returns : goal.returns
 returns c =
     let a = c.args in
     let p = c.requires in
-    counted_whole a.whole a.«data».now p.0 a.columns a.end p.1 c.if-columns-gt-MAX_COLUMNS.false c.if-end-data.false
+    counted_whole a.whole a.«data».now p.0 a.columns a.end p.1 c.if-columns-gt-MAX_COLUMNS.false (omega arith)

@@ -1,3 +1,4 @@
+use borrow.Author.Rules.{rules}
 use Prim.Native.Nat.{ℕ, ◌+◌, ◌-◌, ◌≤◌}
 use mathlib.Core.Bool.{true}
 use mathlib.Core.List.{List}
@@ -27,5 +28,5 @@ loop-i-preserved c =
     let I : ℕ = c.loop-i.i in
     let Out : List ℕ = c.loop-i.out in
     let left : I + 32 ≤ length S = omega (arith, c.if-s-i-lt32.false, c.loop-i.invariant.fits) in
-    let run : AsciiRun 32 (take (length S - I) (drop I S)) = let z : I + 32 - I ≡ 32 = omega arith in let q : all_ascii (take (I + 32 - I) (drop I S)) ≡ true = c.any_high.ensures c.if-any_high.false in rw (rest S I) (record { fits = omega (arith, length-drop I S, left); ascii = rw z at q }) in
+    let run : AsciiRun 32 (take (length S - I) (drop I S)) = let z : I + 32 - I ≡ 32 = omega arith in let q : all_ascii (take (I + 32 - I) (drop I S)) ≡ true = c.any_high.ensures (search rules) in rw (rest S I) (record { fits = omega (arith, length-drop I S, left); ascii = rw z at q }) in
     copied_lent S D Out I I 0 c.loop-i.invariant 32 left c.copy_32.new.out 32 (omega arith) (ascii_good 32 _ run) c.copy_32.ensures

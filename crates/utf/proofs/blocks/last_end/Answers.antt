@@ -17,4 +17,4 @@ returns-then-s-i-ge240 c =
 
 pub returns : goal.returns
 returns c =
-    (omega arith, whole_end c.args.s.now c.args.i c.requires.0 c.if-s-i-ge192.false c.if-s-i-ge224.false c.if-s-i-ge240.false)
+    (omega arith, whole_end c.args.s.now c.args.i c.requires.0 c.if-s-i-ge192.false c.if-s-i-ge224.false (omega arith))

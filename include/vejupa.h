@@ -15,7 +15,7 @@
  * - Given these two, any bytes, numbers and lengths may be passed: each call tests its own input, reads and writes within what it is lent, and ends.
  * - Texts are UTF-8, without a byte 0 at the end, and may hold bytes 0; trailing blanks stay. Dates and times are as the host spelled them.
  * - The library keeps nothing from call to call and allocates nothing: calls that write to different memory may run at the same time. A call takes less than
- *   2,500 bytes of stack of its own; where the dynamic linker looks up memset at the first one, that took some 3,500 more.
+ *   2,500 bytes of stack of its own; where the dynamic linker looks up memset or memmove first, that took some 3,500 more.
  *
  * The host's release, 2 or 3, decides how a text is read whose CCSID is none of 1208, 819, 37 and 500, save a graphic text that is UTF-16 (CCSID 1200 or
  * 13488, an even number of bytes):

@@ -10,7 +10,7 @@
 
 #include "vejupa.h"
 
-#define SAID 2500 /* what the header says of a call's own stack; memset has been looked up here before */
+#define SAID 2500 /* what the header says of a call's own stack; memset and memmove have been looked up here before */
 #define PATTERN 0xA5
 
 static uint8_t stack[1 << 16];
@@ -44,6 +44,7 @@ static void decode(void) { (void)vejupa_decode_row(columns, 1, data, data_len, r
 static size_t taken(void (*call)(void)) {
     size_t free_bytes = 0;
     memset(stack, PATTERN, sizeof stack);
+    memmove(stack, stack + 1, sizeof stack - 1);
     if (getcontext(&there) != 0) {
         exit(2);
     }

@@ -7,12 +7,9 @@ use native.Mathlib.Omega.{arith}
 use native.Mathlib.Numerals.{add-one}
 use lib.ListN.{length, take, drop, get_or, set, replicate, length-replicate, length-drop}
 use lib.Seq.{take-suc, take-suc-set, take_at, take_all, split_at, length-take-le}
+use Rattle.std.specs.Prelude.{Option, None, Some, IfSome}
 use Rattle.conversion.specs.Hex.{hex_digit, hex_text}
 use Rattle.answers.specs.Lines.{bytes_field}
-
--- of what was not read nothing is asked
-pub unasked : {A : Type 0} {t : Bool} → t ≡ false → t ≡ true → A
-unasked p q = let z : ◌≡◌ {A = ℕ} 0 1 = cc in absurd (omega arith)
 
 pub pair : (h l : ℕ) {a b : ℕ} → l < 16 → hex_digit h ≡ a → hex_digit l ≡ b → (hex_digit ((16 * h + l) / 16) ≡ a) × (hex_digit ((16 * h + l) % 16) ≡ b)
 pair h l small high low =
@@ -56,11 +53,9 @@ read_pair (x ∷ y ∷ []) b l (high, low) = ap (λ (h : ℕ). h ∷ hex_digit (
 read_pair (x ∷ y ∷ z ∷ s) b l e = let n : suc (suc (suc (length s))) ≡ 2 = l in absurd (omega arith)
 
 -- a part of n bytes, all made the same, is what then stands first
-pub first_bytes : (n b : ℕ) (out f rest : List ℕ) → n ≤ length out → f ≡ replicate (length (take (n - 0) out)) b → take n (f ++ rest) ≡ replicate n b
+pub first_bytes : (n b : ℕ) (out f rest : List ℕ) → n ≤ length out → f ≡ replicate (length (take n out)) b → take n (f ++ rest) ≡ replicate n b
 first_bytes n b out f rest room same =
-    let whole : n - 0 ≡ n = omega arith in
-    let count : length (take (n - 0) out) ≡ n = ap (λ (k : ℕ). length (take k out)) whole ∙ length-take-le n out room in
-    ap (λ (t : List ℕ). take n (t ++ rest)) (same ∙ ap (λ (k : ℕ). replicate k b) count) ∙ take_at (replicate n b) rest n (length-replicate n b)
+    ap (λ (t : List ℕ). take n (t ++ rest)) (same ∙ ap (λ (k : ℕ). replicate k b) (length-take-le n out room)) ∙ take_at (replicate n b) rest n (length-replicate n b)
 
 -- what stands before a place, at it and behind it
 pub parted : (s : List ℕ) (k b : ℕ) → k < length s → get_or s k 0 ≡ b → take (k - 0) s ++ (b ∷ take (length s - (k + 1)) (drop (k + 1) s)) ≡ s
@@ -77,3 +72,7 @@ pub as_field : (t : List ℕ) {s : List ℕ} → (length s ≡ 0 → ⊥) → he
 unfolding hex_text bytes_field
 as_field [] there e = absurd (there (sym (ap length e)))
 as_field (b ∷ t) there e = e
+
+pub as_some_field : (r : Option ℕ) (t s : List ℕ) → (length s ≡ 0 → ⊥) → IfSome r (λ n. hex_text (take n t) ≡ s) → IfSome r (λ n. bytes_field (take n t) ≡ s)
+as_some_field None t s there e = e
+as_some_field (Some n) t s there e = as_field (take n t) there e

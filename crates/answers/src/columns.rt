@@ -1,267 +1,225 @@
-// Whether types and columns stand in a line, which is full where its kind is written in lower case. Each function of the form x_at answers the place behind what it looks for, as those of `place` do; each of
-// the form x_of reads what x_at then finds.
-ghost use Rattle.std.specs.Prelude.{◌<◌, ◌≤◌};
-
+// Types and columns as the list writes them, in a line that is full where its kind is written in lower case, and reading them.
 use crate::lines::{bytes, field, find, number, part, part_start};
-use crate::place::{NOWHERE, decimal_at, hex_at, text_at};
-use printing::type_names::{TYPES, first, name_of, number_count};
-use types::{ByteOrder, ColumnDescriptor, Columns, Db2Type, MAX_COLUMNS, Origin, ReferenceLength};
-use words::{TypeRead, read_type_word, type_word};
-
-// The tags of the types are below.
-const TAGS: u64 = TYPES as u64;
+use crate::rest::{Rest, says};
+use printing::type_names::{Numbers, name_of, numbers_of};
+use std::fmt;
+use std::fmt::Write;
+use types::{ByteOrder, ColumnDescriptor, Columns, Db2Type, MAX_COLUMNS, Origin};
 
 // The largest number of columns that a line may say.
 const MOST_COLUMNS: usize = 65535;
 
-// A number and the point before it.
-fn next_number_at(line: &[u8], at: usize, n: u64) -> usize {
-    let digits = text_at(line, at, b".");
-    decimal_at(line, digits, n)
-}
+// A type by its name, and each of its numbers behind a point.
+#[derive(Clone, Copy)]
+struct TypeField(Db2Type);
 
-// The numbers that a type holds, as its word has them: with two, the second is in the high byte.
-fn numbers_at(line: &[u8], at: usize, count: usize, numbers: u64) -> usize {
-    match count {
-        0 => at,
-        1 => next_number_at(line, at, numbers),
-        _ => {
-            let second = next_number_at(line, at, numbers % 256);
-            next_number_at(line, second, numbers / 256)
+impl fmt::Display for TypeField {
+    fn fmt<W: fmt::Write>(&self, f: &mut fmt::Formatter<W>) -> fmt::Result {
+        let name = name_of(self.0);
+        match numbers_of(self.0) {
+            Numbers::None => f.write_str(name),
+            Numbers::One(n) => write!(f, "{name}.{n}"),
+            Numbers::Two(m, n) => write!(f, "{name}.{m}.{n}"),
         }
     }
 }
 
-pub fn type_at(line: &[u8], at: usize, t: Db2Type) -> usize {
-    let word = type_word(t);
-    let tag = (word % 256) as usize;
-    let name = name_of(tag);
-    let bytes = name.bytes;
-    let numbers = text_at(line, at, first(&bytes, name.len));
-    numbers_at(line, numbers, number_count(tag), word / 256)
+// A column: type:code:length:precision:scale:nullable:ccsid:reference:order, and in a full line :origin
+#[derive(Clone, Copy)]
+struct ColumnField {
+    column: ColumnDescriptor,
+    full: bool,
 }
 
-// The numbers behind a type's name, as one: with two, the second is in the high byte. 0 where there are none, or no numbers stand there.
-fn numbers_of(s: &[u8]) -> usize
-    ensures { result < 65536 }
-{
-    let point = find(s, 0, b'.');
-    if point == s.len() {
-        return 0;
-    }
-    let numbers = &s[point + 1..];
-    let second = find(numbers, 0, b'.');
-    if second == numbers.len() {
-        let r = number(numbers, 65535);
-        return r.value;
-    }
-    let low = number(&numbers[0..second], 255);
-    let high = number(&numbers[second + 1..], 255);
-    low.value + high.value * 256
-}
-
-// The type that a field writes. Each tag is tried: the names stand nowhere but in `printing::type_names`.
-pub fn type_of(s: &[u8]) -> TypeRead {
-    let numbers = numbers_of(s) as u64;
-    let mut tag: u64 = 0;
-    while tag < TAGS {
-        match read_type_word(tag + numbers * 256) {
-            TypeRead::Known(t) => {
-                if type_at(s, 0, t) == s.len() {
-                    return TypeRead::Known(t);
-                }
-            }
-            TypeRead::NoType => {}
+impl fmt::Display for ColumnField {
+    fn fmt<W: fmt::Write>(&self, f: &mut fmt::Formatter<W>) -> fmt::Result {
+        let c = self.column;
+        let name = TypeField(c.db2_type);
+        let code = c.drda_type;
+        let length = c.length;
+        let precision = c.precision;
+        let scale = c.scale;
+        let nullable = u8::from(c.nullable);
+        let ccsid = c.ccsid;
+        write!(
+            f,
+            "{name}:{code:02X}:{length}:{precision}:{scale}:{nullable}:{ccsid}:"
+        )?;
+        match c.extdta_reference_length {
+            Some(width) => write!(f, "{width}")?,
+            None => f.write_str("-")?,
         }
-        tag += 1;
-    }
-    TypeRead::NoType
-}
-
-fn flag_at(line: &[u8], at: usize, flag: bool) -> usize {
-    if flag {
-        return text_at(line, at, b"1");
-    }
-    text_at(line, at, b"0")
-}
-
-fn reference_at(line: &[u8], at: usize, reference: ReferenceLength) -> usize {
-    match reference {
-        ReferenceLength::Absent => text_at(line, at, b"-"),
-        ReferenceLength::Width(n) => decimal_at(line, at, n as u64),
-    }
-}
-
-fn order_at(line: &[u8], at: usize, order: ByteOrder) -> usize {
-    match order {
-        ByteOrder::BigEndian => text_at(line, at, b"B"),
-        ByteOrder::LittleEndian => text_at(line, at, b"L"),
-    }
-}
-
-// An origin and the colon before it, in a full line; nothing in another.
-fn origin_at(line: &[u8], at: usize, full: bool, origin: Origin) -> usize {
-    if !full {
-        return at;
-    }
-    match origin {
-        Origin::Sda => text_at(line, at, b":S"),
-        Origin::UndeclaredLid => text_at(line, at, b":U"),
-        Origin::DeclaredLid => text_at(line, at, b":D"),
-    }
-}
-
-// A decimal number and the colon before it.
-fn next_decimal_at(line: &[u8], at: usize, n: u64) -> usize {
-    let digits = text_at(line, at, b":");
-    decimal_at(line, digits, n)
-}
-
-// type:code:length:precision:scale:nullable:ccsid:reference:order, and in a full line :origin
-pub fn column_at(line: &[u8], at: usize, full: bool, c: ColumnDescriptor) -> usize {
-    let t = c.db2_type;
-    let reference = c.extdta_reference_length;
-    let order = c.byte_order;
-    let origin = c.origin;
-    let mut p = type_at(line, at, t);
-    p = text_at(line, p, b":");
-    p = hex_at(line, p, c.drda_type as u64, 2);
-    p = next_decimal_at(line, p, c.length as u64);
-    p = next_decimal_at(line, p, c.precision as u64);
-    p = next_decimal_at(line, p, c.scale as u64);
-    p = text_at(line, p, b":");
-    p = flag_at(line, p, c.nullable);
-    p = next_decimal_at(line, p, c.ccsid as u64);
-    p = text_at(line, p, b":");
-    p = reference_at(line, p, reference);
-    p = text_at(line, p, b":");
-    p = order_at(line, p, order);
-    origin_at(line, p, full, origin)
-}
-
-// So many more columns, each behind a space. A list has no places for them, so they are passed over.
-fn more_columns_at(line: &[u8], at: usize, count: usize) -> usize {
-    if line.len() < at {
-        return NOWHERE;
-    }
-    let last = part_start(&line[at..], count, b' ');
-    at + find(&line[at..], last, b' ')
-}
-
-// The number of columns, and each behind a space; a column's number is its place. A count above 128, for which the row call has a refusal, says more
-// columns than a list has places for.
-pub fn columns_at(line: &[u8], at: usize, full: bool, columns: &Columns) -> usize {
-    let count = columns.count;
-    let mut p = decimal_at(line, at, count as u64);
-    let mut i: usize = 0;
-    while i < count {
-        if MAX_COLUMNS <= i {
-            return more_columns_at(line, p, count - i);
+        f.write_str(match c.byte_order {
+            ByteOrder::BigEndian => ":B",
+            ByteOrder::LittleEndian => ":L",
+        })?;
+        if !self.full {
+            return Ok(());
         }
-        let column = columns.columns[i];
-        if column.column_index as usize != i {
-            return NOWHERE;
-        }
-        p = text_at(line, p, b" ");
-        p = column_at(line, p, full, column);
-        i += 1;
+        f.write_str(match c.origin {
+            Origin::Sda => ":S",
+            Origin::UndeclaredLid => ":U",
+            Origin::DeclaredLid => ":D",
+        })
     }
-    p
+}
+
+// What stands behind these columns, where the text begins with them: their number, and each behind a space; a column's number is its place. A count above
+// 128, for which the row call has a refusal, says more columns than a list has places for: those are passed over.
+pub fn behind_columns<'a>(text: &'a [u8], full: bool, columns: &Columns) -> Option<&'a [u8]> {
+    let mut rest = Rest(text);
+    write!(rest, "{}", columns.count).ok()?;
+    for (i, &column) in columns.columns.iter().take(columns.count).enumerate() {
+        if usize::from(column.column_index) != i {
+            return None;
+        }
+        write!(rest, " {}", ColumnField { column, full }).ok()?;
+    }
+    let behind = rest.0;
+    match columns.count.checked_sub(MAX_COLUMNS) {
+        None | Some(0) => Some(behind),
+        Some(more) => {
+            let last = part_start(behind, more, b' ');
+            Some(&behind[find(behind, last, b' ')..])
+        }
+    }
 }
 
 // How a description ends, and the space before it, in a full line; nothing in another.
-pub fn ending_at(line: &[u8], at: usize, full: bool, broken_off: bool) -> usize {
-    if !full {
-        return at;
-    }
-    if broken_off {
-        return text_at(line, at, b" broken");
-    }
-    text_at(line, at, b" whole")
+#[derive(Clone, Copy)]
+pub struct Ending {
+    pub full: bool,
+    pub broken_off: bool,
 }
 
-// The number of a part of a column; 0 where it is none.
-fn number_of(s: &[u8], k: usize, most: usize) -> usize
-    requires { most < 4294967296 }
-    ensures { result ≤ most }
-{
-    let r = number(part(s, k, b':'), most);
-    r.value
-}
-
-fn code_of(s: &[u8]) -> u8 {
-    let mut code = [0u8; 1];
-    let _read = bytes(part(s, 1, b':'), &mut code);
-    code[0]
-}
-
-fn reference_of(s: &[u8]) -> ReferenceLength {
-    if check::same(part(s, 7, b':'), b"-") {
-        return ReferenceLength::Absent;
+impl fmt::Display for Ending {
+    fn fmt<W: fmt::Write>(&self, f: &mut fmt::Formatter<W>) -> fmt::Result {
+        f.write_str(match (self.full, self.broken_off) {
+            (false, _) => "",
+            (true, true) => " broken",
+            (true, false) => " whole",
+        })
     }
-    ReferenceLength::Width(number_of(s, 7, 65535) as u16)
 }
 
-fn order_of(s: &[u8]) -> ByteOrder {
-    if check::same(part(s, 8, b':'), b"L") {
-        return ByteOrder::LittleEndian;
+// A number of at most two bytes, and of one.
+fn number16(s: &[u8]) -> Option<u16> {
+    u16::try_from(number(s, 65535)?).ok()
+}
+
+fn number8(s: &[u8]) -> Option<u8> {
+    u8::try_from(number(s, 255)?).ok()
+}
+
+// The type that a field writes. Each is tried, with the field's numbers: the names stand nowhere but in `printing::type_names`.
+pub fn type_of(s: &[u8]) -> Option<Db2Type> {
+    let n = number16(part(s, 1, b'.')).unwrap_or(0);
+    let precision = number8(part(s, 1, b'.')).unwrap_or(0);
+    let scale = number8(part(s, 2, b'.')).unwrap_or(0);
+    let types = [
+        Db2Type::SmallInt,
+        Db2Type::Integer,
+        Db2Type::BigInt,
+        Db2Type::Real,
+        Db2Type::Double,
+        Db2Type::Decimal { precision, scale },
+        Db2Type::DecFloat(precision),
+        Db2Type::Char(n),
+        Db2Type::VarChar(n),
+        Db2Type::LongVarChar,
+        Db2Type::Clob,
+        Db2Type::Binary(n),
+        Db2Type::VarBinary(n),
+        Db2Type::Blob,
+        Db2Type::BlobLocator,
+        Db2Type::Date,
+        Db2Type::Time,
+        Db2Type::Timestamp,
+        Db2Type::Graphic(n),
+        Db2Type::VarGraphic(n),
+        Db2Type::DbClob,
+        Db2Type::ClobLocator,
+        Db2Type::DbClobLocator,
+        Db2Type::LobBytes(n),
+        Db2Type::LobChar(n),
+        Db2Type::RowId(n),
+        Db2Type::Boolean,
+        Db2Type::Xml,
+        Db2Type::Null,
+    ];
+    types.iter().copied().find(|&t| says(s, TypeField(t)))
+}
+
+fn code_of(s: &[u8]) -> Option<u8> {
+    let mut code = [0u8];
+    bytes(s, &mut code)?;
+    Some(code[0])
+}
+
+fn reference_of(s: &[u8]) -> Option<Option<u16>> {
+    match s {
+        b"-" => Some(None),
+        _ => Some(Some(number16(s)?)),
     }
-    ByteOrder::BigEndian
+}
+
+fn order_of(s: &[u8]) -> Option<ByteOrder> {
+    match s {
+        b"B" => Some(ByteOrder::BigEndian),
+        b"L" => Some(ByteOrder::LittleEndian),
+        _ => None,
+    }
 }
 
 // The origin that a column of a full line writes. A column of another line writes none, and is an SDA's.
-fn origin_of(s: &[u8]) -> Origin {
-    let written = part(s, 9, b':');
-    if check::same(written, b"U") {
-        return Origin::UndeclaredLid;
-    }
-    if check::same(written, b"D") {
-        return Origin::DeclaredLid;
-    }
-    Origin::Sda
-}
-
-// The column that a field writes, if it writes one: column_at tells.
-pub fn column_of(s: &[u8], index: u8) -> ColumnDescriptor {
-    let db2_type = named_type_of(part(s, 0, b':'));
-    let extdta_reference_length = reference_of(s);
-    let byte_order = order_of(s);
-    let origin = origin_of(s);
-    ColumnDescriptor {
-        column_index: index,
-        drda_type: code_of(s),
-        length: number_of(s, 2, 65535) as u16,
-        precision: number_of(s, 3, 255) as u8,
-        scale: number_of(s, 4, 255) as u8,
-        nullable: number_of(s, 5, 1) == 1,
-        origin,
-        ccsid: number_of(s, 6, 65535) as u16,
-        db2_type,
-        extdta_reference_length,
-        byte_order,
+fn origin_of(s: &[u8]) -> Option<Origin> {
+    match s {
+        b"" | b"S" => Some(Origin::Sda),
+        b"U" => Some(Origin::UndeclaredLid),
+        b"D" => Some(Origin::DeclaredLid),
+        _ => None,
     }
 }
 
-fn named_type_of(s: &[u8]) -> Db2Type {
-    match type_of(s) {
-        TypeRead::Known(t) => t,
-        TypeRead::NoType => Db2Type::Null,
-    }
+// The column that a field writes, if it writes one: behind_columns tells whether it writes just that.
+fn column_of(s: &[u8], column_index: u8) -> Option<ColumnDescriptor> {
+    Some(ColumnDescriptor {
+        column_index,
+        drda_type: code_of(part(s, 1, b':'))?,
+        length: number16(part(s, 2, b':'))?,
+        precision: number8(part(s, 3, b':'))?,
+        scale: number8(part(s, 4, b':'))?,
+        nullable: number(part(s, 5, b':'), 1)? == 1,
+        origin: origin_of(part(s, 9, b':'))?,
+        ccsid: number16(part(s, 6, b':'))?,
+        db2_type: type_of(part(s, 0, b':'))?,
+        byte_order: order_of(part(s, 8, b':'))?,
+        extdta_reference_length: reference_of(part(s, 7, b':'))?,
+    })
 }
 
-// The columns that stand in a line from its field 2 on, as many as field 1 says and a list has places for: columns_at tells whether they do.
-pub fn columns_of(line: &[u8]) -> Columns {
-    let r = number(field(line, 1), MOST_COLUMNS);
-    let count = r.value;
-    let blank = column_of(b"", 0);
-    let mut columns = [blank; MAX_COLUMNS];
-    let mut i: usize = 0;
-    while i < count {
-        if MAX_COLUMNS <= i {
-            return Columns { columns, count };
-        }
-        columns[i] = column_of(field(line, i + 2), i as u8);
-        i += 1;
+// What an unused place of a list holds.
+const BLANK: ColumnDescriptor = ColumnDescriptor {
+    column_index: 0,
+    drda_type: 0,
+    length: 0,
+    precision: 0,
+    scale: 0,
+    nullable: false,
+    origin: Origin::Sda,
+    ccsid: 0,
+    db2_type: Db2Type::Null,
+    byte_order: ByteOrder::BigEndian,
+    extdta_reference_length: None,
+};
+
+// The columns that stand in a line from its field 2 on, as many as field 1 says and a list has places for, if each is one: behind_columns tells whether they
+// are written so.
+pub fn columns_of(line: &[u8]) -> Option<Columns> {
+    let count = number(field(line, 1), MOST_COLUMNS)?;
+    let mut columns = [BLANK; MAX_COLUMNS];
+    for i in 0..count.min(MAX_COLUMNS) {
+        columns[i] = column_of(field(line, i + 2), i as u8)?;
     }
-    Columns { columns, count }
+    Some(Columns { columns, count })
 }

@@ -1,8 +1,8 @@
-// Inner. Reading the list of stored answers, for `replay`: the parts of a line; what stands at a place of it; and whether columns, and answers of the row
-// call, stand in a line as the list writes them.
+// Inner. Reading the list of stored answers, for `replay`: the parts of a line; whether a line says something; and columns, and answers of the row call, as the
+// list writes them.
 #![tactic(auto)]
 
 pub mod columns;
 pub mod lines;
-pub mod place;
+pub mod rest;
 pub mod rows;

@@ -1,7 +1,8 @@
 -- A text written into a lent buffer, and what a call that writes one answers: H1, H2, refusal 9. Assumes nothing.
-use Rattle.std.specs.Prelude.{ℕ, cond, List, [], ◌∷◌, ◌++◌, ltb, length, drop}
-use Rattle.refusal.specs.Refusal.{Told, accepted, refused, told}
-use Rattle.buffer.specs.declared.TextAnswer.{TextAnswer}
+use Rattle.std.specs.Prelude.{ℕ, cond, List, [], ◌∷◌, ◌++◌, ltb, length, drop, Result, Ok, Err}
+use Rattle.refusal.specs.declared.Refusal.{Refusal}
+use Rattle.refusal.specs.Refusal.{Told, accepted, refused, refusal_number, refusal_values}
+use Rattle.buffer.specs.declared.Written.{Written}
 
 -- the buffer d with the text t over its first bytes; bytes after the text keep what they had
 abbrev pub overwritten : List ℕ → List ℕ → List ℕ
@@ -22,12 +23,13 @@ pub record TextTold : Type 0 where
   pub written : ℕ
   pub replaced : ℕ
 
-abbrev pub told_text : TextAnswer → TextTold
-told_text a = record { outcome = told a.outcome; written = a.written; replaced = a.replaced }
-
 -- a refusal writes nothing
 abbrev pub refused_text : ℕ → List ℕ → TextTold
 refused_text n vs = record { outcome = refused n vs; written = 0; replaced = 0 }
+
+abbrev pub told_text : Result Written Refusal → TextTold
+told_text (Ok w) = record { outcome = accepted; written = w.len; replaced = w.replaced }
+told_text (Err r) = refused_text (refusal_number r) (refusal_values r)
 
 -- What a call that makes c of its bytes answers for the text buffer d, and what one with the text t leaves there. Refusal 9: the buffer is shorter than the text
 unfoldable pub text_answer : Converted → List ℕ → TextTold

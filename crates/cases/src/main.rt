@@ -1,17 +1,18 @@
 // Program. Runs the cases A to P of docs/RULES.md, "At the edges", and prints a line for each: its letter, and `same` where the whole outcome is the
 // one in the table, else `differs`. The outcomes are proved in the crate `edges`; here the compiled calls are run on the same bytes: the description's
 // outcome, the row call's outcome with its values, all 128 value places with their flags, the bytes used, the characters replaced (none in any case), every
-// byte of the text buffer, and the bytes of each column's value. What a case is given, and what is expected of it, is written again below: each call of
+// byte of the text buffer, and the bytes of each column's value; of a refusal its two numbers, and every byte of the text buffer. What a case is given, and what is expected of it, is written again below: each call of
 // `one`, `two`, `too_short` and `packed_decimal` requires that it is a row of the proved table, and is proved to meet that.
 #![tactic(auto)]
 
 ghost use Rattle.std.specs.Prelude.{◌≡◌, [], ◌∷◌};
 ghost use Rattle.edges.specs.Edges.{Given, values, too_short, text_found, within_row, IsEdge};
 
-use check::same;
-use refusal::{BUFFER_TOO_SHORT, Outcome};
+use qrydsc::parse_qrydsc;
+use refusal::Refusal;
+use row::decode_row;
 use std::io::Stdout;
-use types::{Db2Value, MAX_COLUMNS, Place, RowAnswer, ValuePlace};
+use types::{Db2Value, MAX_COLUMNS, Place, Row, ValuePlace};
 
 // The text buffer that each case is given: 24 bytes, all of them AA.
 const TEXT: usize = 24;
@@ -24,27 +25,23 @@ const RELEASE: u32 = 2;
 // The precision handed to decode_packed_decimal. It has no part in the text.
 const PRECISION: u8 = 31;
 
-// What the calls make of a description and a row.
+// What the calls make of a description, which is accepted, and a row.
 #[derive(Drop)]
 struct Decoded {
-    description: Outcome,
     columns: usize,
-    answer: RowAnswer,
+    answer: Result<Row, Refusal>,
     text: [u8; TEXT],
 }
 
-fn decode(description: &[u8], row: &[u8]) -> Decoded {
-    let d = qrydsc::parse_qrydsc(description);
-    let outcome = d.outcome;
-    let columns = d.columns;
+fn decode(description: &[u8], row: &[u8]) -> Option<Decoded> {
+    let columns = parse_qrydsc(description).ok()?.columns;
     let mut text = [BEFORE; TEXT];
-    let answer = row::decode_row(row, columns, RELEASE, &mut text);
-    Decoded {
-        description: outcome,
+    let answer = decode_row(row, columns, RELEASE, &mut text);
+    Some(Decoded {
         columns: columns.count,
         answer,
         text,
-    }
+    })
 }
 
 // A value that does not refer to data outside the row.
@@ -55,180 +52,59 @@ fn within(value: Db2Value) -> ValuePlace {
     }
 }
 
-fn is_accepted(outcome: Outcome) -> bool {
-    match outcome {
-        Outcome::Accepted => true,
-        Outcome::Refused(_) => false,
-    }
-}
-
-// Whether an outcome is the refusal 8 with these two values.
-fn is_too_short(outcome: Outcome, expected: usize, actual: usize) -> bool {
-    if outcome.number() != BUFFER_TOO_SHORT {
-        return false;
-    }
-    if outcome.first_value() != expected {
-        return false;
-    }
-    outcome.second_value() == actual
-}
-
-fn same_place(a: Place, b: Place) -> bool {
-    if a.start != b.start {
-        return false;
-    }
-    a.len == b.len
-}
-
-// Whether a value is the one of the table, which has these seven sorts.
-fn same_value(want: Db2Value, got: Db2Value) -> bool {
-    match want {
-        Db2Value::Null => match got {
-            Db2Value::Null => true,
-            _ => false,
-        },
-        Db2Value::SmallInt(n) => match got {
-            Db2Value::SmallInt(m) => m == n,
-            _ => false,
-        },
-        Db2Value::Integer(n) => match got {
-            Db2Value::Integer(m) => m == n,
-            _ => false,
-        },
-        Db2Value::Decimal(p) => match got {
-            Db2Value::Decimal(q) => same_place(p, q),
-            _ => false,
-        },
-        Db2Value::Char(p) => match got {
-            Db2Value::Char(q) => same_place(p, q),
-            _ => false,
-        },
-        Db2Value::Blob(p) => match got {
-            Db2Value::Blob(q) => same_place(p, q),
-            _ => false,
-        },
-        Db2Value::Clob(p) => match got {
-            Db2Value::Clob(q) => same_place(p, q),
-            _ => false,
-        },
-        _ => false,
-    }
-}
-
-fn same_flag(a: bool, b: bool) -> bool {
-    if a {
-        return b;
-    }
-    !b
-}
-
-fn same_value_place(want: ValuePlace, got: ValuePlace) -> bool {
-    let wanted = want.value;
-    let given = got.value;
-    if !same_flag(want.external, got.external) {
-        return false;
-    }
-    same_value(wanted, given)
-}
-
 // Whether the first two value places are these, and all the others blank.
-fn has_values(answer: &RowAnswer, first: ValuePlace, second: ValuePlace) -> bool {
-    let blank = within(Db2Value::Null);
-    let mut want = [blank; MAX_COLUMNS];
+fn has_values(answer: &Row, first: ValuePlace, second: ValuePlace) -> bool {
+    let mut want = [within(Db2Value::Null); MAX_COLUMNS];
     want[0] = first;
     want[1] = second;
-    let mut i: usize = 0;
-    while i < MAX_COLUMNS {
-        if !same_value_place(want[i], answer.places[i]) {
-            return false;
-        }
-        i += 1;
-    }
-    true
+    want.iter().eq(&answer.places)
 }
 
 // Whether the buffer holds these texts, and behind them what it held before.
-fn has_text(got: [u8; TEXT], texts: &[u8]) -> bool {
-    if TEXT < texts.len() {
-        return false;
-    }
-    let mut i: usize = 0;
-    while i < TEXT {
-        if got[i] != byte_after(texts, i) {
-            return false;
-        }
-        i += 1;
-    }
-    true
-}
-
-// The byte at a place of the buffer after these texts are written into it.
-fn byte_after(texts: &[u8], i: usize) -> u8 {
-    if i < texts.len() {
-        return texts[i];
-    }
-    BEFORE
+fn has_text(got: &[u8], texts: &[u8]) -> bool {
+    got.strip_prefix(texts)
+        .is_some_and(|behind| behind.iter().all(|&b| b == BEFORE))
 }
 
 // Whether value_bytes shows these bytes of the value at a place.
 fn has_bytes(d: &Decoded, row: &[u8], value: ValuePlace, bytes: &[u8]) -> bool {
-    let text = d.text;
-    let shown = value.value;
-    same(row::value_bytes(shown, row, &text), bytes)
+    row::value_bytes(value.value, row, &d.text) == bytes
 }
 
-// Whether all but the values' bytes is as in the table: an accepted description of so many columns, an accepted row.
-fn is_accepted_row(
-    d: &Decoded,
+// The accepted row, where all but the values' bytes is as in the table: so many columns, these values, texts and bytes used.
+fn accepted_row<'a>(
+    d: &'a Decoded,
     columns: usize,
     first: ValuePlace,
     second: ValuePlace,
     texts: &[u8],
     used: usize,
-) -> bool {
-    let description = d.description;
-    let answer = &d.answer;
-    let outcome = answer.outcome;
-    let text = d.text;
-    if !is_accepted(description) {
-        return false;
-    }
-    if d.columns != columns {
-        return false;
-    }
-    if !is_accepted(outcome) {
-        return false;
-    }
-    if answer.used != used {
-        return false;
-    }
-    if answer.replaced != 0 {
-        return false;
-    }
-    if !has_values(answer, first, second) {
-        return false;
-    }
-    has_text(text, texts)
+) -> Option<&'a Row> {
+    d.answer.as_ref().ok().filter(|answer| {
+        d.columns == columns
+            && answer.used == used
+            && answer.replaced == 0
+            && has_values(answer, first, second)
+            && has_text(&d.text, texts)
+    })
 }
 
-// A description of one column and a row: its value, the texts, the bytes of the value, the bytes used.
-fn is_one(
+// A description of one column and a row: its value, the texts, the bytes of the value, the bytes used. None where it is not so.
+fn as_one(
     description: &[u8],
     row: &[u8],
     value: ValuePlace,
     texts: &[u8],
     bytes: &[u8],
     used: usize,
-) -> bool {
-    let d = decode(description, row);
-    if !is_accepted_row(&d, 1, value, within(Db2Value::Null), texts, used) {
-        return false;
-    }
-    has_bytes(&d, row, d.answer.places[0], bytes)
+) -> Option<bool> {
+    let d = decode(description, row)?;
+    let answer = accepted_row(&d, 1, value, within(Db2Value::Null), texts, used)?;
+    Some(has_bytes(&d, row, answer.places[0], bytes))
 }
 
 // A description of two columns, the first a number or Null, and a row.
-fn are_two(
+fn as_two(
     description: &[u8],
     row: &[u8],
     first: ValuePlace,
@@ -236,73 +112,39 @@ fn are_two(
     texts: &[u8],
     bytes: &[u8],
     used: usize,
-) -> bool {
-    let d = decode(description, row);
-    if !is_accepted_row(&d, 2, first, second, texts, used) {
-        return false;
-    }
-    if !has_bytes(&d, row, d.answer.places[0], b"") {
-        return false;
-    }
-    has_bytes(&d, row, d.answer.places[1], bytes)
+) -> Option<bool> {
+    let d = decode(description, row)?;
+    let answer = accepted_row(&d, 2, first, second, texts, used)?;
+    let is_first = has_bytes(&d, row, answer.places[0], b"");
+    Some(is_first && has_bytes(&d, row, answer.places[1], bytes))
 }
 
-// A description of one column and a row that is too short for it: all places are blank, no byte is used or written, no character replaced.
+// A description of one column and a row that is too short for it: no byte is written.
 fn is_short(description: &[u8], row: &[u8], expected: usize, actual: usize) -> bool {
-    let d = decode(description, row);
-    let parsed = d.description;
-    let answer = &d.answer;
-    let outcome = answer.outcome;
-    let text = d.text;
-    let blank = within(Db2Value::Null);
-    if !is_accepted(parsed) {
-        return false;
+    let short = Refusal::BufferTooShort { expected, actual };
+    match decode(description, row) {
+        Some(d) => {
+            let is_refused = matches!(d.answer, Err(refusal) if refusal == short);
+            is_refused && d.columns == 1 && has_text(&d.text, b"")
+        }
+        None => false,
     }
-    if d.columns != 1 {
-        return false;
-    }
-    if !is_too_short(outcome, expected, actual) {
-        return false;
-    }
-    if answer.used != 0 {
-        return false;
-    }
-    if answer.replaced != 0 {
-        return false;
-    }
-    if !has_values(answer, blank, blank) {
-        return false;
-    }
-    if !has_text(text, b"") {
-        return false;
-    }
-    has_bytes(&d, row, answer.places[0], b"")
 }
 
 // A packed decimal of this scale, and its text.
 fn is_decimal(data: &[u8], scale: u8, want: &[u8]) -> bool {
     let mut text = [BEFORE; TEXT];
-    let a = decimal::decode_packed_decimal(data, PRECISION, scale, &mut text);
-    let outcome = a.outcome;
-    if !is_accepted(outcome) {
-        return false;
+    match decimal::decode_packed_decimal(data, PRECISION, scale, &mut text) {
+        Ok(written) => {
+            written.len == want.len() && written.replaced == 0 && has_text(&text, want)
+        }
+        Err(_) => false,
     }
-    if a.written != want.len() {
-        return false;
-    }
-    if a.replaced != 0 {
-        return false;
-    }
-    has_text(text, want)
 }
 
 fn tell(out: Stdout, letter: u8, is_same: bool) {
-    let _ = out.write_all(&[letter]);
-    if is_same {
-        let _ = out.write_all(b" same\n");
-        return;
-    }
-    let _ = out.write_all(b" differs\n");
+    let verdict = if is_same { "same" } else { "differs" };
+    let _ = println!(out; "{} {verdict}", char::from(letter));
 }
 
 // A case of one column.
@@ -323,7 +165,7 @@ fn one(
     tell(
         out,
         letter,
-        is_one(description, row, place, texts, bytes, used),
+        as_one(description, row, place, texts, bytes, used) == Some(true),
     );
 }
 
@@ -346,7 +188,7 @@ fn two(
     tell(
         out,
         letter,
-        are_two(description, row, place, next, texts, bytes, used),
+        as_two(description, row, place, next, texts, bytes, used) == Some(true),
     );
 }
 

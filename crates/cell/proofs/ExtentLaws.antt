@@ -1,20 +1,18 @@
--- Laws of extents that the code rests on: counting hexadecimal digits one byte on, what two bytes say of a header, and that a unit has at most two bytes.
+-- Laws of extents that the code rests on: what a hexadecimal digit is, what two bytes say of a header, and that a unit has at most two bytes.
 -- Assumes nothing.
+use Rattle.std.specs.Prelude.{None, Option, Some}
 use Prim.Native.Nat.{ℕ, ◌+◌, ◌*◌, ◌≤◌, ◌<◌}
 use mathlib.Core.Path.{◌≡◌, refl, sym}
-use mathlib.Core.Bool.{Bool, true, false, cond, ◌&&◌, true≢false}
+use mathlib.Core.Bool.{Bool, true, false, cond, ◌&&◌, ◌||◌, true≢false}
 use mathlib.Core.List.{List, [], ◌∷◌}
-use native.Mathlib.Numerals.{add-one}
 use native.Mathlib.Omega.{arith}
 use native.Mathlib.Nat.{mul-le-mul_right}
-use lib.ListN.{length, get_or, take, drop}
-use lib.Seq.{drop-cons}
+use lib.ListN.{length, get_or, take}
 use lib.Dec.{leb, ltb, eqb}
 use borrow.Author.Tests.{leb-true, ltb-true}
+use Rattle.std.specs.Char.{is_ascii_hexdigit}
 use Rattle.types.specs.declared.Db2Type.{Db2Type}
 use Rattle.types.specs.declared.Db2Type.TheVariants as type
-use Rattle.types.specs.declared.ReferenceLength.{ReferenceLength}
-use Rattle.types.specs.declared.ReferenceLength.TheVariants.{Absent, Width}
 use Rattle.types.specs.declared.ColumnDescriptor.{ColumnDescriptor}
 use Rattle.rules.specs.declared.Extent.{Extent}
 use Rattle.rules.specs.declared.Extent.TheVariants.{Fixed, Counted, Header, Inline, Locator, Materialized}
@@ -24,9 +22,22 @@ use Rattle.types.specs.Names.{graphic_unit}
 use Rattle.rules.specs.Extent.{be16, be32, is_reference, is_hex_digit, hex_digits, is_short_reference, says_header, lob_need, need, varying_extent, lob_extent, length_extent, type_extent}
 use Rattle.cell.specs.Inner.{unit_size, size_of, most_size, most_need}
 
-pub hex_step : (s : List ℕ) (i : ℕ) (t : Bool) → i < length s → is_hex_digit (get_or s i 0) ≡ t → hex_digits (drop i s) ≡ cond t 1 0 + hex_digits (drop (i + 1) s)
+-- the rules' hexadecimal digits are those of ASCII
+hex_digit_is : (b : ℕ) → is_hex_digit b ≡ is_ascii_hexdigit b
+unfolding is_hex_digit
+hex_digit_is b = or_assoc (leb 0x30 b && leb b 0x39) (leb 0x41 b && leb b 0x46) (leb 0x61 b && leb b 0x66)
+  where
+    or_assoc : (x y z : Bool) → (x || (y || z)) ≡ ((x || y) || z)
+    or_assoc true y z = refl
+    or_assoc false y z = refl
+
+pub hex_step : (b : ℕ) (s : List ℕ) → hex_digits (b ∷ s) ≡ cond (is_ascii_hexdigit b) (1 + hex_digits s) (hex_digits s)
 unfolding hex_digits
-hex_step s i t h e = rw (add-one, drop-cons s i 0 h, e)
+hex_step b s = rw (hex_digit_is b) (go (is_ascii_hexdigit b))
+  where
+    go : (t : Bool) → cond t 1 0 + hex_digits s ≡ cond t (1 + hex_digits s) (hex_digits s)
+    go true = omega arith
+    go false = omega arith
 
 pub says_two : (s : List ℕ) → says_header s ≡ true → 2 ≤ length s
 unfolding says_header
@@ -66,9 +77,9 @@ varying_small n u h = go (bit8000 n)
     go true = omega arith
     go false = h
 
-lob_small : (r : ReferenceLength) (e : Extent) → unit_size e ≤ 2 → unit_size (lob_extent r e) ≤ 2
-lob_small (Width w) e h = omega arith
-lob_small Absent e h = h
+lob_small : (r : Option ℕ) (e : Extent) → unit_size e ≤ 2 → unit_size (lob_extent r e) ≤ 2
+lob_small (Some w) e h = omega arith
+lob_small None e h = h
 
 length_small : (n : ℕ) → unit_size (length_extent n) ≤ 2
 length_small n = go (eqb n 0)

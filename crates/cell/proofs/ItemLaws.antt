@@ -1,38 +1,27 @@
--- Laws of items that the code rests on: looking for a byte that is not zero one byte on, all bytes from a place on, what a reference begins with.
+-- Laws of items that the code rests on: all bytes from a place on, what a reference begins with.
 -- Assumes nothing.
+use Rattle.std.specs.Prelude.{None, Option}
 use Prim.Native.Nat.{ℕ, ◌+◌, ◌-◌, ◌≤◌, ◌<◌}
 use mathlib.Core.Path.{◌≡◌, refl, sym, ◌∙◌, subst}
 use mathlib.Core.Bool.{Bool, true, false, cond, ◌&&◌, true≢false}
 use mathlib.Core.List.{List}
-use native.Mathlib.Numerals.{add-one}
 use native.Mathlib.Omega.{arith}
 use native.Mathlib.Nat.{sub-zero}
 use lib.ListN.{length, get_or, take, drop, length-drop}
-use lib.Seq.{drop-cons, take_all, length-take-le}
+use lib.Seq.{take_all, length-take-le}
 use lib.Dec.{leb, eqb}
-use borrow.Author.Tests.{leb-true, eq-eqb, ne_eqb}
+use borrow.Author.Tests.{leb-true}
 use Rattle.types.specs.declared.Db2Type.{Db2Type}
-use Rattle.types.specs.declared.ReferenceLength.{ReferenceLength}
-use Rattle.types.specs.declared.ReferenceLength.TheVariants.{Absent}
 use Rattle.types.specs.declared.ColumnDescriptor.{ColumnDescriptor}
 use Rattle.refusal.specs.Refusal.{most_bytes}
 use Rattle.types.specs.FixedLength.{packed_length}
 use Rattle.rules.specs.declared.Extent.TheVariants.{Fixed, Counted, Inline, Locator}
 use Rattle.rules.specs.Extent.{be32, is_reference, reference_mark, lob_need, need, lob_extent, length_extent, type_extent, extent_of}
-use Rattle.rules.specs.Meaning.{ByteSort, Item, all_zero, type_item, item_in}
+use Rattle.rules.specs.Meaning.{ByteSort, Item, type_item, item_in}
 use Rattle.rules.specs.Conversions.{conversions_of}
 use Rattle.rules.proofs.Extents.{cuts}
 use Rattle.cell.specs.declared.CellItem.{CellItem}
 use Rattle.cell.specs.Cell.{Holds}
-
-module _ (s : List ℕ) (i : ℕ) (h : i < length s) where
-  pub zero_step : get_or s i 0 ≡ 0 → all_zero (drop i s) ≡ all_zero (drop (i + 1) s)
-  unfolding all_zero
-  zero_step e = rw (add-one, drop-cons s i 0 h, eq-eqb _ _ e)
-
-  pub nonzero_step : (get_or s i 0 ≡ 0 → ⊥) → all_zero (drop i s) ≡ false
-  unfolding all_zero
-  nonzero_step e = rw (drop-cons s i 0 h, ne_eqb _ _ e)
 
 pub all_from : (from : ℕ) (s : List ℕ) → take (length s - from) (drop from s) ≡ drop from s
 all_from from s = take_all (length s - from) (drop from s) (omega (arith, length-drop from s))
@@ -96,12 +85,12 @@ length_there : (b : Bool) (s : List ℕ) → need (cond b Locator Inline) s ≡ 
 length_there true s h = locator_there s h
 length_there false s h = inline_there s h
 
-module _ (r : ReferenceLength) (s : List ℕ) where
-  pub absent_there : (n : ℕ) → need (lob_extent r (length_extent n)) s ≡ length s → r ≡ Absent → 4 ≤ length s
-  absent_there n h a = length_there (eqb n 0) s (subst (λ (x : ReferenceLength). need (lob_extent x (length_extent n)) s ≡ length s) a h)
+module _ (r : Option ℕ) (s : List ℕ) where
+  pub absent_there : (n : ℕ) → need (lob_extent r (length_extent n)) s ≡ length s → r ≡ None → 4 ≤ length s
+  absent_there n h a = length_there (eqb n 0) s (subst (λ (x : Option ℕ). need (lob_extent x (length_extent n)) s ≡ length s) a h)
 
-  pub absent_xml : need (lob_extent r Inline) s ≡ length s → r ≡ Absent → 4 ≤ length s
-  absent_xml h a = inline_there s (subst (λ (x : ReferenceLength). need (lob_extent x Inline) s ≡ length s) a h)
+  pub absent_xml : need (lob_extent r Inline) s ≡ length s → r ≡ None → 4 ≤ length s
+  absent_xml h a = inline_there s (subst (λ (x : Option ℕ). need (lob_extent x Inline) s ≡ length s) a h)
 
 -- the bytes that a value takes are all that it takes of them
 pub cut_there : (c : ColumnDescriptor) (s : List ℕ) (n : ℕ) → n ≡ need (extent_of c) s → n ≤ length s → need (extent_of c) (take n s) ≡ length (take n s)

@@ -1,4 +1,5 @@
 -- Laws of external values: which items are an empty LOB, and that a LOB's bytes tell it. Assumes nothing.
+use Rattle.std.specs.Prelude.{None, Option, Some}
 use Prim.Native.Nat.{ℕ, ◌≤◌, ◌<◌, min}
 use mathlib.Core.Path.{◌≡◌, refl, sym, ap, ◌∙◌}
 use mathlib.Core.Bool.{Bool, true, false, cond, not, ◌&&◌, ◌||◌, true≢false}
@@ -9,8 +10,6 @@ use lib.Dec.{leb, ltb, eqb}
 use borrow.Author.Tests.{leb-true, ne_eqb}
 use Rattle.types.specs.declared.Db2Type.{Db2Type}
 use Rattle.types.specs.declared.Db2Type.TheVariants as type
-use Rattle.types.specs.declared.ReferenceLength.{ReferenceLength}
-use Rattle.types.specs.declared.ReferenceLength.TheVariants.{Absent, Width}
 use Rattle.types.specs.declared.ColumnDescriptor.{ColumnDescriptor}
 use Rattle.buffer.specs.Buffer.{Converted, unreplaced}
 use Rattle.conversion.specs.Conversion.{locator_text}
@@ -90,15 +89,15 @@ module _ (release : ℕ) where
 
   -- ---- the cases of a value that may refer
 
-  pub lob_refers_lem : (r : ReferenceLength) (located : Bool) (k : Lob) (s : List ℕ) → (r ≡ Absent → 4 ≤ length s)
+  pub lob_refers_lem : (r : Option ℕ) (located : Bool) (k : Lob) (s : List ℕ) → (r ≡ None → 4 ≤ length s)
       → (not (is_empty_lob (lob_item L r located k s)) && (not (is_absent r) || (is_reference s || located))) ≡ lob_refers r located s
   unfolding lob_item
-  lob_refers_lem (Width w) located k s h = go (all_zero s || is_empty_reference s) refl
+  lob_refers_lem (Some w) located k s h = go (all_zero s || is_empty_reference s) refl
     where
       go : (z : Bool) → (all_zero s || is_empty_reference s) ≡ z → (not (is_empty_lob (cond z (lob_empty k) (lob_reference L k s))) && true) ≡ not z
       go true e = rw (lob_none k) refl
       go false e = rw (reference_some k s (nonzero_some s _ e)) refl
-  lob_refers_lem Absent located k s h = go (is_reference s) (all_zero (drop 1 s)) located
+  lob_refers_lem None located k s h = go (is_reference s) (all_zero (drop 1 s)) located
     where
       some : is_empty_lob (lob_reference L k s) ≡ false
       some = reference_some k s (omega (arith, h refl))
@@ -139,7 +138,7 @@ module _ (release : ℕ) where
       go false i = no_refer (is_empty_lob i)
 
   -- as the definition has it, for a LOB of a type whose other test is y
-  lob_tests : (r : ReferenceLength) (x y located : Bool) (k : Lob) (s : List ℕ) → (x && y) ≡ located → (r ≡ Absent → 4 ≤ length s)
+  lob_tests : (r : Option ℕ) (x y located : Bool) (k : Lob) (s : List ℕ) → (x && y) ≡ located → (r ≡ None → 4 ≤ length s)
       → lob_refers r located s ≡ (not (is_empty_lob (lob_item L r located k s)) && ((not (is_absent r) || (is_reference s || (x && y))) || false))
   lob_tests r x y located k s e h = sym (rw (e, or_false (not (is_absent r) || (is_reference s || located))) (lob_refers_lem r located k s h))
 

@@ -1,7 +1,5 @@
 -- For inner functions; no public promise rests on it. Assumes nothing.
-use Rattle.std.specs.Prelude.{ℕ, ◌≤◌, ◌≡◌, Bool, false, cond, not, ◌||◌, List, [], drop}
-use Rattle.types.specs.declared.ReferenceLength.{ReferenceLength}
-use Rattle.types.specs.declared.ReferenceLength.TheVariants.{Absent, Width}
+use Rattle.std.specs.Prelude.{ℕ, ◌≤◌, ◌≡◌, Bool, false, cond, not, ◌||◌, List, [], drop, None, Option, Some}
 use Rattle.rules.specs.declared.Extent.{Extent}
 use Rattle.rules.specs.declared.Extent.TheVariants.{Fixed, Counted, Header, Inline, Locator, Materialized}
 use Rattle.types.specs.declared.Db2Type.{Db2Type}
@@ -10,8 +8,6 @@ use Rattle.rules.specs.Extent.{is_reference, type_extent}
 use Rattle.rules.specs.Meaning.{all_zero, is_empty_reference, type_item}
 use Rattle.rules.specs.Row.{item_text}
 use Rattle.rules.specs.Conversions.{conversions_of}
-use Rattle.cell.specs.declared.NumberWidth.{NumberWidth}
-use Rattle.cell.specs.declared.NumberWidth.TheVariants as width
 use Rattle.cell.specs.Cell.{is_number}
 
 -- how many bytes the units of an extent have, where it counts units
@@ -40,12 +36,12 @@ abbrev pub most_need : ℕ
 most_need = 4294967299
 
 -- whether a LOB's bytes s refer to data outside the row: a reference that is not empty, or a locator
-abbrev pub lob_refers : ReferenceLength → Bool → List ℕ → Bool
-lob_refers (Width w) located s = not (all_zero s || is_empty_reference s)
-lob_refers Absent located s = cond (is_reference s) (not (all_zero (drop 1 s))) located
+abbrev pub lob_refers : Option ℕ → Bool → List ℕ → Bool
+lob_refers (Some w) located s = not (all_zero s || is_empty_reference s)
+lob_refers None located s = cond (is_reference s) (not (all_zero (drop 1 s))) located
 
 -- values of the type t take so many bytes and have no text; or are no numbers
-abbrev pub WidthOf : NumberWidth → Db2Type → Type 0
-WidthOf (width.Bytes n) t =
+abbrev pub WidthOf : Option ℕ → Db2Type → Type 0
+WidthOf (Some n) t =
     ((c : ColumnDescriptor) → type_extent t c ≡ Fixed n) × (((release : ℕ) (c : ColumnDescriptor) (s : List ℕ) → item_text (type_item (conversions_of release) t c s) ≡ []) × (n ≤ 8))
-WidthOf width.NoNumber t = is_number t ≡ false
+WidthOf None t = is_number t ≡ false

@@ -1,17 +1,16 @@
 // How many bytes a column's value takes: its kind of extent, and the number that the bytes at hand make of it (the Rust: decode_column_value).
 ghost use Rattle.std.specs.Prelude.{◌≡◌, false, cond, ◌+◌, ◌<◌, ◌≤◌, length, eqb};
 ghost use Rattle.rules.specs.declared.Extent.{Extent};
-ghost use Rattle.rules.specs.Extent.{is_reference, is_hex_digit, hex_digits, is_short_reference, says_header, lob_need, need};
+ghost use Rattle.rules.specs.Extent.{is_reference, hex_digits, is_short_reference, says_header, lob_need, need};
 ghost use Rattle.rules.specs.Extent.{varying_extent, lob_extent, length_extent, extent_of};
 ghost use Rattle.types.specs.FixedLength.{packed_length};
 ghost use Rattle.refusal.specs.Refusal.{most_bytes};
 ghost use Rattle.cell.specs.Cell.{is_number};
 ghost use Rattle.cell.specs.Inner.{WidthOf, unit_size, size_of, most_size, most_need};
 
-use crate::NumberWidth;
 use numbers::{u16_of, u32_of};
 use rules::Extent;
-use types::{ByteOrder, ColumnDescriptor, Db2Type, ReferenceLength};
+use types::{ByteOrder, ColumnDescriptor, Db2Type};
 
 // How many bytes values of these types take.
 pub const SMALL_INT: usize = 2;
@@ -28,75 +27,38 @@ pub const DATE: usize = 10;
 
 pub const TIME: usize = 8;
 
-fn is_hex_digit(b: u8) -> bool
-    ensures { result ≡ is_hex_digit b }
-{
-    if b < 0x30 {
-        return false;
-    }
-    if b <= 0x39 {
-        return true;
-    }
-    if b < 0x41 {
-        return false;
-    }
-    if b <= 0x46 {
-        return true;
-    }
-    if b < 0x61 {
-        return false;
-    }
-    b <= 0x66
-}
-
 fn hex_digits(s: &[u8]) -> usize
     ensures { result ≡ hex_digits s.now }
 {
-    let mut n: usize = 0;
-    let mut i: usize = 0;
-    while i < s.len() {
-        if is_hex_digit(s[i]) {
-            n += 1;
-        }
-        i += 1;
-    }
-    n
+    s.iter().filter(|b| b.is_ascii_hexdigit()).count()
 }
 
 // The Rust: is_short_externalized_lob_reference.
+#[tactic(auto, unfolding(rules::specs::Extent::is_short_reference))]
 pub fn is_short_reference(declared: usize, s: &[u8]) -> bool
     ensures { result ≡ is_short_reference declared s.now }
 {
-    if declared < 1024 {
-        return false;
-    }
-    if s.len() < 16 {
-        return false;
-    }
-    if declared <= s.len() {
-        return false;
-    }
-    16 <= hex_digits(s)
+    1024 <= declared && 16 <= s.len() && s.len() < declared && 16 <= hex_digits(s)
 }
 
 // The Rust: externalized_lob_reference_len.
+#[tactic(auto, unfolding(rules::specs::Extent::is_reference))]
 pub fn is_reference(s: &[u8]) -> bool
     ensures { result ≡ is_reference s.now }
 {
-    if 9 <= s.len() { s[0] == 0x02 } else { false }
+    9 <= s.len() && s[0] == 0x02
 }
 
 // Whether two bytes say how long the header behind them is.
+#[tactic(auto, unfolding(rules::specs::Extent::says_header))]
 pub fn says_header(s: &[u8]) -> bool
     ensures { result ≡ says_header s.now }
 {
-    if s.len() < 2 {
-        return false;
-    }
-    0x8000 <= u16_of(s, ByteOrder::BigEndian)
+    2 <= s.len() && 0x8000 <= u16_of(s, ByteOrder::BigEndian)
 }
 
 // A LOB without reference length, which takes `whole` where no reference begins.
+#[tactic(auto, unfolding(rules::specs::Extent::lob_need))]
 fn lob_need(whole: usize, s: &[u8]) -> usize
     ensures { result ≡ lob_need whole s.now }
 {
@@ -116,6 +78,7 @@ pub fn counted_need(unit: usize, s: &[u8]) -> usize
     2 + unit * u16_of(s, ByteOrder::BigEndian) as usize
 }
 
+#[tactic(auto, using(crate::proofs::ExtentLaws::says_two), unfolding(rules::specs::Extent::need))]
 fn header_need(n: usize, s: &[u8]) -> usize
     ensures { result ≡ need (Extent.Header n) s.now }
 {
@@ -126,6 +89,7 @@ fn header_need(n: usize, s: &[u8]) -> usize
     }
 }
 
+#[tactic(auto, unfolding(rules::specs::Extent::need, rules::specs::Extent::lob_need))]
 fn inline_need(s: &[u8]) -> usize
     ensures { result ≡ need Extent.Inline s.now }
 {
@@ -135,6 +99,7 @@ fn inline_need(s: &[u8]) -> usize
     lob_need(4 + u32_of(s, ByteOrder::BigEndian) as usize, s)
 }
 
+#[tactic(auto, unfolding(rules::specs::Extent::need))]
 fn materialized_need(n: usize, s: &[u8]) -> usize
     ensures { result ≡ need (Extent.Materialized n) s.now }
 {
@@ -142,6 +107,7 @@ fn materialized_need(n: usize, s: &[u8]) -> usize
 }
 
 // How many bytes a value of this extent takes, where s is the rest of the row: it is there where that is at most their number.
+#[tactic(auto, unfolding(rules::specs::Extent::need))]
 fn extent_need(extent: Extent, s: &[u8]) -> usize
     requires { unit_size extent ≤ 2 }
     ensures { result ≡ need extent s.now }
@@ -176,12 +142,12 @@ fn length_extent(n: u16) -> Extent
     }
 }
 
-fn lob_extent(reference: ReferenceLength, other: Extent) -> Extent
+fn lob_extent(reference: Option<u16>, other: Extent) -> Extent
     ensures { (result ≡ lob_extent reference other) × (size_of result ≤ size_of other + 65535) }
 {
     match reference {
-        ReferenceLength::Width(w) => Extent::Fixed(w as usize),
-        ReferenceLength::Absent => other,
+        Some(w) => Extent::Fixed(w as usize),
+        None => other,
     }
 }
 
@@ -226,36 +192,23 @@ fn extent_of(column: ColumnDescriptor) -> Extent
         Db2Type::Char(n) => Extent::Fixed(n as usize),
         Db2Type::VarChar(n) => varying_extent(n, 1),
         Db2Type::LongVarChar => Extent::Counted(1),
-        Db2Type::Clob => {
-            let reference = column.extdta_reference_length;
-            lob_extent(reference, length_extent(length))
+        Db2Type::Blob | Db2Type::Clob | Db2Type::DbClob => {
+            lob_extent(column.extdta_reference_length, length_extent(length))
         }
         Db2Type::Binary(n) => Extent::Fixed(n as usize),
         Db2Type::VarBinary(_) => Extent::Counted(1),
-        Db2Type::Blob => {
-            let reference = column.extdta_reference_length;
-            lob_extent(reference, length_extent(length))
-        }
-        Db2Type::BlobLocator => Extent::Fixed(4),
+        Db2Type::BlobLocator | Db2Type::ClobLocator | Db2Type::DbClobLocator => Extent::Fixed(4),
         Db2Type::Date => Extent::Fixed(DATE),
         Db2Type::Time => Extent::Fixed(TIME),
         Db2Type::Timestamp => Extent::Fixed(timestamp_need(length)),
         Db2Type::Graphic(n) => Extent::Fixed(column.graphic_unit() * n as usize),
         Db2Type::VarGraphic(n) => varying_extent(n, column.graphic_unit()),
-        Db2Type::DbClob => {
-            let reference = column.extdta_reference_length;
-            lob_extent(reference, length_extent(length))
+        Db2Type::LobBytes(n) | Db2Type::LobChar(n) => {
+            Extent::Materialized((n % 0x8000) as usize)
         }
-        Db2Type::ClobLocator => Extent::Fixed(4),
-        Db2Type::DbClobLocator => Extent::Fixed(4),
-        Db2Type::LobBytes(n) => Extent::Materialized((n % 0x8000) as usize),
-        Db2Type::LobChar(n) => Extent::Materialized((n % 0x8000) as usize),
         Db2Type::RowId(n) => Extent::Fixed(n as usize),
         Db2Type::Boolean => Extent::Fixed(length_or(length, 1)),
-        Db2Type::Xml => {
-            let reference = column.extdta_reference_length;
-            lob_extent(reference, Extent::Inline)
-        }
+        Db2Type::Xml => lob_extent(column.extdta_reference_length, Extent::Inline),
         _ => Extent::Fixed(0),
     }
 }
@@ -268,17 +221,18 @@ pub fn other_need(rest: &[u8], column: ColumnDescriptor) -> usize
     extent_need(extent_of(column), rest)
 }
 
-// How many bytes a number takes, by its type.
-pub fn number_width(t: Db2Type) -> NumberWidth
+// How many bytes values of a type take where they are numbers.
+#[tactic(auto, unfolding(rules::specs::Row::item_text))]
+pub fn number_width(t: Db2Type) -> Option<usize>
     ensures { WidthOf result t }
 {
     match t {
-        Db2Type::SmallInt => NumberWidth::Bytes(SMALL_INT),
-        Db2Type::Integer => NumberWidth::Bytes(INTEGER),
-        Db2Type::BigInt => NumberWidth::Bytes(BIG_INT),
-        Db2Type::Real => NumberWidth::Bytes(REAL),
-        Db2Type::Double => NumberWidth::Bytes(DOUBLE),
-        _ => NumberWidth::NoNumber,
+        Db2Type::SmallInt => Some(SMALL_INT),
+        Db2Type::Integer => Some(INTEGER),
+        Db2Type::BigInt => Some(BIG_INT),
+        Db2Type::Real => Some(REAL),
+        Db2Type::Double => Some(DOUBLE),
+        _ => None,
     }
 }
 
@@ -288,7 +242,7 @@ pub fn column_need(rest: &[u8], column: ColumnDescriptor) -> usize
 {
     let t = column.db2_type;
     match number_width(t) {
-        NumberWidth::Bytes(n) => n,
-        NumberWidth::NoNumber => other_need(rest, column),
+        Some(n) => n,
+        None => other_need(rest, column),
     }
 }

@@ -5,16 +5,16 @@
 pub mod extents;
 pub mod refers;
 
-ghost use Rattle.std.specs.Prelude.{◌≡◌, false, List, [], ℕ, ◌<◌, ◌≤◌, ◌-◌, length, drop};
+ghost use Rattle.std.specs.Prelude.{◌≡◌, false, List, [], ℕ, ◌<◌, ◌≤◌, ◌-◌, length, drop, None};
 ghost use Rattle.types.specs.Names.{bit8000};
 ghost use Rattle.rules.specs.Meaning.{Item, Lob, lob_empty, lob_reference, lob_inline, declared_lob, undeclared_lob, lob_item, header_in, header_item, lob_bytes_item, lob_char_item, item_in};
 ghost use Rattle.rules.specs.Extent.{need, extent_of};
-ghost use Rattle.types.specs.declared.ReferenceLength.{ReferenceLength};
 ghost use Rattle.rules.specs.Conversions.{conversions_of};
 ghost use Rattle.buffer.specs.Buffer.{unreplaced};
 ghost use Rattle.conversion.specs.Conversion.{characters_by};
 ghost use Rattle.refusal.specs.Refusal.{most_bytes};
 ghost use Rattle.types.specs.declared.Db2Type.{Db2Type};
+ghost use Rattle.cell.specs.declared.TextSort.{TextSort};
 ghost use Rattle.cell.specs.Cell.{byte_sort, text_sort, lob_of, decoded, Holds, Means, MeansBy, is_number, OtherIs, ValueIs};
 
 use extents::{
@@ -23,7 +23,7 @@ use extents::{
 };
 use numbers::{big_int, double, integer, real, small_int};
 use refers::{all_zero, is_empty_header, is_empty_reference};
-use types::{ColumnDescriptor, Db2Type, Db2Value, ReferenceLength};
+use types::{ColumnDescriptor, Db2Type, Db2Value};
 use utf::likely::bytes_are_likely_text;
 
 // The sorts of value that are a part of the row, and those that are a text.
@@ -90,13 +90,6 @@ pub enum CellItem {
     },
 }
 
-// How many bytes a type's values take where they are numbers.
-#[derive(Clone, Copy)]
-pub enum NumberWidth {
-    Bytes(usize),
-    NoNumber,
-}
-
 // A value that is no number, how many bytes it takes, and whether it refers to data outside the row.
 #[derive(Clone, Copy)]
 pub struct OtherValue {
@@ -136,10 +129,17 @@ fn part_from(sort: ByteSort, bytes: &[u8], from: usize) -> CellItem
     }
 }
 
-// A text of a value's bytes, all from a place on, by the CCSID.
-fn characters(sort: TextSort, ccsid: u16, from: usize, count: usize) -> CellItem
+// What `count` bytes mean that are a value of a type whose text is by the CCSID: all from byte `from` on, which is 2 in a VarChar within the row, behind the two
+// bytes that count. The row call on words knows the type by its words, and makes no column for these.
+#[tactic(auto, unfolding(rules::specs::Meaning::varying_item))]
+pub fn characters(sort: TextSort, ccsid: u16, from: usize, count: usize) -> CellItem
     requires { from ≤ count }
-    ensures { (release : ℕ) (s : List ℕ) → length s ≡ count → Holds release result s (Item.text (text_sort sort) (characters_by release ccsid (drop from s))) }
+    ensures text { (release : ℕ) (s : List ℕ) → length s ≡ count → Holds release result s (Item.text (text_sort sort) (characters_by release ccsid (drop from s))) }
+    ensures char { (n : ℕ) → sort ≡ TextSort.Char → from ≡ 0 → MeansBy ccsid result (Db2Type.Char n) count }
+    ensures var_char { (n : ℕ) → bit8000 n ≡ false → sort ≡ TextSort.VarChar → from ≡ 2 → MeansBy ccsid result (Db2Type.VarChar n) count }
+    ensures date { sort ≡ TextSort.Date → from ≡ 0 → MeansBy ccsid result Db2Type.Date count }
+    ensures time { sort ≡ TextSort.Time → from ≡ 0 → MeansBy ccsid result Db2Type.Time count }
+    ensures timestamp { sort ≡ TextSort.Timestamp → from ≡ 0 → MeansBy ccsid result Db2Type.Timestamp count }
 {
     CellItem::Text {
         sort,
@@ -149,7 +149,7 @@ fn characters(sort: TextSort, ccsid: u16, from: usize, count: usize) -> CellItem
     }
 }
 
-// What `count` bytes mean that are a value of a common type. The row call on words knows the type by its words, and makes no column for these.
+// The same of a Decimal.
 pub fn decimal_item(scale: u8, count: usize) -> CellItem
     requires { (0 < count) × (count ≤ most_bytes) }
     ensures { (precision : ℕ) → Means result (Db2Type.Decimal precision scale) count }
@@ -160,38 +160,6 @@ pub fn decimal_item(scale: u8, count: usize) -> CellItem
         from: 0,
         len: count,
     }
-}
-
-pub fn char_item(ccsid: u16, count: usize) -> CellItem
-    ensures { (n : ℕ) → MeansBy ccsid result (Db2Type.Char n) count }
-{
-    characters(TextSort::Char, ccsid, 0, count)
-}
-
-// Within the row: behind the two bytes that count.
-pub fn var_char_item(ccsid: u16, count: usize) -> CellItem
-    requires { 2 ≤ count }
-    ensures { (n : ℕ) → bit8000 n ≡ false → MeansBy ccsid result (Db2Type.VarChar n) count }
-{
-    characters(TextSort::VarChar, ccsid, 2, count)
-}
-
-pub fn date_item(ccsid: u16, count: usize) -> CellItem
-    ensures { MeansBy ccsid result Db2Type.Date count }
-{
-    characters(TextSort::Date, ccsid, 0, count)
-}
-
-pub fn time_item(ccsid: u16, count: usize) -> CellItem
-    ensures { MeansBy ccsid result Db2Type.Time count }
-{
-    characters(TextSort::Time, ccsid, 0, count)
-}
-
-pub fn timestamp_item(ccsid: u16, count: usize) -> CellItem
-    ensures { MeansBy ccsid result Db2Type.Timestamp count }
-{
-    characters(TextSort::Timestamp, ccsid, 0, count)
 }
 
 // An empty text, whatever the bytes.
@@ -206,7 +174,8 @@ fn empty_text(sort: TextSort) -> CellItem
     }
 }
 
-// The Rust: empty_lob_value.
+// The Rust: empty_lob_value. A Blob is a part and the others are texts, here and below: one arm for two kinds would need a kind without Blob.
+#[tactic(auto, unfolding(rules::specs::Meaning::lob_empty))]
 fn lob_empty(kind: LobKind) -> CellItem
     ensures { (release : ℕ) (s : List ℕ) → Holds release result s (lob_empty (lob_of kind)) }
 {
@@ -221,25 +190,19 @@ fn lob_empty(kind: LobKind) -> CellItem
     }
 }
 
+#[tactic(auto, unfolding(rules::specs::Meaning::lob_reference))]
 fn first_four(bytes: &[u8]) -> CellItem
     ensures { (release : ℕ) → Holds release result bytes.now (lob_reference (conversions_of release) Lob.blobs bytes.now) }
 {
-    if bytes.len() < 4 {
-        CellItem::Part {
-            sort: ByteSort::Blob,
-            from: 0,
-            len: bytes.len(),
-        }
-    } else {
-        CellItem::Part {
-            sort: ByteSort::Blob,
-            from: 0,
-            len: 4,
-        }
+    CellItem::Part {
+        sort: ByteSort::Blob,
+        from: 0,
+        len: bytes.len().min(4),
     }
 }
 
 // A reference or a locator: a Blob shows its first four bytes, the others a text.
+#[tactic(auto, unfolding(rules::specs::Meaning::lob_reference))]
 fn lob_reference(kind: LobKind, bytes: &[u8]) -> CellItem
     ensures { (release : ℕ) → Holds release result bytes.now (lob_reference (conversions_of release) (lob_of kind) bytes.now) }
 {
@@ -251,6 +214,7 @@ fn lob_reference(kind: LobKind, bytes: &[u8]) -> CellItem
 }
 
 // A LOB within the row: what stands behind its four bytes of length.
+#[tactic(auto, unfolding(rules::specs::Meaning::lob_inline))]
 fn lob_inline(kind: LobKind, bytes: &[u8]) -> CellItem
     requires { 4 ≤ length bytes.now }
     ensures { (release : ℕ) → Holds release result bytes.now (lob_inline (conversions_of release) (lob_of kind) bytes.now) }
@@ -266,10 +230,7 @@ fn lob_inline(kind: LobKind, bytes: &[u8]) -> CellItem
 fn declared_lob(kind: LobKind, bytes: &[u8]) -> CellItem
     ensures { (release : ℕ) → Holds release result bytes.now (declared_lob (conversions_of release) (lob_of kind) bytes.now) }
 {
-    if all_zero(bytes) {
-        return lob_empty(kind);
-    }
-    if is_empty_reference(bytes) {
+    if all_zero(bytes) || is_empty_reference(bytes) {
         return lob_empty(kind);
     }
     lob_reference(kind, bytes)
@@ -313,6 +274,7 @@ fn header_item(bytes: &[u8]) -> CellItem
 }
 
 // A reference in hexadecimal is a Blob; else likely text is a VarChar, and other bytes are a Blob.
+#[tactic(auto, unfolding(rules::specs::Meaning::lob_bytes_item))]
 fn lob_bytes_item(declared: usize, ccsid: u16, bytes: &[u8]) -> CellItem
     ensures { (release : ℕ) → Holds release result bytes.now (lob_bytes_item (conversions_of release) declared ccsid bytes.now) }
 {
@@ -325,6 +287,7 @@ fn lob_bytes_item(declared: usize, ccsid: u16, bytes: &[u8]) -> CellItem
     part_from(ByteSort::Blob, bytes, 0)
 }
 
+#[tactic(auto, unfolding(rules::specs::Meaning::lob_char_item))]
 fn lob_char_item(declared: usize, ccsid: u16, bytes: &[u8]) -> CellItem
     ensures { (release : ℕ) → Holds release result bytes.now (lob_char_item (conversions_of release) declared ccsid bytes.now) }
 {
@@ -335,13 +298,14 @@ fn lob_char_item(declared: usize, ccsid: u16, bytes: &[u8]) -> CellItem
 }
 
 // `located`: a Blob, Clob or DbClob of length 0.
-fn lob_item(kind: LobKind, reference: ReferenceLength, located: bool, bytes: &[u8]) -> CellItem
-    requires { reference ≡ ReferenceLength.Absent → 4 ≤ length bytes.now }
+#[tactic(auto, unfolding(rules::specs::Meaning::lob_item))]
+fn lob_item(kind: LobKind, reference: Option<u16>, located: bool, bytes: &[u8]) -> CellItem
+    requires { reference ≡ None → 4 ≤ length bytes.now }
     ensures { (release : ℕ) → Holds release result bytes.now (lob_item (conversions_of release) reference located (lob_of kind) bytes.now) }
 {
     match reference {
-        ReferenceLength::Width(_) => declared_lob(kind, bytes),
-        ReferenceLength::Absent => undeclared_lob(kind, located, bytes),
+        Some(_) => declared_lob(kind, bytes),
+        None => undeclared_lob(kind, located, bytes),
     }
 }
 
@@ -360,12 +324,12 @@ fn item_of(bytes: &[u8], column: ColumnDescriptor) -> CellItem
             precision: _,
             scale,
         } => decimal_item(scale, bytes.len()),
-        Db2Type::Char(_) => char_item(ccsid, bytes.len()),
+        Db2Type::Char(_) => characters(TextSort::Char, ccsid, 0, bytes.len()),
         Db2Type::VarChar(n) => {
             if 0x8000 <= n {
                 header_item(bytes)
             } else {
-                var_char_item(ccsid, bytes.len())
+                characters(TextSort::VarChar, ccsid, 2, bytes.len())
             }
         }
         Db2Type::LongVarChar => text_from(TextSort::VarChar, Encoding::Characters(ccsid), bytes, 2),
@@ -374,9 +338,9 @@ fn item_of(bytes: &[u8], column: ColumnDescriptor) -> CellItem
         Db2Type::VarBinary(_) => part_from(ByteSort::Binary, bytes, 2),
         Db2Type::Blob => lob_item(LobKind::Blobs, reference, length == 0, bytes),
         Db2Type::BlobLocator => lob_reference(LobKind::Blobs, bytes),
-        Db2Type::Date => date_item(ccsid, bytes.len()),
-        Db2Type::Time => time_item(ccsid, bytes.len()),
-        Db2Type::Timestamp => timestamp_item(ccsid, bytes.len()),
+        Db2Type::Date => characters(TextSort::Date, ccsid, 0, bytes.len()),
+        Db2Type::Time => characters(TextSort::Time, ccsid, 0, bytes.len()),
+        Db2Type::Timestamp => characters(TextSort::Timestamp, ccsid, 0, bytes.len()),
         Db2Type::Graphic(_) => text_from(TextSort::Char, Encoding::Graphics(ccsid), bytes, 0),
         Db2Type::VarGraphic(n) => {
             if 0x8000 <= n {
@@ -404,12 +368,11 @@ pub fn decode_other_value(rest: &[u8], column: ColumnDescriptor) -> OtherValue
     ensures { (release : ℕ) → OtherIs release result column rest.now }
 {
     let used = other_need(rest, column);
-    let item = item_of(&rest[..used], column);
-    let external = refers::refers(&rest[..used], column);
+    let bytes = &rest[..used];
     OtherValue {
-        item,
+        item: item_of(bytes, column),
         used,
-        external,
+        external: refers::refers(bytes, column),
     }
 }
 

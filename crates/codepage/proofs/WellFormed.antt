@@ -9,7 +9,7 @@ use Rattle.unicode_standard.specs.Laws.{WellFormed, AreBytes}
 use Rattle.unicode_standard.proofs.Ranges.{is_scalar_lem}
 use Rattle.unicode_standard.proofs.Forms.{nil_well_formed, cons_well_formed}
 use Rattle.codepage.specs.CodePage.{byte_pieces, byte_text, code_point819, code_point037}
-use Rattle.codepage.proofs.CodePage037.{code_point_small}
+use Rattle.codepage.specs.Small.{code_point_small}
 
 well_formed : (f : ℕ → ℕ) (s : List ℕ) → ((i : ℕ) → f (get_or s i 0) < 0x100) → WellFormed utf8 (byte_text f s)
 unfolding byte_text byte_pieces pieces_text piece_text

@@ -1,5 +1,5 @@
 -- The column that an SDA describes: Q9 to Q11, N2a. Assumes nothing.
-use Rattle.std.specs.Prelude.{ℕ, ◌+◌, Bool, cond, List, [], ◌∷◌, leb, eqb, length, get_or}
+use Rattle.std.specs.Prelude.{ℕ, ◌+◌, Bool, cond, List, [], ◌∷◌, leb, eqb, length, get_or, None, Option, Some}
 use Rattle.types.specs.Types.{base_of, nullable_bit, from_drda_type}
 use Rattle.types.specs.Names.{bit8000, low15}
 use Rattle.types.specs.declared.Db2Type.{Db2Type}
@@ -8,8 +8,6 @@ use Rattle.types.specs.declared.ByteOrder.{ByteOrder}
 use Rattle.types.specs.declared.ByteOrder.TheVariants.{BigEndian, LittleEndian}
 use Rattle.types.specs.declared.Origin.{Origin}
 use Rattle.types.specs.declared.Origin.TheVariants.{Sda}
-use Rattle.types.specs.declared.ReferenceLength.{ReferenceLength}
-use Rattle.types.specs.declared.ReferenceLength.TheVariants.{Absent, Width}
 use Rattle.types.specs.declared.ColumnDescriptor.{ColumnDescriptor}
 use Rattle.numbers.specs.Number.{unsigned}
 use Rattle.column.specs.declared.Numbers.{Numbers}
@@ -19,9 +17,9 @@ unfoldable pub field16 : List ℕ → ℕ → ℕ
 field16 d at = cond (leb (at + 2) (length d)) (unsigned BigEndian (get_or d at 0 ∷ get_or d (at + 1) 0 ∷ [])) 0
 
 -- term: Q11
-unfoldable pub reference_length : ℕ → ℕ → ReferenceLength
+unfoldable pub reference_length : ℕ → ℕ → Option ℕ
 reference_length c n =
-    cond (leb 0xC8 c) (cond (leb c 0xCF) (cond (bit8000 n) (Width (low15 n)) Absent) Absent) Absent
+    cond (leb 0xC8 c) (cond (leb c 0xCF) (cond (bit8000 n) (Some (low15 n)) None) None) None
 
 abbrev pub numbers_of : ℕ → ℕ → ℕ → Numbers
 numbers_of precision scale ccsid = record { precision = precision; scale = scale; ccsid = ccsid }

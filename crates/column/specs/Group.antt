@@ -1,5 +1,5 @@
 -- The column of a LID of a D0 group, and the environment entries that declare LIDs: Q3, Q5, Q6, Q10, N2a and N2b. Assumes nothing.
-use Rattle.std.specs.Prelude.{ℕ, true, false, cond, List, [], ◌∷◌, eqb}
+use Rattle.std.specs.Prelude.{ℕ, cond, List, [], ◌∷◌, Option, None, Some, eqb}
 use Rattle.types.specs.Types.{base_of, nullable_bit, listed_or, from_drda_type}
 use Rattle.types.specs.FixedLength.{packed_length}
 use Rattle.types.specs.Names.{named_in}
@@ -14,15 +14,16 @@ use Rattle.column.specs.Column.{field16, numbers_of, unnumbered}
 
 -- term: Q3. The environment entry of the type that an MDD left and the data d of the SDA after it
 unfoldable pub entry_of : ℕ → List ℕ → EnvEntry
-entry_of mdd d = record { declared = true; drda_type = mdd; ccsid = field16 d 4 }
+entry_of mdd d = record { drda_type = mdd; ccsid = field16 d 4 }
 
 -- a LID that is not declared
-unfoldable pub no_entry : EnvEntry
-no_entry = record { declared = false; drda_type = 0; ccsid = 0 }
+unfoldable pub no_entry : Option EnvEntry
+no_entry = None
 
--- Q3: the known entry where it is declared, else the later one
-unfoldable pub first_entry : EnvEntry → EnvEntry → EnvEntry
-first_entry known later = cond known.declared known later
+-- Q3: the known entry where there is one, else the later one
+unfoldable pub first_entry : Option EnvEntry → Option EnvEntry → Option EnvEntry
+first_entry None later = later
+first_entry (Some known) later = Some known
 
 -- Q6: the type of the LID l with the length n, where l is not declared and its base is not 0E
 unfoldable pub group_type : ℕ → ℕ → Db2Type
@@ -52,13 +53,14 @@ undeclared_column l a b =
     cond (eqb (base_of l) 0x0E) (unnumbered l (packed_length a) (numbers_of a b 0) (nullable_bit l) (type.Decimal a b) BigEndian UndeclaredLid)
     (unnumbered l n (numbers_of 0 0 (group_ccsid t)) (nullable_bit l) t BigEndian UndeclaredLid)
 
--- Q5, N2a: a LID whose entry e is declared, with its attribute bytes a and b
+-- Q5, N2a: a LID that the entry e declares, with its attribute bytes a and b
 unfoldable pub declared_column : EnvEntry → ℕ → ℕ → ColumnDescriptor
 declared_column e a b =
     let n = unsigned BigEndian (a ∷ b ∷ []) in
     let r = from_drda_type e.drda_type n 0 0 in
     unnumbered e.drda_type n (numbers_of 0 0 e.ccsid) r.nullable r.db2_type BigEndian DeclaredLid
 
--- N2b: the column of a LID, of which e is the environment's entry
-unfoldable pub lid_column : EnvEntry → ℕ → ℕ → ℕ → ColumnDescriptor
-lid_column e l a b = cond e.declared (declared_column e a b) (undeclared_column l a b)
+-- N2b: the column of a LID, by what the environment has for it
+unfoldable pub lid_column : Option EnvEntry → ℕ → ℕ → ℕ → ColumnDescriptor
+lid_column None l a b = undeclared_column l a b
+lid_column (Some e) l a b = declared_column e a b

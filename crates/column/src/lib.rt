@@ -5,11 +5,11 @@
 ghost use Rattle.std.specs.Prelude.{◌≡◌, ◌≤◌, ◌<◌, [], ◌∷◌, length};
 ghost use Rattle.types.specs.declared.ByteOrder.TheVariants.{BigEndian};
 ghost use Rattle.numbers.specs.Number.{unsigned};
-ghost use Rattle.column.specs.Column.{field16, reference_length, sda_numbers, sda_column};
+ghost use Rattle.column.specs.Column.{field16, reference_length, numbers_of, sda_numbers, sda_column};
 ghost use Rattle.column.specs.Group.{entry_of, first_entry, undeclared_column, declared_column, lid_column};
 ghost use Rattle.column.specs.Said.{said_column, sda_code, ListedFor, CcsidFor, NullableFor};
 
-use types::{ByteOrder, ColumnDescriptor, Db2Type, Origin, ReferenceLength};
+use types::{ByteOrder, ColumnDescriptor, Db2Type, Origin};
 
 // How many LIDs there are.
 pub const LID_COUNT: usize = 256;
@@ -17,20 +17,17 @@ pub const LID_COUNT: usize = 256;
 // What an MDD and the SDA after it declare of a LID.
 #[derive(Clone, Copy)]
 pub struct EnvEntry {
-    pub declared: bool,
     pub drda_type: u8,
     pub ccsid: u16,
 }
 
 impl EnvEntry {
     // Of two entries for one LID the first counts.
-    pub fn first(self, later: EnvEntry) -> EnvEntry
-        ensures { result ≡ first_entry self later }
+    #[tactic(auto, unfolding(crate::specs::Group::first_entry))]
+    pub fn first(known: Option<EnvEntry>, later: Option<EnvEntry>) -> Option<EnvEntry>
+        ensures { result ≡ first_entry known later }
     {
-        if self.declared {
-            return self;
-        }
-        later
+        known.or(later)
     }
 }
 
@@ -39,6 +36,19 @@ pub struct Numbers {
     pub precision: u8,
     pub scale: u8,
     pub ccsid: u16,
+}
+
+impl Numbers {
+    // Of a type without precision and scale.
+    fn of_ccsid(ccsid: u16) -> Numbers
+        ensures { result ≡ numbers_of 0 0 ccsid }
+    {
+        Numbers {
+            precision: 0,
+            scale: 0,
+            ccsid,
+        }
+    }
 }
 
 // What an SDA or a LID says of its column, in numbers. `listed` is the code under which the table of from_drda_type has the column's type: it
@@ -71,35 +81,27 @@ const VARBINARY: u8 = 0x62;
 
 const CLOB: u8 = 0xCA;
 
-// Two bytes as a number, big-endian.
-fn be16_of(high: u8, low: u8) -> u16
-    ensures { result ≡ unsigned BigEndian (high ∷ low ∷ []) }
-{
-    (high as u16) * 256 + (low as u16)
-}
-
 // The big-endian number at a place, or 0 where its two bytes are not both there.
+#[tactic(auto, using(crate::proofs::Bytes::big_endian), unfolding(crate::specs::Column::field16))]
 fn field16_at(data: &[u8], at: usize) -> u16
     requires { at ≤ 8 }
     ensures { result ≡ field16 «data».now at }
 {
     if at + 2 <= data.len() {
-        return be16_of(data[at], data[at + 1]);
+        u16::from_be_bytes([data[at], data[at + 1]])
+    } else {
+        0
     }
-    0
 }
 
-fn declared_lob_reference_length(drda_type: u8, length: u16) -> ReferenceLength
+#[tactic(auto, unfolding(crate::specs::Column::reference_length))]
+fn declared_lob_reference_length(drda_type: u8, length: u16) -> Option<u16>
     ensures { result ≡ reference_length drda_type length }
 {
-    if 0xC8 <= drda_type {
-        if drda_type <= 0xCF {
-            if 0x8000 <= length {
-                return ReferenceLength::Width(length % 0x8000);
-            }
-        }
+    match drda_type {
+        0xC8..=0xCF if 0x8000 <= length => Some(length % 0x8000),
+        _ => None,
     }
-    ReferenceLength::Absent
 }
 
 // The column of what is said. It alone looks the type up: the look-up is then compiled into the reader of descriptions.
@@ -128,6 +130,7 @@ pub fn column(said: Said) -> ColumnDescriptor
 }
 
 // Precision, scale and CCSID of an SDA column.
+#[tactic(auto, unfolding(crate::specs::Column::sda_numbers))]
 fn sda_numbers(data: &[u8]) -> Numbers
     requires { 0 < length «data».now }
     ensures { result ≡ sda_numbers «data».now }
@@ -143,34 +146,24 @@ fn sda_numbers(data: &[u8]) -> Numbers
                 ccsid,
             };
         }
-        return Numbers {
-            precision: 0,
-            scale: 0,
-            ccsid,
-        };
+        return Numbers::of_ccsid(ccsid);
     }
-    let ccsid = field16_at(data, 3);
-    Numbers {
-        precision: 0,
-        scale: 0,
-        ccsid,
-    }
+    Numbers::of_ccsid(field16_at(data, 3))
 }
 
 // The code under which the table has an SDA column's type: CCSID 0 turns CHAR and VARCHAR into BINARY and VARBINARY.
+#[tactic(auto, unfolding(crate::specs::Said::sda_code))]
 fn sda_code(code: u8, ccsid: u16) -> u8
     ensures { result ≡ sda_code code ccsid }
 {
-    let base = code - code % 2;
-    if ccsid == 0 {
-        if base == 0x30 {
-            return BINARY;
-        }
-        if base == 0x32 {
-            return VARBINARY;
-        }
+    if ccsid != 0 {
+        return code;
     }
-    code
+    match code - code % 2 {
+        0x30 => BINARY,
+        0x32 => VARBINARY,
+        _ => code,
+    }
 }
 
 // What an SDA with data says of its column.
@@ -199,7 +192,6 @@ pub fn parse_environmental_sda(data: &[u8], mdd_type: u8) -> EnvEntry
 {
     let ccsid = field16_at(data, 4);
     EnvEntry {
-        declared: true,
         drda_type: mdd_type,
         ccsid,
     }
@@ -276,13 +268,9 @@ fn undeclared_lid(lid: u8, first: u8, second: u8) -> Said
         };
     }
     let listed = compact_gda_code(lid);
-    let length = be16_of(first, second);
+    let length = u16::from_be_bytes([first, second]);
     let ccsid = compact_gda_ccsid(lid);
-    let numbers = Numbers {
-        precision: 0,
-        scale: 0,
-        ccsid,
-    };
+    let numbers = Numbers::of_ccsid(ccsid);
     Said {
         drda_type: lid,
         listed,
@@ -308,13 +296,9 @@ fn declared_lid(entry: EnvEntry, first: u8, second: u8) -> Said
     ensures { said_column result ≡ declared_column entry first second }
 {
     let code = entry.drda_type;
-    let length = be16_of(first, second);
+    let length = u16::from_be_bytes([first, second]);
     let nullable = declared_nullable(code);
-    let numbers = Numbers {
-        precision: 0,
-        scale: 0,
-        ccsid: entry.ccsid,
-    };
+    let numbers = Numbers::of_ccsid(entry.ccsid);
     Said {
         drda_type: code,
         listed: code,
@@ -327,11 +311,12 @@ fn declared_lid(entry: EnvEntry, first: u8, second: u8) -> Said
 }
 
 // What a LID of a D0 group and its two attribute bytes say of their column. The entry is the environment's for that LID.
-pub fn parse_compact_gda_lid(entry: EnvEntry, lid: u8, first: u8, second: u8) -> Said
+#[tactic(auto, unfolding(crate::specs::Group::lid_column))]
+pub fn parse_compact_gda_lid(entry: Option<EnvEntry>, lid: u8, first: u8, second: u8) -> Said
     ensures { said_column result ≡ lid_column entry lid first second }
 {
-    if entry.declared {
-        return declared_lid(entry, first, second);
+    match entry {
+        Some(declared) => declared_lid(declared, first, second),
+        None => undeclared_lid(lid, first, second),
     }
-    undeclared_lid(lid, first, second)
 }

@@ -16,7 +16,7 @@ use Rattle.unicode_standard.proofs.Laws.{texts, text_counted}
 use Rattle.unicode_standard.proofs.Ranges.{is_scalar_lem, both}
 use Rattle.unicode_standard.proofs.ScalarBytes.{utf8_one}
 use Rattle.codepage.specs.CodePage.{byte_pieces, byte_text, code_point819, code_point037}
-use Rattle.codepage.proofs.CodePage037.{code_point_small}
+use Rattle.codepage.specs.Small.{code_point_small}
 use Rattle.conversion.specs.Conversion.{is_utf16, character_text, graphic_text, from_characters, from_graphics, characters_by, graphics_by}
 use Rattle.buffer.specs.Buffer.{Converted}
 use Rattle.conversion.specs.Releases.{ccsid_by, graphic_ccsid_by}

@@ -1,8 +1,8 @@
 -- The text of bytes whose conversion is guessed: they are copied while they are ASCII, and where one is not, code page 037 writes over the copy. Assumes nothing.
-use Prim.Native.Nat.{ℕ, zero, suc, ◌≤◌}
+use Prim.Native.Nat.{ℕ, zero, suc, ◌+◌, ◌*◌, ◌≤◌}
 use mathlib.Core.Bool.{Bool, true, false, cond}
 use mathlib.Core.List.{List, [], ◌∷◌}
-use mathlib.Core.Path.{◌≡◌, refl}
+use mathlib.Core.Path.{◌≡◌, refl, sym, ◌∙◌}
 use native.Mathlib.Omega.{arith}
 use lib.Dec.{ltb}
 use lib.ListN.{length, take, drop}
@@ -14,7 +14,10 @@ use Rattle.buffer.proofs.Writing.{Writing}
 use Rattle.codepage.proofs.Bound.{ebcdic_least}
 use Rattle.conversion.specs.declared.Conversion.TheVariants.{Plain, Ebcdic037}
 use Rattle.conversion.specs.Picked.{text_in, replaced_in, converted_in}
-use Rattle.conversion.specs.Guess.{guess, guess_text}
+use Rattle.conversion.specs.Conversion.{characters_by, graphics_by}
+use Rattle.conversion.specs.Guess.{guess, guess_text, Guessed}
+use Rattle.conversion.proofs.PlainText.{text_bound}
+use Rattle.conversion.proofs.Picks.{characters_by_lem, graphics_by_lem}
 
 -- where a part is not ASCII, the whole is not
 later : (x p q : Bool) → (p ≡ false → q ≡ false) → cond x p false ≡ false → cond x q false ≡ false
@@ -52,6 +55,10 @@ module _ (s : List ℕ) where
       go true e = rw (as_ascii e) (omega arith)
       go false e = rw (as_ebcdic e) (ebcdic_least s h)
 
+  pub guess_bound : AreBytes s → length (guess_text s) ≤ 3 * length s + 14
+  unfolding guess_text
+  guess_bound h = text_bound (guess s) s h
+
 -- nothing is replaced
 pub guess_unreplaced : (s : List ℕ) → converted_in (guess s) s ≡ unreplaced (guess_text s)
 unfolding guess_text text_in replaced_in
@@ -60,6 +67,14 @@ guess_unreplaced s = go (all_ascii s)
     go : (x : Bool) → converted_in (cond x Plain Ebcdic037) s ≡ unreplaced (text_in (cond x Plain Ebcdic037) s)
     go true = refl
     go false = refl
+
+-- the text of a guess is what the CCSID asks for
+module _ (release ccsid : ℕ) (s : List ℕ) (g : Guessed release ccsid) where
+  pub guessed_characters : unreplaced (guess_text s) ≡ characters_by release ccsid s
+  guessed_characters = sym (guess_unreplaced s) ∙ characters_by_lem release ccsid s (sym (g.characters s))
+
+  pub guessed_graphics : unreplaced (guess_text s) ≡ graphics_by release ccsid s
+  guessed_graphics = sym (guess_unreplaced s) ∙ graphics_by_lem release ccsid s (sym (g.graphics s))
 
 -- the first i bytes of s were copied
 pub copied : {s d out : List ℕ} {i : ℕ} → Writing s d (drop i s) out i → out ≡ overwritten (take i s) d

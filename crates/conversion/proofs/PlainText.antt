@@ -7,7 +7,7 @@ use lib.ListN.{length, length-append}
 use lib.Seq.{take-length, drop-length}
 use Rattle.unicode_standard.specs.Unicode.{pieces_text, replacements, read_from, utf8_pieces, utf8_text}
 use Rattle.unicode_standard.specs.Laws.{AreBytes}
-use Rattle.utf.specs.Utf8Code.{Good, Stop}
+use Rattle.utf.specs.Utf8Code.{Good}
 use Rattle.utf.proofs.Utf8Runs.{good_text, good_count, count_end}
 use Rattle.utf.proofs.Bound.{utf8_bound, utf16_bound}
 use Rattle.codepage.proofs.Bound.{latin1_bound, ebcdic_bound}
@@ -24,17 +24,17 @@ empty : utf8_text [] ≡ []
 unfolding utf8_text read_from pieces_text
 empty = refl
 
-whole : (s : List ℕ) (n bad : ℕ) → Good n s → Stop n bad s → bad ≡ 0 → utf8_text s ≡ s
-whole s n bad g t z = good_text n s g ∙ rw (t.done z, take-length s, drop-length s, empty) (append-nil s)
+whole : (s : List ℕ) (n : ℕ) → Good n s → n ≡ length s → utf8_text s ≡ s
+whole s n g t = good_text n s g ∙ rw (t, take-length s, drop-length s, empty) (append-nil s)
 
-none_replaced : (s : List ℕ) (n bad : ℕ) → Good n s → Stop n bad s → bad ≡ 0 → replacements (utf8_pieces s) ≡ 0
-none_replaced s n bad g t z = good_count n s g ∙ count_end s n (omega (arith, t.done z))
+none_replaced : (s : List ℕ) (n : ℕ) → Good n s → n ≡ length s → replacements (utf8_pieces s) ≡ 0
+none_replaced s n g t = good_count n s g ∙ count_end s n (omega (arith, t))
 
-pub utf8_plain : (s : List ℕ) (n bad : ℕ) → Good n s → Stop n bad s → bad ≡ 0 → Measures Utf8 s n Plain
+pub utf8_plain : (s : List ℕ) (n : ℕ) → Good n s → n ≡ length s → Measures Utf8 s n Plain
 unfolding text_in replaced_in
-utf8_plain s n bad g t z =
-    let e = whole s n bad g t z in
-    record { counts = t.done z ∙ ap length (sym e); alike = rw (e, none_replaced s n bad g t z) }
+utf8_plain s n g t =
+    let e = whole s n g t in
+    record { counts = t ∙ ap length (sym e); alike = rw (e, none_replaced s n g t) }
 
 pub as_it_is : (p : Conversion) (s : List ℕ) (n : ℕ) → n ≡ length (text_in p s) → Measures p s n p
 as_it_is p s n e = record { counts = e; alike = refl }

@@ -20,14 +20,11 @@ pub fn hex_write(s: &[u8], out: &mut [u8]) -> usize
     ensures bytes { out.new ≡ overwritten (hex_text s.now) out.old }
 {
     let mut o = 0;
-    let mut i = 0;
-    while i < s.len() {
-        let b = s[i];
+    for b in s {
         out[o] = hex_digit(b / 16);
         o += 1;
         out[o] = hex_digit(b % 16);
         o += 1;
-        i += 1;
     }
     o
 }

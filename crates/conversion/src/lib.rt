@@ -41,10 +41,7 @@ pub enum Conversion {
 pub fn is_release(release: u32) -> bool
     ensures { result ≡ is_release release }
 {
-    if release == 2 {
-        return true;
-    }
-    release == 3
+    release == 2 || release == 3
 }
 
 // The conversion that a CCSID asks for; for an unnamed one code page 037, before release 3 by a look at the bytes.
@@ -107,7 +104,7 @@ fn utf8_measure(s: &[u8]) -> Measured
 {
     let r = run_of(s);
     let e = r.end;
-    if r.bad == 0 {
+    if r.bad.is_none() {
         return Measured {
             len: e,
             conversion: Conversion::Plain,
@@ -201,18 +198,15 @@ fn copy_ascii_long(s: &[u8], out: &mut [u8]) -> usize
     ensures run { AsciiRun result s.now }
     ensures bytes { out.new ≡ overwritten (take result s.now) out.old }
 {
-    let mut i = 0;
-    loop {
-        if s.len() - i < 1024 {
-            return i;
+    let mut n = 0;
+    for block in s.chunks_exact(1024) {
+        if has_high(block) {
+            return n;
         }
-        let e = i + 1024;
-        if has_high(&s[i..e]) {
-            return i;
-        }
-        copy(&s[i..e], &mut out[i..]);
-        i = e;
+        copy(block, &mut out[n..]);
+        n += 1024;
     }
+    n
 }
 
 // Writes the text of s where the conversion is guessed: ASCII in one pass. A text by code page 037 is no shorter than its bytes, so that it covers what

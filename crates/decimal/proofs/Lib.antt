@@ -1,4 +1,4 @@
-pub mod Answer
+pub mod Length
 pub mod Whole
 pub mod WholeRules
 pub mod WholeText

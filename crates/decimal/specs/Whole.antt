@@ -1,9 +1,10 @@
 -- What the reading of a packed decimal as a number answers: N5b, N5c, refusals 6, 7 and 12 to 14; by z/Architecture alone (crates/zdecimal), in integers without bounds. Assumes nothing.
-use Rattle.std.specs.Prelude.{ℕ, ◌^◌, Bool, cond, ◌&&◌, List, [], ltb, eqb, ℤ, pos, neg_ℤ, length}
+use Rattle.std.specs.Prelude.{ℕ, ◌^◌, Bool, cond, ◌&&◌, List, [], ltb, eqb, ℤ, pos, neg_ℤ, length, Result, Ok, Err}
 use Rattle.std.specs.Int.Signed.{le_z, lt_z}
-use Rattle.refusal.specs.Refusal.{Told, accepted, refused, told, most_bytes}
+use Rattle.refusal.specs.declared.Refusal.{Refusal}
+use Rattle.refusal.specs.Refusal.{Told, accepted, refused, refusal_number, refusal_values, most_bytes}
 use Rattle.zdecimal.specs.ZDecimal.{z_digits, z_sign_code, are_digits, Sign, plus, minus, invalid, z_sign, base10}
-use Rattle.decimal.specs.declared.WholeAnswer.{WholeAnswer}
+use Rattle.decimal.specs.declared.WholeNumber.{WholeNumber}
 
 -- an answer by the rules' numbers: what is said of the input, the number, and its scale
 pub record WholeTold : Type 0 where
@@ -11,8 +12,9 @@ pub record WholeTold : Type 0 where
   pub number : ℤ
   pub scale : ℕ
 
-abbrev pub told_whole : WholeAnswer → WholeTold
-told_whole a = record { outcome = told a.outcome; number = a.number; scale = a.scale }
+abbrev pub told_whole : Result WholeNumber Refusal → WholeTold
+told_whole (Ok w) = record { outcome = accepted; number = w.number; scale = w.scale }
+told_whole (Err r) = record { outcome = refused (refusal_number r) (refusal_values r); number = pos 0; scale = 0 }
 
 abbrev pub refused_whole : ℕ → WholeTold
 refused_whole n = record { outcome = refused n []; number = pos 0; scale = 0 }

@@ -2,14 +2,14 @@
 // it. The two readings share the limit of refusal 7 and no other code. Reading a Decimal column of a row is not its work.
 #![tactic(auto)]
 
-ghost use Rattle.std.specs.Prelude.{◌≡◌, [], pos, neg_ℤ};
-ghost use Rattle.refusal.specs.Refusal.{refusal_number, refusal_values};
+ghost use Rattle.std.specs.Prelude.{◌≡◌, pos, neg_ℤ};
 ghost use Rattle.buffer.specs.Buffer.{told_text};
 ghost use Rattle.decimal.specs.Decimal.{decimal_answer, decimal_buffer};
-ghost use Rattle.decimal.specs.Whole.{told_whole, refused_whole, accepted_whole, ranged_answer, whole_answer};
+ghost use Rattle.decimal.specs.Length.{length_checked};
+ghost use Rattle.decimal.specs.Whole.{told_whole, ranged_answer, whole_answer};
 
-use buffer::TextAnswer;
-use refusal::{Outcome, Refusal};
+use buffer::Written;
+use refusal::Refusal;
 
 // The most bytes that a packed decimal may have.
 const MOST_BYTES: usize = 128;
@@ -17,100 +17,86 @@ const MOST_BYTES: usize = 128;
 // The largest distance of a signed 64-bit number from 0: that of the least one.
 const TWO_63: u64 = 0x8000_0000_0000_0000;
 
-// What the reading as a whole number answers: the number that the digits and the sign make, without a point, and the scale that was handed in, which says
-// how many of the digits stand behind it. After a refusal both are 0.
+// What the reading as a whole number answers, where it refuses nothing: the number that the digits and the sign make, without a point, and the scale that was
+// handed in, which says how many of the digits stand behind it.
 #[derive(Clone, Copy)]
-pub struct WholeAnswer {
-    pub outcome: Outcome,
+pub struct WholeNumber {
     pub number: i64,
     pub scale: u8,
 }
 
+// The lengths that either reading refuses.
+fn check_length(data: &[u8]) -> Result<(), Refusal>
+    ensures { result ≡ length_checked «data».now }
+{
+    if data.is_empty() {
+        return Err(Refusal::DecimalEmpty);
+    }
+    if data.len() > MOST_BYTES {
+        return Err(Refusal::DecimalTooLong);
+    }
+    Ok(())
+}
+
 // Writes the text of the packed decimal `data` to the beginning of `text`. The precision has no part in it: the Rust takes it and does not
 // use it.
-pub fn decode_packed_decimal(data: &[u8], precision: u8, scale: u8, text: &mut [u8]) -> TextAnswer
+#[tactic(auto, using(crate::proofs::Length::text_refused, crate::proofs::Length::buffer_refused, crate::proofs::Length::text_decided, crate::proofs::Length::buffer_decided, buffer::proofs::Answer::no_room_answer, buffer::proofs::Answer::no_room_buffer, buffer::proofs::Answer::room_answer, buffer::proofs::Answer::room_buffer, crate::proofs::Length::accepted_length))]
+pub fn decode_packed_decimal(
+    data: &[u8],
+    precision: u8,
+    scale: u8,
+    text: &mut [u8],
+) -> Result<Written, Refusal>
     ensures answer { told_text result ≡ decimal_answer scale «data».now text.old }
     ensures buffer { text.new ≡ decimal_buffer scale «data».now text.old }
 {
-    if data.len() == 0 {
-        return buffer::refused(Refusal::DecimalEmpty);
-    }
-    if data.len() > MOST_BYTES {
-        return buffer::refused(Refusal::DecimalTooLong);
-    }
+    check_length(data)?;
     let needed = packed::decimal_len(data, scale);
     if text.len() < needed {
-        return buffer::refused(Refusal::TextBufferTooShort { needed: needed });
+        return Err(Refusal::TextBufferTooShort { needed });
     }
-    let written = packed::decimal_write(data, scale, text);
-    TextAnswer {
-        outcome: Outcome::Accepted,
-        written: written,
-        replaced: 0,
-    }
-}
-
-fn refused(r: Refusal) -> WholeAnswer
-    requires { refusal_values r ≡ [] }
-    ensures { told_whole result ≡ refused_whole (refusal_number r) }
-{
-    WholeAnswer {
-        outcome: Outcome::Refused(r),
-        number: 0,
-        scale: 0,
-    }
-}
-
-fn accepted(number: i64, scale: u8) -> WholeAnswer
-    ensures { told_whole result ≡ accepted_whole scale number }
-{
-    WholeAnswer {
-        outcome: Outcome::Accepted,
-        number: number,
-        scale: scale,
-    }
+    let len = packed::decimal_write(data, scale, text);
+    Ok(Written { len, replaced: 0 })
 }
 
 // The number n, where the range has it.
-fn positive(n: u64, scale: u8) -> WholeAnswer
+fn positive(n: u64, scale: u8) -> Result<WholeNumber, Refusal>
     ensures { told_whole result ≡ ranged_answer scale (pos n) }
 {
     if TWO_63 <= n {
-        return refused(Refusal::DecimalOutOfRange);
+        return Err(Refusal::DecimalOutOfRange);
     }
-    accepted(n as i64, scale)
+    let number = n as i64;
+    Ok(WholeNumber { number, scale })
 }
 
 // The number -n, where the range has it.
-fn negative(n: u64, scale: u8) -> WholeAnswer
+fn negative(n: u64, scale: u8) -> Result<WholeNumber, Refusal>
     ensures { told_whole result ≡ ranged_answer scale (neg_ℤ (pos n)) }
 {
     if TWO_63 < n {
-        return refused(Refusal::DecimalOutOfRange);
+        return Err(Refusal::DecimalOutOfRange);
     }
     if n == 0 {
-        return accepted(0, scale);
+        return Ok(WholeNumber { number: 0, scale });
     }
-    accepted(-1 - ((n - 1) as i64), scale)
+    let number = -1 - ((n - 1) as i64);
+    Ok(WholeNumber { number, scale })
 }
 
 // The packed decimal `data` as a whole number, by z/Architecture: base ten, plus for the signs A, C, E and F, minus for B and D. The scale is handed back, and
 // decides nothing.
-pub fn decode_packed_whole(data: &[u8], scale: u8) -> WholeAnswer
+#[tactic(auto, using(crate::proofs::Length::whole_refused))]
+pub fn decode_packed_whole(data: &[u8], scale: u8) -> Result<WholeNumber, Refusal>
     ensures { told_whole result ≡ whole_answer scale «data».now }
 {
-    if data.len() == 0 {
-        return refused(Refusal::DecimalEmpty);
-    }
-    if MOST_BYTES < data.len() {
-        return refused(Refusal::DecimalTooLong);
-    }
+    check_length(data)?;
     if !zdecimal::digits_valid(data) {
-        return refused(Refusal::DecimalDigit);
+        return Err(Refusal::DecimalDigit);
     }
     let code = zdecimal::sign_code(data);
     if code < 0xA {
-        return refused(Refusal::DecimalSign);
+        return Err(Refusal::DecimalSign);
     }
     let n = zdecimal::magnitude(data);
     if code == 0xB {

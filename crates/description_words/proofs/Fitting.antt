@@ -1,4 +1,5 @@
 -- Every number of a description's columns has its bits. So the words of these columns say them (words' `reads_columns`). Assumes nothing.
+use Rattle.std.specs.Prelude.{Option, None, Some}
 use Prim.Native.Nat.{ℕ, ◌+◌, ◌≤◌, ◌<◌}
 use mathlib.Core.Bool.{Bool, true, false, cond}
 use mathlib.Core.List.{List, [], ◌∷◌}
@@ -16,7 +17,6 @@ use Rattle.types.specs.declared.ByteOrder.{ByteOrder}
 use Rattle.types.specs.declared.ByteOrder.TheVariants.{BigEndian, LittleEndian}
 use Rattle.types.specs.declared.Origin.{Origin}
 use Rattle.types.specs.declared.Origin.TheVariants.{Sda, UndeclaredLid, DeclaredLid}
-use Rattle.types.specs.declared.ReferenceLength.TheVariants.{Absent, Width}
 use Rattle.types.specs.declared.ColumnDescriptor.{ColumnDescriptor}
 use Rattle.column.specs.declared.Numbers.{Numbers}
 use Rattle.column.specs.declared.EnvEntry.{EnvEntry}
@@ -96,7 +96,7 @@ reference_fits : (c n : ℕ) → WidthFits (reference_length c n)
 unfolding reference_length
 reference_fits c n = go (leb 0xC8 c) (leb c 0xCF) (bit8000 n)
   where
-    go : (x y z : Bool) → WidthFits (cond x (cond y (cond z (Width (low15 n)) Absent) Absent) Absent)
+    go : (x y z : Bool) → WidthFits (cond x (cond y (cond z (Some (low15 n)) None) None) None)
     go true true true = omega arith
     go true true false = tt
     go true false z = tt
@@ -137,8 +137,9 @@ sda_fits d h =
     let hm = sda_numbers_fit d h in
     column_fits c n m (nullable_bit c) (sda_type c n m) LittleEndian Sda (h 0) (field_fits d h 1) hm (sda_type_fits c n m (field_fits d h 1) hm)
 
-abbrev EntryFits : EnvEntry → Type 0
-EntryFits e = (e.drda_type < 256) × (e.ccsid < 65536)
+abbrev EntryFits : Option EnvEntry → Type 0
+EntryFits None = Unit {0}
+EntryFits (Some e) = (e.drda_type < 256) × (e.ccsid < 65536)
 
 ccsid_fits : (b : Bool) → cond b 1208 0 < 65536
 ccsid_fits true = omega arith
@@ -161,7 +162,7 @@ undeclared_fits l a b hl ha hb = go (eqb (base_of l) 0x0E)
         (omega arith, (omega arith, ccsid_fits (named_in (type.Char 0 ∷ type.VarChar 0 ∷ type.LongVarChar ∷ type.Clob ∷ type.ClobLocator ∷ type.DbClobLocator ∷ type.LobChar 0 ∷ type.Date ∷ type.Time ∷ type.Timestamp ∷ type.Xml ∷ []) (group_type l n))))
         (group_type_fits l n wide)
 
-declared_fits : (e : EnvEntry) (a b : ℕ) → EntryFits e → a < 256 → b < 256 → Fits (declared_column e a b)
+declared_fits : (e : EnvEntry) (a b : ℕ) → EntryFits (Some e) → a < 256 → b < 256 → Fits (declared_column e a b)
 unfolding declared_column
 declared_fits e a b he ha hb =
     let c = e.drda_type in
@@ -170,13 +171,10 @@ declared_fits e a b he ha hb =
     let wide : n < 65536 = number_fits a b ha hb in
     column_fits c n (numbers_of 0 0 e.ccsid) r.nullable r.db2_type BigEndian DeclaredLid he.0 wide (omega arith, (omega arith, he.1)) (drda_fits c n 0 0 wide (omega arith) (omega arith))
 
-lid_fits : (e : EnvEntry) (l a b : ℕ) → EntryFits e → l < 256 → a < 256 → b < 256 → Fits (lid_column e l a b)
+lid_fits : (e : Option EnvEntry) (l a b : ℕ) → EntryFits e → l < 256 → a < 256 → b < 256 → Fits (lid_column e l a b)
 unfolding lid_column
-lid_fits e l a b he hl ha hb = go e.declared
-  where
-    go : (x : Bool) → Fits (cond x (declared_column e a b) (undeclared_column l a b))
-    go true = declared_fits e a b he ha hb
-    go false = undeclared_fits l a b hl ha hb
+lid_fits None l a b he hl ha hb = undeclared_fits l a b hl ha hb
+lid_fits (Some e) l a b he hl ha hb = declared_fits e a b he ha hb
 
 -- ---- the columns of a description, numbered
 
@@ -192,7 +190,7 @@ unfolding no_entry entry_of
 fitting =
     record {
       of_zero = omega arith;
-      of_no_entry = (omega arith, omega arith);
+      of_no_entry = tt;
       of_entry = λ mdd d h k. (h, field_fits d k 4);
       of_sda = sda_fits;
       of_lid = lid_fits;

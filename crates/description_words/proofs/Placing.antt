@@ -1,4 +1,5 @@
 -- What holds while the words of a description's columns are written: the words of the columns to come are still to be written. Assumes nothing.
+use Rattle.std.specs.Prelude.{None}
 use mathlib.Core.Path.{◌≡◌, refl, ap, ◌∙◌}
 use mathlib.Core.List.{List, [], ◌∷◌}
 use Prim.Native.Nat.{ℕ, suc, ◌+◌, ◌*◌, ◌≤◌, ◌<◌}
@@ -8,12 +9,10 @@ use Rattle.buffer.specs.Buffer.{overwritten}
 use Rattle.buffer.proofs.Writing.{Writing, start, stored, fits, end}
 use Rattle.types.specs.declared.ColumnDescriptor.{ColumnDescriptor}
 use Rattle.types.specs.Places.{max_columns}
-use Rattle.column.specs.declared.EnvEntry.{EnvEntry}
-use Rattle.triplets.specs.declared.Pending.TheVariants as pending
 use Rattle.triplets.specs.declared.Cursor.{Cursor}
 use Rattle.triplets.specs.declared.Cursor.TheVariants as cursor
-use Rattle.triplets.specs.Descriptors.{no_entries, columns_of}
-use Rattle.triplets.specs.Steps.{to_come, CursorWithin, Goes}
+use Rattle.triplets.specs.Descriptors.{Environment, no_entries, columns_of}
+use Rattle.triplets.specs.Steps.{to_come, CursorWithin, Comes}
 use Rattle.qrydsc.specs.Qrydsc.{with_index, numbered}
 use Rattle.qrydsc.proofs.Progress.{all_to_come}
 use Rattle.words.specs.Words.{first_word, second_word, pack_columns}
@@ -28,12 +27,12 @@ length_words k [] = refl
 length_words k (c ∷ cs) = ap (λ (n : ℕ). suc (suc n)) (length_words (k + 1) cs) ∙ omega arith
 
 -- k columns are written into the words d, which are now `out`, with an environment, at a cursor
-pub record Placing (s d out : List ℕ) (k : ℕ) (env : List EnvEntry) (c : Cursor) : Type 0 where
+pub record Placing (s d out : List ℕ) (k : ℕ) (env : Environment) (c : Cursor) : Type 0 where
   pub within : CursorWithin s c
   pub total : k + length (to_come s env c) ≤ max_columns
   pub writing : Writing (words_from 0 (columns_of s)) d (words_from k (to_come s env c)) out (2 * k)
 
-pub placing_start : (s d : List ℕ) → length (columns_of s) ≤ max_columns → 2 * length (columns_of s) ≤ length d → Placing s d d 0 no_entries (cursor.Outer pending.Nothing 0)
+pub placing_start : (s d : List ℕ) → length (columns_of s) ≤ max_columns → 2 * length (columns_of s) ≤ length d → Placing s d d 0 no_entries (cursor.Outer None 0)
 placing_start s d few room =
     record {
       within = omega arith;
@@ -41,37 +40,32 @@ placing_start s d few room =
       writing = rw (all_to_come s) (start (words_from 0 (columns_of s)) d (omega (arith, length_words 0 (columns_of s))));
     }
 
-module _ {s d out : List ℕ} {k : ℕ} {env : List EnvEntry} {c : Cursor} (i : Placing s d out k env c) where
-  pub placing_end : ((e : List EnvEntry) → to_come s e c ≡ []) → out ≡ overwritten (words_from 0 (columns_of s)) d
+module _ {s d out : List ℕ} {k : ℕ} {env : Environment} {c : Cursor} (i : Placing s d out k env c) where
+  pub placing_end : to_come s env c ≡ [] → out ≡ overwritten (words_from 0 (columns_of s)) d
   unfolding pack_columns numbered
-  placing_end none = end i.writing (rw (none env))
-
-  -- no column, and another environment
-  pub placing_on : {n : Cursor} (after : List EnvEntry → List EnvEntry) → Goes s c n (λ e. to_come s (after e) n) → Placing s d out k (after env) n
-  placing_on after g =
-      record { within = g.within; total = (rw (g.same env) at i.total); writing = (rw (g.same env) at i.writing) }
+  placing_end none = end i.writing (rw none)
 
   -- a column more
-  module _ {n : Cursor} (x : List EnvEntry → ColumnDescriptor) (g : Goes s c n (λ e. x e ∷ to_come s e n)) where
+  module _ {n : Cursor} {after : Environment} {x : ColumnDescriptor} (g : Comes s c env n after x) where
     first : ℕ
-    first = first_word (with_index k (x env))
+    first = first_word (with_index k x)
 
     second : ℕ
-    second = second_word (with_index k (x env))
+    second = second_word (with_index k x)
 
-    split : words_from k (to_come s env c) ≡ first ∷ second ∷ words_from (k + 1) (to_come s env n)
+    split : words_from k (to_come s env c) ≡ first ∷ second ∷ words_from (k + 1) (to_come s after n)
     unfolding pack_columns numbered first second
-    split = rw (g.same env)
+    split = rw g.same
 
     pub placing_room : (k < max_columns) × (2 * k + 1 < length out)
-    placing_room = (omega (arith, i.total, ap length (g.same env)), omega (arith, fits i.writing, ap length split))
+    placing_room = (omega (arith, i.total, ap length g.same), omega (arith, fits i.writing, ap length split))
 
-    pub placing_column : Placing s d (set (set out (2 * k) (first_word (with_index k (x env)))) (2 * k + 1) (second_word (with_index k (x env)))) (k + 1) env n
+    pub placing_column : Placing s d (set (set out (2 * k) (first_word (with_index k x))) (2 * k + 1) (second_word (with_index k x))) (k + 1) after n
     unfolding first second
     placing_column =
-        let w = stored (stored i.writing first (second ∷ words_from (k + 1) (to_come s env n)) split) second (words_from (k + 1) (to_come s env n)) refl in
+        let w = stored (stored i.writing first (second ∷ words_from (k + 1) (to_come s after n)) split) second (words_from (k + 1) (to_come s after n)) refl in
         let e : 2 * k + 1 + 1 ≡ 2 * (k + 1) = omega arith in
-        record { within = g.within; total = omega (arith, i.total, ap length (g.same env)); writing = (rw e at w) }
+        record { within = g.within; total = omega (arith, i.total, ap length g.same); writing = (rw e at w) }
 
 -- no columns have no words
 pub none_written : (s d : List ℕ) → length (columns_of s) ≡ 0 → d ≡ overwritten (words_from 0 (columns_of s)) d

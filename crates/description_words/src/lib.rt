@@ -2,93 +2,78 @@
 // grows with the description and with the columns in it, and not with the places of a column list. It tests no limit of the description's length.
 #![tactic(auto)]
 
-ghost use Rattle.std.specs.Prelude.{◌≡◌, ◌+◌, ◌-◌, ◌*◌, ◌≤◌, ◌<◌, length, set};
+ghost use Rattle.std.specs.Prelude.{◌≡◌, ◌+◌, ◌*◌, ◌≤◌, ◌<◌, ◌==◌, [], cond, length, set};
 ghost use Rattle.buffer.specs.Buffer.{overwritten};
 ghost use Rattle.types.specs.Places.{max_columns};
-ghost use Rattle.std.proofs.Math.Seq.{slice};
 ghost use Rattle.triplets.specs.Triplets.{triplet, reading};
-ghost use Rattle.triplets.specs.Descriptors.{pending_after, inner_columns, group_columns, triplet_columns, columns_of};
+ghost use Rattle.triplets.specs.Descriptors.{pending_after, sda_columns, inner_columns, group_columns, triplet_columns, columns_of};
 ghost use Rattle.qrydsc.specs.Qrydsc.{with_index, numbered};
 ghost use Rattle.words.specs.Words.{first_word, second_word, pack_columns};
-ghost use Rattle.description_words.specs.Counted.{sda_count, Counts, Counted};
+ghost use Rattle.description_words.specs.Counted.{Counts, Counted};
 
 use column::{EnvEntry, LID_COUNT};
-use triplets::{Cursor, Next, Pending, Step};
+use triplets::{Cursor, Reached, TRIPLET_TYPE_GDA, TRIPLET_TYPE_MDD, TRIPLET_TYPE_SDA, Triplet};
 use types::{ColumnDescriptor, MAX_COLUMNS};
 
-const TRIPLET_TYPE_SDA: u8 = 0x70;
-
-const TRIPLET_TYPE_GDA: u8 = 0x76;
-
-const TRIPLET_TYPE_MDD: u8 = 0x78;
-
 // An SDA with data is a column.
-fn count_sda(kind: u8, start: usize, end: usize) -> usize
-    requires { start ≤ end }
-    ensures { (result ≡ sda_count kind start end) × (result ≤ end - start) }
+fn count_sda(kind: u8, body: &[u8]) -> usize
+    ensures { Counts (length body.now) (λ env. cond (kind == 0x70) (sda_columns body.now) []) result }
 {
-    if kind == TRIPLET_TYPE_SDA {
-        if start < end {
-            return 1;
-        }
+    match kind {
+        TRIPLET_TYPE_SDA if !body.is_empty() => 1,
+        _ => 0,
     }
-    0
 }
 
 // How many columns the inner triplets of a group describe.
-fn count_inner(data: &[u8], start: usize, end: usize) -> usize
-    requires { (start ≤ end) × (end ≤ length «data».now) }
-    ensures { (result ≡ length (inner_columns (reading 3 (slice start end «data».now)).triplets)) × (result ≤ end - start) }
+fn count_inner(body: &[u8]) -> usize
+    ensures { Counts (length body.now) (λ env. inner_columns (reading 3 body.now).triplets) result }
 {
     let mut count: usize = 0;
-    let mut at = start;
-    loop {
-        let Next::Triplet { kind, end: after } = triplets::next_triplet(data, at, end, 3) else {
-            return count;
-        };
-        let columns = count_sda(kind, at + 2, after);
-        count += columns;
-        at = after;
+    let mut at: usize = 0;
+    while let Some(Triplet { kind, end }) = triplets::next_triplet(body, at, body.len(), 3) {
+        count += count_sda(kind, &body[at + 2..end]);
+        at = end;
     }
+    count
 }
 
 // How many columns a group describes: in a D0 group each three bytes do.
-fn count_group(data: &[u8], start: usize, end: usize) -> usize
-    requires { (start ≤ end) × (end ≤ length «data».now) }
-    ensures { Counts (end - start) (λ env. group_columns env (slice start end «data».now)) result }
+fn count_group(body: &[u8]) -> usize
+    ensures { Counts (length body.now) (λ env. group_columns env body.now) result }
 {
-    if start == end {
+    if body.is_empty() {
         return 0;
     }
-    if data[start] == 0xD0 {
-        return (end - start - 1) / 3;
+    if body[0] == 0xD0 {
+        return (body.len() - 1) / 3;
     }
-    count_inner(data, start, end)
+    count_inner(body)
 }
 
 // How many columns an outer triplet describes. It needs no environment: a LID is a column, declared or not.
-fn count_triplet(data: &[u8], kind: u8, start: usize, end: usize, pending: Pending) -> usize
-    requires { (start ≤ end) × (end ≤ length «data».now) }
-    ensures { Counts (end - start) (λ env. triplet_columns pending env (triplet kind (slice start end «data».now))) result }
+fn count_triplet(kind: u8, body: &[u8], pending: Option<u8>) -> usize
+    ensures { Counts (length body.now) (λ env. triplet_columns pending env (triplet kind body.now)) result }
 {
     if kind == TRIPLET_TYPE_GDA {
-        return count_group(data, start, end);
+        return count_group(body);
     }
     match pending {
-        Pending::Nothing => count_sda(kind, start, end),
-        Pending::Type(_) => 0,
+        None => count_sda(kind, body),
+        Some(_) => 0,
     }
 }
 
 // What a triplet leaves for the next one.
-fn pending_after(data: &[u8], kind: u8, start: usize, end: usize) -> Pending
-    requires { (start ≤ end) × (end ≤ length «data».now) }
-    ensures { result ≡ pending_after (triplet kind (slice start end «data».now)) }
+#[tactic(auto, unfolding(triplets::specs::Descriptors::pending_after))]
+fn pending_after(kind: u8, body: &[u8]) -> Option<u8>
+    ensures { result ≡ pending_after (triplet kind body.now) }
 {
     if kind == TRIPLET_TYPE_MDD {
-        return triplets::pending_of(data, start, end);
+        triplets::pending_of(body)
+    } else {
+        None
     }
-    Pending::Nothing
 }
 
 // How many columns were counted, and the place behind the triplets that were read for it.
@@ -104,26 +89,25 @@ pub fn count_columns(data: &[u8]) -> ColumnCount
 {
     let mut count: usize = 0;
     let mut at: usize = 0;
-    let mut pending = Pending::Nothing;
+    let mut pending: Option<u8> = None;
+    // The step is the length of the triplet that is read, and the end is a count.
     while count <= MAX_COLUMNS {
-        let Next::Triplet { kind, end } = triplets::next_triplet(data, at, data.len(), 2) else {
+        let Some(Triplet { kind, end }) = triplets::next_triplet(data, at, data.len(), 2) else {
             return ColumnCount {
                 columns: count,
                 end: at,
             };
         };
         match kind {
-            // SDAs, GDAs and MDDs.
-            0x70 | 0x76 | 0x78 => {
-                let start = at + 2;
-                let columns = count_triplet(data, kind, start, end, pending);
-                count += columns;
-                pending = pending_after(data, kind, start, end);
+            TRIPLET_TYPE_SDA | TRIPLET_TYPE_GDA | TRIPLET_TYPE_MDD => {
+                let body = &data[at + 2..end];
+                count += count_triplet(kind, body, pending);
+                pending = pending_after(kind, body);
                 at = end;
             }
             // Triplets that describe nothing: a description mostly has many or none, so the processor predicts this branch well.
             _ => {
-                pending = Pending::Nothing;
+                pending = None;
                 at = end;
             }
         }
@@ -139,9 +123,10 @@ fn put_column(words: &mut [u64], count: usize, column: ColumnDescriptor)
     requires { (count < max_columns) × (2 * count + 1 < length words.old) }
     ensures { words.new ≡ set (set words.old (2 * count) (first_word (with_index count column))) (2 * count + 1) (second_word (with_index count column)) }
 {
-    let mut numbered = column;
-    numbered.column_index = count as u8;
-    let w = words::column_words(numbered);
+    let w = words::column_words(ColumnDescriptor {
+        column_index: count as u8,
+        ..column
+    });
     let at = 2 * count;
     words[at] = w.first;
     words[at + 1] = w.second;
@@ -153,39 +138,20 @@ fn write_all(data: &[u8], words: &mut [u64])
     ensures { words.new ≡ overwritten (pack_columns (numbered 0 (columns_of «data».now))) words.old }
 {
     let mut count: usize = 0;
-    let mut environment = [EnvEntry {
-        declared: false,
-        drda_type: 0,
-        ccsid: 0,
-    }; LID_COUNT];
+    let mut environment: [Option<EnvEntry>; LID_COUNT] = [None; LID_COUNT];
     let mut cursor = Cursor::Outer {
+        pending: None,
         at: 0,
-        pending: Pending::Nothing,
     };
-    loop {
-        match triplets::next_step(data, cursor) {
-            Step::End(_) => {
-                return;
-            }
-            Step::Skip(next) => {
-                cursor = next;
-            }
-            Step::Declare { next, entry, lid } => {
-                let place = lid as usize;
-                let known = environment[place];
-                environment[place] = known.first(entry);
-                cursor = next;
-            }
-            Step::Column { next, source } => {
-                let lid = triplets::lid_at(data, source);
-                let place = lid as usize;
-                let entry = environment[place];
-                let column = triplets::column_at(data, source, entry);
-                put_column(words, count, column);
-                count += 1;
-                cursor = next;
-            }
-        }
+    while let Reached::Column {
+        next,
+        source,
+        entry,
+    } = triplets::next_column(data, cursor, &mut environment)
+    {
+        put_column(words, count, triplets::column_at(data, source, entry));
+        count += 1;
+        cursor = next;
     }
 }
 

@@ -1,3 +1,4 @@
 pub mod Nibbles
+pub mod Parts
 pub mod Number
 pub mod Examples

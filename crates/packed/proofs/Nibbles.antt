@@ -8,7 +8,8 @@ use native.Mathlib.Numerals.{add-one}
 use borrow.Author.Tests.{eq-eqb, ne_eqb, eqb-true}
 use lib.Dec.{eqb}
 use lib.ListN.{length, take, drop, get_or, length-append, length-drop, length-map, length-replicate, take-append-drop, get_or-map}
-use lib.Seq.{slice, slice-cons, slice_empty, drop-append-le, get_or-take, take_all, take-take, length-take-le}
+use lib.Seq.{slice, length-slice, slice-cons, slice_empty, drop-append-le, get_or-take, take_all, take-take, length-take-le}
+use mir.Val.{bool_byte}
 use Rattle.zdecimal.specs.ZDecimal.{z_digits}
 use Rattle.packed.specs.Packed.{nibbles, sign_nibble, sign_text, digit_nibbles, character, digit_text, trimmed, zeros, fraction, decimal_text}
 use Rattle.packed.specs.Inner.{Trimmed}
@@ -63,6 +64,11 @@ module _ (s : List ℕ) {t : Bool} (e : t ≡ eqb (sign_nibble s) 0xD) where
   unfolding sign_text
   plus q = rw (sym e ∙ q)
 
+pub sign_length : (s : List ℕ) (t : Bool) → t ≡ eqb (sign_nibble s) 0xD → (bool_byte t ≡ length (sign_text s)) × (bool_byte t ≤ 1)
+unfolding sign_text
+sign_length s true e = rw (sym e) (refl, omega arith)
+sign_length s false e = rw (sym e) (refl, omega arith)
+
 -- ---- z/Architecture's digits, which are split otherwise, are these
 
 pub digits_agree : (s : List ℕ) → z_digits s ≡ digit_nibbles s
@@ -86,6 +92,10 @@ unfolding digit_text
 digit s k h =
     get_or-map character (digit_nibbles s) k 0
     ∙ ap character (get_or-take (length (nibbles s) - 1) (nibbles s) k 0 (omega (arith, nibbles_length s)))
+
+-- how many digits a run of them has
+pub run_length : (s : List ℕ) (a e : ℕ) → e < 2 * length s → length (slice a e (digit_text s)) ≡ e - a
+run_length s a e h = length-slice a e (digit_text s) (omega (arith, digits_length s))
 
 -- the digits from k up to e: the digit k is the next
 pub slice_next : (s : List ℕ) (k e b : ℕ) → k < e → e < 2 * length s → b ≡ character (get_or (nibbles s) k 0) → slice k e (digit_text s) ≡ b ∷ slice (k + 1) e (digit_text s)
@@ -152,16 +162,6 @@ last_stays s w z h k e q = record { below = k; left = e ∙ rw one (go (eqb b 0x
     go false p = rw p
 
 -- ---- the fraction
-
-pub zeros_next : (n o : ℕ) → o < n → zeros (n - o) ≡ 0x30 ∷ zeros (n - (o + 1))
-zeros_next n o h =
-    let q : n - o ≡ suc (n - (o + 1)) = omega arith in
-    rw q
-
-pub zeros_done : (n o : ℕ) → n ≤ o → zeros (n - o) ≡ []
-zeros_done n o h =
-    let q : n - o ≡ 0 = omega arith in
-    rw q
 
 pub no_fraction : (scale : ℕ) (ds : List ℕ) → scale ≡ 0 → fraction scale ds ≡ []
 unfolding fraction

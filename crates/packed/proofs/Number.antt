@@ -12,6 +12,7 @@ use borrow.Author.Tests.{lt-ltb, le-ltb, ne_eqb, eqb-true, ltb-true, ltb-false}
 use lib.Dec.{ltb, eqb}
 use lib.ListN.{length, take, drop, replicate, length-append, length-take, length-drop, length-map, length-replicate, take-append-drop}
 use lib.Seq.{get_or-take, get_or-drop, take_all}
+use Rattle.std.proofs.lemmas.List.{take-map, drop-map}
 use Rattle.zdecimal.specs.ZDecimal.{base10, Sign, plus, minus, invalid, z_sign}
 use Rattle.zdecimal.proofs.Base10.{from, from_append, from_zeros, from_base10}
 use Rattle.packed.specs.Packed.{sign_nibble, sign_text, digit_nibbles, character, digit_text, trimmed, whole_part, zeros, fraction, decimal_text}
@@ -45,15 +46,8 @@ valid_zeros_drop (suc z) n vs h (suc k) q = valid_zeros_drop z n vs h k (omega a
 tail : (d : ℕ) (ds : List ℕ) → ValidDigits (d ∷ ds) → ValidDigits ds
 tail d ds h k q = h (suc k) (omega arith)
 
-take_map : (n : ℕ) (vs : List ℕ) → take n (map character vs) ≡ map character (take n vs)
-take_map zero vs = refl
-take_map (suc n) [] = refl
-take_map (suc n) (d ∷ ds) = ap (λ (l : List ℕ). character d ∷ l) (take_map n ds)
-
 zeros_drop_map : (z n : ℕ) (vs : List ℕ) → zeros z ++ drop n (map character vs) ≡ map character (replicate z 0 ++ drop n vs)
-zeros_drop_map zero zero vs = refl
-zeros_drop_map zero (suc n) [] = refl
-zeros_drop_map zero (suc n) (d ∷ ds) = zeros_drop_map zero n ds
+zeros_drop_map zero n vs = drop-map character n vs
 zeros_drop_map (suc z) n vs = ap (λ (l : List ℕ). 0x30 ∷ l) (zeros_drop_map z n vs)
 
 -- ---- what the reader makes of digits
@@ -176,13 +170,13 @@ module _ (scale : ℕ) (vs : List ℕ) (h : ValidDigits vs) where
   read_magnitude g =
       let w : ℕ = length vs - scale in
       let e : from 0 vs ≡ base10 vs = omega (arith, from_base10 0 vs) in
-      rw (length-map vs character, take_map w vs, ← e)
+      rw (length-map vs character, take-map character w vs, ← e)
       (read_whole_lem (take w vs) (fraction scale ds) (valid_take w vs h) fraction_stops g ∙ read_point_lem g)
 
   denotes_magnitude : denotes unsigned_text ≡ read_whole plus (read_digits 0 0 unsigned_text)
   denotes_magnitude =
       let w : ℕ = length vs - scale in
-      rw (length-map vs character, take_map w vs) (unsigned (take w vs) (fraction scale ds) (valid_take w vs h) fraction_stops)
+      rw (length-map vs character, take-map character w vs) (unsigned (take w vs) (fraction scale ds) (valid_take w vs h) fraction_stops)
 
 -- ---- the law
 

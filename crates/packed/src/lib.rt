@@ -9,30 +9,17 @@ ghost use Rattle.buffer.specs.Buffer.{overwritten};
 ghost use Rattle.packed.specs.Packed.{nibbles, sign_nibble, sign_text, character, digit_text, trimmed, zeros, fraction, decimal_text};
 ghost use Rattle.packed.specs.Inner.{Trimmed};
 
-fn wide(x: u8) -> usize
-    ensures { (result ≡ x) × (result < 256) }
-{
-    x as usize
-}
-
-// By how much a is above b.
-fn above(a: usize, b: usize) -> usize
-    ensures { result ≡ a - b }
-{
-    if b < a { a - b } else { 0 }
-}
-
 // The character of the nibble k.
 fn digit_at(data: &[u8], k: usize) -> u8
     requires { k < 2 * length «data».now }
     ensures { result ≡ character (get_or (nibbles «data».now) k 0) }
 {
-    let i = k / 2;
-    let b = data[i];
+    let b = data[k / 2];
     if k % 2 == 0 {
-        return 0x30 + b / 16;
+        0x30 + b / 16
+    } else {
+        0x30 + b % 16
     }
-    0x30 + b % 16
 }
 
 // Where the first w digits begin without their leading zeros.
@@ -40,14 +27,13 @@ fn whole_start(data: &[u8], w: usize) -> usize
     requires { (0 < w) × (w < 2 * length «data».now) }
     ensures { Trimmed (digit_text «data».now) w result }
 {
-    let mut z = 0;
-    while z + 1 < w {
+    let last = w - 1;
+    for z in 0..last {
         if digit_at(data, z) != 0x30 {
             return z;
         }
-        z += 1;
     }
-    z
+    last
 }
 
 // Writes the digits from a up to e, one by one.
@@ -56,14 +42,10 @@ fn by_digit_write(data: &[u8], a: usize, e: usize, out: &mut [u8]) -> usize
     ensures count { result ≡ length (slice a e (digit_text «data».now)) }
     ensures bytes { out.new ≡ overwritten (slice a e (digit_text «data».now)) out.old }
 {
-    let mut o = 0;
-    let mut k = a;
-    while k < e {
-        out[o] = digit_at(data, k);
-        o += 1;
-        k += 1;
+    for k in a..e {
+        out[k - a] = digit_at(data, k);
     }
-    o
+    e - a
 }
 
 // Writes the digits of the bytes from i up to j, two at a time.
@@ -72,17 +54,11 @@ fn by_byte_write(data: &[u8], i: usize, j: usize, out: &mut [u8]) -> usize
     ensures count { result ≡ length (slice (2 * i) (2 * j) (digit_text «data».now)) }
     ensures bytes { out.new ≡ overwritten (slice (2 * i) (2 * j) (digit_text «data».now)) out.old }
 {
-    let mut o = 0;
-    let mut k = i;
-    while k < j {
-        let b = data[k];
-        out[o] = 0x30 + b / 16;
-        let p = o + 1;
-        out[p] = 0x30 + b % 16;
-        o = p + 1;
-        k += 1;
+    for (n, b) in data[i..j].iter().enumerate() {
+        out[2 * n] = 0x30 + *b / 16;
+        out[2 * n + 1] = 0x30 + *b % 16;
     }
-    o
+    2 * (j - i)
 }
 
 // Writes the digits from a up to e; many of them by bytes, with those of a byte that is not whole one by one.
@@ -107,12 +83,8 @@ fn zeros_write(n: usize, out: &mut [u8]) -> usize
     ensures count { result ≡ length (zeros n) }
     ensures bytes { out.new ≡ overwritten (zeros n) out.old }
 {
-    let mut o = 0;
-    while o < n {
-        out[o] = 0x30;
-        o += 1;
-    }
-    o
+    out[..n].fill(0x30);
+    n
 }
 
 fn is_minus(data: &[u8]) -> bool
@@ -127,10 +99,7 @@ fn sign_len(data: &[u8]) -> usize
     requires { 0 < length «data».now }
     ensures { (result ≡ length (sign_text «data».now)) × (result ≤ 1) }
 {
-    if is_minus(data) {
-        return 1;
-    }
-    0
+    usize::from(is_minus(data))
 }
 
 fn sign_write(data: &[u8], out: &mut [u8]) -> usize
@@ -191,8 +160,8 @@ fn fraction_write(data: &[u8], scale: usize, out: &mut [u8]) -> usize
     let t = 2 * data.len() - 1;
     out[0] = 0x2E;
     let mut o = 1;
-    o += zeros_write(above(scale, t), &mut out[o..]);
-    o += digits_write(data, above(t, scale), t, &mut out[o..]);
+    o += zeros_write(scale.saturating_sub(t), &mut out[o..]);
+    o += digits_write(data, t.saturating_sub(scale), t, &mut out[o..]);
     o
 }
 
@@ -201,8 +170,8 @@ pub fn decimal_len(data: &[u8], scale: u8) -> usize
     requires { (0 < length «data».now) × (length «data».now ≤ most_bytes) }
     ensures { result ≡ length (decimal_text scale «data».now) }
 {
-    let f = wide(scale);
-    let w = above(2 * data.len() - 1, f);
+    let f = usize::from(scale);
+    let w = (2 * data.len() - 1).saturating_sub(f);
     sign_len(data) + whole_len(data, w) + fraction_len(f)
 }
 
@@ -212,8 +181,8 @@ pub fn decimal_write(data: &[u8], scale: u8, out: &mut [u8]) -> usize
     ensures count { result ≡ length (decimal_text scale «data».now) }
     ensures bytes { out.new ≡ overwritten (decimal_text scale «data».now) out.old }
 {
-    let f = wide(scale);
-    let w = above(2 * data.len() - 1, f);
+    let f = usize::from(scale);
+    let w = (2 * data.len() - 1).saturating_sub(f);
     let mut o = sign_write(data, out);
     o += whole_write(data, w, &mut out[o..]);
     o += fraction_write(data, f, &mut out[o..]);

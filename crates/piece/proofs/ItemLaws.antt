@@ -1,4 +1,5 @@
 -- Laws of items that the code rests on: an item as the code holds it has the text and the value of the rules' item. Assumes nothing.
+use Rattle.std.specs.Prelude.{Some}
 use Prim.Native.Nat.{ℕ, ◌+◌, ◌-◌, ◌≤◌}
 use mathlib.Core.Path.{◌≡◌, sym, ap, ◌∙◌, subst}
 use mathlib.Core.Bool.{Bool}
@@ -18,7 +19,6 @@ use Rattle.cell.specs.declared.CellItem.TheVariants.{Nothing, Boolean, Part, Tex
 use Rattle.cell.specs.declared.TextSort.{TextSort}
 use Rattle.cell.specs.declared.Reading.{Reading}
 use Rattle.cell.specs.declared.OtherValue.{OtherValue}
-use Rattle.cell.specs.declared.NumberWidth.TheVariants as width
 use Rattle.cell.specs.Cell.{text_sort, read_by, Readable, Holds, taken, NumberIs, OtherIs}
 use Rattle.cell.specs.Inner.{WidthOf}
 use Rattle.piece.specs.Piece.{LiesWithin, made_of, text_held, replaced_held, item_value, number_place, place_of, value_in, value_text, value_replaced, text_start, PlainCell}
@@ -155,6 +155,6 @@ module _ (release : ℕ) (v : Db2Value) (c : ColumnDescriptor) (s : List ℕ) (h
       ∙ sym (ap (λ (z : Bool). value_place (value_of (item_in (conversions_of release) c (taken c s)) at next) z) h.1)
 
 -- a type of numbers has no text
-pub width_text : (release : ℕ) (c : ColumnDescriptor) (n : ℕ) (s : List ℕ) → WidthOf (width.Bytes n) c.db2_type → 0 ≡ length (value_text release c s)
+pub width_text : (release : ℕ) (c : ColumnDescriptor) (n : ℕ) (s : List ℕ) → WidthOf (Some n) c.db2_type → 0 ≡ length (value_text release c s)
 unfolding cell_item item_in
 width_text release c n s w = sym (ap length (w.1.0 release c (taken c s)))

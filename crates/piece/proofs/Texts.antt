@@ -1,9 +1,9 @@
 -- The texts of a walk, and the buffer that they need. Assumes nothing.
+use Rattle.std.specs.Prelude.{Some, None}
 use Prim.Native.Nat.{ℕ, ◌≤◌, ◌<◌}
 use mathlib.Core.Path.{◌≡◌, refl}
 use mathlib.Core.Bool.{Bool, true, false, cond}
 use mathlib.Core.List.{List}
-use native.Mathlib.Omega.{arith}
 use lib.ListN.{length}
 use lib.Dec.{ltb}
 use borrow.Author.Tests.{lt-ltb, le-ltb, ltb-true, ltb-false}
@@ -24,22 +24,22 @@ replaced_are release (done ps n) = refl
 replaced_are release (short e a) = refl
 
 -- the texts t and a buffer of n bytes
-pub needed_none : (n k : ℕ) (t : List ℕ) → k ≡ length t → k ≤ n → 0 ≡ needed_beyond n t
+pub needed_none : (n k : ℕ) (t : List ℕ) → k ≡ length t → k ≤ n → None ≡ needed_beyond n t
 needed_none n k t e h = rw (← e, le-ltb n k h)
 
-pub needed_some : (n k : ℕ) (t : List ℕ) → k ≡ length t → n < k → k ≡ needed_beyond n t
+pub needed_some : (n k : ℕ) (t : List ℕ) → k ≡ length t → n < k → Some k ≡ needed_beyond n t
 needed_some n k t e h = rw (← e, lt-ltb n k h)
 
-pub needed_more : (n k : ℕ) (t : List ℕ) → k ≡ needed_beyond n t → 0 < k → (n < length t) × (k ≡ length t)
-needed_more n k t e h = go (ltb n (length t)) refl e
+pub needed_more : (n k : ℕ) (t : List ℕ) → Some k ≡ needed_beyond n t → (n < length t) × (k ≡ length t)
+needed_more n k t e = go (ltb n (length t)) refl e
   where
-    go : (b : Bool) → ltb n (length t) ≡ b → k ≡ cond b (length t) 0 → (n < length t) × (k ≡ length t)
-    go true q z = (ltb-true n (length t) q, z)
-    go false q z = absurd (omega arith)
+    go : (b : Bool) → ltb n (length t) ≡ b → Some k ≡ cond b (Some (length t)) None → (n < length t) × (k ≡ length t)
+    go true q z = (ltb-true n (length t) q, cc)
+    go false q z = absurd (cc)
 
-pub needed_fits : (n k : ℕ) (t : List ℕ) → k ≡ needed_beyond n t → k ≤ 0 → length t ≤ n
-needed_fits n k t e h = go (ltb n (length t)) refl e
+pub needed_fits : (n : ℕ) (t : List ℕ) → None ≡ needed_beyond n t → length t ≤ n
+needed_fits n t e = go (ltb n (length t)) refl e
   where
-    go : (b : Bool) → ltb n (length t) ≡ b → k ≡ cond b (length t) 0 → length t ≤ n
-    go true q z = omega arith
+    go : (b : Bool) → ltb n (length t) ≡ b → None ≡ cond b (Some (length t)) None → length t ≤ n
+    go true q z = absurd (cc)
     go false q z = ltb-false n (length t) q

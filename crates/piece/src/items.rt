@@ -34,10 +34,7 @@ pub struct TextLength {
 fn is_plain(conversion: Conversion) -> bool
     ensures { result ≡ true → conversion ≡ Conversion.Plain }
 {
-    match conversion {
-        Conversion::Plain => true,
-        _ => false,
-    }
+    matches!(conversion, Conversion::Plain)
 }
 
 // The conversion that an encoding asks for at a host release. `plain` says that the text is the bytes themselves: then nothing is asked of them.
@@ -67,13 +64,16 @@ fn reading_len(reading: Reading, release: u32, s: &[u8]) -> TextLength
         Reading::By(encoding) => {
             let conversion = conversion_of(encoding, release, false, s);
             let m = text_measure(conversion, s);
-            let same = m.conversion;
-            let plain = is_plain(same);
-            TextLength { len: m.len, plain }
+            TextLength {
+                len: m.len,
+                plain: is_plain(m.conversion),
+            }
         }
         Reading::Packed(scale) => {
-            let len = decimal_len(s, scale);
-            TextLength { len, plain: false }
+            TextLength {
+                len: decimal_len(s, scale),
+                plain: false,
+            }
         }
     }
 }
@@ -100,13 +100,7 @@ fn reading_write(reading: Reading, release: u32, plain: bool, s: &[u8], out: &mu
 fn is_all_from(start: usize, len: usize, from: usize, count: usize) -> bool
     ensures { result ≡ true → (start ≡ from) × (start + len ≡ count) }
 {
-    if start != from {
-        return false;
-    }
-    if count < start {
-        return false;
-    }
-    count - start == len
+    start == from && start <= count && count - start == len
 }
 
 // Where the text of a value of type t within the row begins among the value's bytes.
@@ -134,12 +128,9 @@ pub fn item_len(item: CellItem, release: u32, bytes: &[u8], from: usize) -> Text
             len,
         } => {
             let l = reading_len(reading, release, &bytes[start..start + len]);
-            if is_all_from(start, len, from, bytes.len()) {
-                return l;
-            }
             TextLength {
-                len: l.len,
-                plain: false,
+                plain: l.plain && is_all_from(start, len, from, bytes.len()),
+                ..l
             }
         }
         _ => TextLength {
@@ -161,10 +152,7 @@ fn is_copied(
     requires { k < 768 }
     ensures { result ≡ true → (mark_at marks.now k ≡ true) × ((start ≡ from) × (start + len ≡ count)) }
 {
-    if !is_marked(marks, k) {
-        return false;
-    }
-    is_all_from(start, len, from, count)
+    is_marked(marks, k) && is_all_from(start, len, from, count)
 }
 
 fn text_value(sort: TextSort, p: Place) -> Db2Value
@@ -184,6 +172,7 @@ fn text_value(sort: TextSort, p: Place) -> Db2Value
 }
 
 // An empty part names place 0.
+#[tactic(auto, unfolding(rules::specs::Row::start_of))]
 fn start_of(len: usize, at: usize) -> usize
     ensures { result ≡ start_of len at }
 {
@@ -193,14 +182,17 @@ fn start_of(len: usize, at: usize) -> usize
 fn part_value(sort: ByteSort, at: usize, len: usize) -> Db2Value
     ensures { result ≡ part_value (byte_sort sort) (place (start_of len at) len) }
 {
-    let start = start_of(len, at);
-    let p = Place { start, len };
+    let p = Place {
+        start: start_of(len, at),
+        len,
+    };
     match sort {
         ByteSort::Binary => Db2Value::Binary(p),
         ByteSort::Blob => Db2Value::Blob(p),
     }
 }
 
+// The mark and the places stay numbers of their own, as a struct of them would be built for each column in the loops over rows.
 // The value of an item, where its bytes begin at place `at` of the input; its text is written into out. Only for a text it is looked at whether
 // column k is marked: then the text is the bytes themselves, all from byte `from` on.
 pub fn item_write(
@@ -237,9 +229,8 @@ pub fn item_write(
             from: start,
             len,
         } => {
-            let v = part_value(sort, at + start, len);
             ItemWritten {
-                value: v,
+                value: part_value(sort, at + start, len),
                 written: 0,
                 replaced: 0,
             }
@@ -252,15 +243,12 @@ pub fn item_write(
         } => {
             let plain = is_copied(marks, k, start, len, from, bytes.len());
             let w = reading_write(reading, release, plain, &bytes[start..start + len], out);
-            let v = text_value(
-                sort,
-                Place {
-                    start: next,
-                    len: w.len,
-                },
-            );
+            let p = Place {
+                start: next,
+                len: w.len,
+            };
             ItemWritten {
-                value: v,
+                value: text_value(sort, p),
                 written: w.len,
                 replaced: w.replaced,
             }

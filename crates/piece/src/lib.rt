@@ -18,7 +18,7 @@ ghost use Rattle.piece.specs.Piece.{is_null, number_place, place_of, value_in, v
 ghost use Rattle.piece.specs.Marks.{mark_at};
 
 use cell::extents::{column_need, number_width};
-use cell::{ColumnValue, NumberWidth, OtherValue, decode_column_value, decode_other_value};
+use cell::{ColumnValue, OtherValue, decode_column_value, decode_other_value};
 use items::{item_len, item_write, text_start};
 use marks::WORDS;
 use types::{ColumnDescriptor, Db2Type, Db2Value, ValuePlace};
@@ -48,36 +48,29 @@ pub struct PieceWritten {
 }
 
 // Where a row's body begins: an FF and the byte after it are skipped; that byte is not looked at.
+#[tactic(auto, unfolding(rules::specs::Walk::skip_of))]
 pub fn skip_of(data: &[u8]) -> usize
     ensures { result ≡ skip_of «data».now }
 {
-    if data.len() < 2 {
-        return 0;
+    if 2 <= data.len() && data[0] == 0xFF {
+        2
+    } else {
+        0
     }
-    if data[0] == 0xFF {
-        return 2;
-    }
-    0
 }
 
 // Whether a nullable column's indicator says Null. A row that ends before it has no value either.
 pub fn is_null(rest: &[u8], nullable: bool) -> bool
     ensures { result ≡ is_null nullable rest.now }
 {
-    if !nullable {
-        return false;
-    }
-    if rest.len() == 0 {
-        return true;
-    }
-    rest[0] == 0xFF
+    nullable && (rest.len() == 0 || rest[0] == 0xFF)
 }
 
 // How many bytes stand before a value: its indicator, where the column has one.
 pub fn lead(nullable: bool) -> usize
     ensures { (result ≡ cond nullable 1 0) × (result ≤ 1) }
 {
-    if nullable { 1 } else { 0 }
+    usize::from(nullable)
 }
 
 // How many bytes the column takes of the rest of the row. It is there where that is at most their number.
@@ -88,8 +81,7 @@ pub fn piece_need(rest: &[u8], column: ColumnDescriptor) -> usize
         return 1;
     }
     let from = lead(column.nullable);
-    let n = column_need(&rest[from..], column);
-    from + n
+    from + column_need(&rest[from..], column)
 }
 
 // What is lacking where the column takes more bytes than there are. `offset` bytes of the body are read.
@@ -98,39 +90,20 @@ pub fn shortage(rest: &[u8], offset: usize, column: ColumnDescriptor) -> Lacking
     ensures { cell_short column.nullable (extent_of column) offset rest.now ≡ short result.expected result.actual }
 {
     if !column.nullable {
-        let n = column_need(rest, column);
         return Lacking {
-            expected: n,
+            expected: column_need(rest, column),
             actual: rest.len(),
         };
     }
     if rest.len() == 0 {
-        let expected = offset + 1;
         return Lacking {
-            expected,
+            expected: offset + 1,
             actual: offset,
         };
     }
-    let m = column_need(&rest[1..], column);
-    let actual = rest.len() - 1;
     Lacking {
-        expected: m,
-        actual,
-    }
-}
-
-// Null: its indicator alone.
-fn null_piece() -> PieceWritten
-    ensures { (result.place ≡ blank_value) × ((result.used ≡ 1) × ((result.written ≡ 0) × (result.replaced ≡ 0))) }
-{
-    PieceWritten {
-        place: ValuePlace {
-            value: Db2Value::Null,
-            external: false,
-        },
-        used: 1,
-        written: 0,
-        replaced: 0,
+        expected: column_need(&rest[1..], column),
+        actual: rest.len() - 1,
     }
 }
 
@@ -144,12 +117,14 @@ fn other_length(rest: &[u8], column: ColumnDescriptor, release: u32) -> PieceLen
     ensures plain { result.plain ≡ true → PlainCell release (value_in column 0 rest.now) }
 {
     let d = decode_other_value(rest, column);
-    let item = d.item;
-    let used = d.used;
-    let t = column.db2_type;
-    let l = item_len(item, release, &rest[..used], text_start(t));
+    let l = item_len(
+        d.item,
+        release,
+        &rest[..d.used],
+        text_start(column.db2_type),
+    );
     PieceLength {
-        used,
+        used: d.used,
         len: l.len,
         plain: l.plain,
     }
@@ -163,14 +138,13 @@ fn value_length(rest: &[u8], column: ColumnDescriptor, release: u32) -> PieceLen
     ensures len { result.len ≡ length (value_text release column rest.now) }
     ensures plain { result.plain ≡ true → PlainCell release (value_in column 0 rest.now) }
 {
-    let t = column.db2_type;
-    match number_width(t) {
-        NumberWidth::Bytes(n) => PieceLength {
+    match number_width(column.db2_type) {
+        Some(n) => PieceLength {
             used: n,
             len: 0,
             plain: false,
         },
-        NumberWidth::NoNumber => other_length(rest, column, release),
+        None => other_length(rest, column, release),
     }
 }
 
@@ -191,16 +165,14 @@ pub fn piece_length(rest: &[u8], column: ColumnDescriptor, release: u32) -> Piec
     }
     let from = lead(column.nullable);
     let v = value_length(&rest[from..], column, release);
-    let used = from + v.used;
     PieceLength {
-        used,
-        len: v.len,
-        plain: v.plain,
+        used: from + v.used,
+        ..v
     }
 }
 
-// A number: it has no text, and refers to nothing.
-fn number_piece(value: Db2Value, used: usize) -> PieceWritten
+// A number, or Null, which is its indicator alone: it has no text, and refers to nothing.
+fn bare_piece(value: Db2Value, used: usize) -> PieceWritten
     ensures { (result.place ≡ number_place value) × ((result.used ≡ used) × ((result.written ≡ 0) × (result.replaced ≡ 0))) }
 {
     PieceWritten {
@@ -238,16 +210,14 @@ pub fn other_write(
     ensures bytes { out.new ≡ overwritten (text_held release d.item (take d.used rest.now)) out.old }
     ensures replaced { result.replaced ≡ replaced_held release d.item (take d.used rest.now) }
 {
-    let item = d.item;
-    let used = d.used;
-    let w = item_write(item, release, from, marks, k, &rest[..used], at, next, out);
-    let found = w.value;
+    let bytes = &rest[..d.used];
+    let w = item_write(d.item, release, from, marks, k, bytes, at, next, out);
     PieceWritten {
         place: ValuePlace {
-            value: found,
+            value: w.value,
             external: d.external,
         },
-        used,
+        used: d.used,
         written: w.written,
         replaced: w.replaced,
     }
@@ -276,7 +246,7 @@ fn value_write(
 {
     let t = column.db2_type;
     match decode_column_value(rest, column) {
-        ColumnValue::Number { value, used } => number_piece(value, used),
+        ColumnValue::Number { value, used } => bare_piece(value, used),
         ColumnValue::Other(d) => {
             other_write(d, release, text_start(t), rest, at, marks, k, next, out)
         }
@@ -306,7 +276,7 @@ pub fn piece_write(
     ensures replaced { result.replaced ≡ cell_replaced release column rest.now }
 {
     if is_null(rest, column.nullable) {
-        return null_piece();
+        return bare_piece(Db2Value::Null, 1);
     }
     let from = lead(column.nullable);
     let v = value_write(
@@ -319,12 +289,8 @@ pub fn piece_write(
         next,
         out,
     );
-    let place = v.place;
-    let used = from + v.used;
     PieceWritten {
-        place,
-        used,
-        written: v.written,
-        replaced: v.replaced,
+        used: from + v.used,
+        ..v
     }
 }

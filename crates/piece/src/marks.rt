@@ -9,6 +9,7 @@ pub const WORDS: usize = 12;
 // No column of a word is marked.
 pub const NONE: u64 = 0xFFFF_FFFF_FFFF_FFFF;
 
+#[tactic(auto, unfolding(crate::specs::Marks::mark_at))]
 pub fn is_marked(marks: &[u64; WORDS], k: usize) -> bool
     requires { k < 768 }
     ensures { result ≡ mark_at marks.now k }
@@ -16,13 +17,13 @@ pub fn is_marked(marks: &[u64; WORDS], k: usize) -> bool
     (marks[k / 64] >> (k % 64)) % 2 == 0
 }
 
+#[tactic(auto, using(crate::proofs::MarkLaws::mark_set))]
 pub fn mark(marks: &mut [u64; WORDS], k: usize, plain: bool)
     requires { k < 768 }
     ensures { Marks marks.old k plain marks.new }
 {
-    if !plain {
-        return;
+    if plain {
+        let word = k / 64;
+        marks[word] ^= 1 << (k % 64);
     }
-    let word = k / 64;
-    marks[word] = marks[word] ^ (1 << (k % 64));
 }

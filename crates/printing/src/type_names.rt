@@ -1,83 +1,87 @@
-// The names of the column types, and how many numbers a type holds; by the tags that `words` has for them. For programs that print or read
-// types: it prints and reads nothing itself.
+// The names of the column types, for programs that print or read types.
+ghost use Rattle.std.specs.Prelude.{◌≡◌};
+ghost use Rattle.types.specs.Names.{own_numbers};
+ghost use Rattle.printing.specs.TypeNames.{as_one};
 
-// How many types there are: their tags are below.
-pub const TYPES: usize = 29;
+use crate::write_padded;
+use std::fmt;
+use types::Db2Type;
 
-// The length of the longest name.
-pub const LONGEST: usize = 13;
+pub fn name_of(t: Db2Type) -> &'static str {
+    match t {
+        Db2Type::SmallInt => "SmallInt",
+        Db2Type::Integer => "Integer",
+        Db2Type::BigInt => "BigInt",
+        Db2Type::Real => "Real",
+        Db2Type::Double => "Double",
+        Db2Type::Decimal {
+            precision: _,
+            scale: _,
+        } => "Decimal",
+        Db2Type::DecFloat(_) => "DecFloat",
+        Db2Type::Char(_) => "Char",
+        Db2Type::VarChar(_) => "VarChar",
+        Db2Type::LongVarChar => "LongVarChar",
+        Db2Type::Clob => "Clob",
+        Db2Type::Binary(_) => "Binary",
+        Db2Type::VarBinary(_) => "VarBinary",
+        Db2Type::Blob => "Blob",
+        Db2Type::BlobLocator => "BlobLocator",
+        Db2Type::Date => "Date",
+        Db2Type::Time => "Time",
+        Db2Type::Timestamp => "Timestamp",
+        Db2Type::Graphic(_) => "Graphic",
+        Db2Type::VarGraphic(_) => "VarGraphic",
+        Db2Type::DbClob => "DbClob",
+        Db2Type::ClobLocator => "ClobLocator",
+        Db2Type::DbClobLocator => "DbClobLocator",
+        Db2Type::LobBytes(_) => "LobBytes",
+        Db2Type::LobChar(_) => "LobChar",
+        Db2Type::RowId(_) => "RowId",
+        Db2Type::Boolean => "Boolean",
+        Db2Type::Xml => "Xml",
+        Db2Type::Null => "Null",
+    }
+}
 
-// The names by tag, each with spaces behind it.
-const NAMES: [u8; TYPES * LONGEST] = *b"SmallInt     \
-    Integer      \
-    BigInt       \
-    Real         \
-    Double       \
-    Decimal      \
-    DecFloat     \
-    Char         \
-    VarChar      \
-    LongVarChar  \
-    Clob         \
-    Binary       \
-    VarBinary    \
-    Blob         \
-    BlobLocator  \
-    Date         \
-    Time         \
-    Timestamp    \
-    Graphic      \
-    VarGraphic   \
-    DbClob       \
-    ClobLocator  \
-    DbClobLocator\
-    LobBytes     \
-    LobChar      \
-    RowId        \
-    Boolean      \
-    Xml          \
-    Null         ";
-
-// A name: the first bytes, so many.
+// The numbers that a type holds: a Decimal two, those with a length or with digits one.
 #[derive(Clone, Copy)]
-pub struct Name {
-    pub bytes: [u8; LONGEST],
-    pub len: usize,
+pub enum Numbers {
+    None,
+    One(u16),
+    Two(u8, u8),
 }
 
-// The first bytes of an array that holds a name, so many.
-pub fn first(bytes: &[u8], len: usize) -> &[u8] {
-    if bytes.len() < len {
-        return bytes;
+pub fn numbers_of(t: Db2Type) -> Numbers
+    ensures { as_one result ≡ own_numbers t }
+{
+    match t {
+        Db2Type::Decimal { precision, scale } => Numbers::Two(precision, scale),
+        Db2Type::DecFloat(digits) => Numbers::One(u16::from(digits)),
+        Db2Type::Char(n)
+        | Db2Type::VarChar(n)
+        | Db2Type::Binary(n)
+        | Db2Type::VarBinary(n)
+        | Db2Type::Graphic(n)
+        | Db2Type::VarGraphic(n)
+        | Db2Type::LobBytes(n)
+        | Db2Type::LobChar(n)
+        | Db2Type::RowId(n) => Numbers::One(n),
+        _ => Numbers::None,
     }
-    &bytes[0..len]
 }
 
-// The name of the type with this tag; empty where there is no such tag.
-pub fn name_of(tag: usize) -> Name {
-    let mut bytes = [0u8; LONGEST];
-    if TYPES <= tag {
-        return Name { bytes, len: 0 };
-    }
-    let names = NAMES;
-    let start = tag * LONGEST;
-    let mut i: usize = 0;
-    while i < LONGEST {
-        let b = names[start + i];
-        if b == b' ' {
-            return Name { bytes, len: i };
+// A type by its name, with the numbers that it holds.
+#[derive(Clone, Copy)]
+pub struct TypeName(pub Db2Type);
+
+impl fmt::Display for TypeName {
+    fn fmt<W: fmt::Write>(&self, f: &mut fmt::Formatter<W>) -> fmt::Result {
+        let name = name_of(self.0);
+        match numbers_of(self.0) {
+            Numbers::None => f.pad(name),
+            Numbers::One(n) => write_padded(f, format_args!("{name}({n})")),
+            Numbers::Two(m, n) => write_padded(f, format_args!("{name}({m},{n})")),
         }
-        bytes[i] = b;
-        i += 1;
-    }
-    Name { bytes, len: i }
-}
-
-// How many numbers a type with this tag holds: a Decimal two, those with a length or with digits one.
-pub fn number_count(tag: usize) -> usize {
-    match tag {
-        5 => 2,
-        6 | 7 | 8 | 11 | 12 | 18 | 19 | 23 | 24 | 25 => 1,
-        _ => 0,
     }
 }

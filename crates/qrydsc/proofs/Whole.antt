@@ -1,4 +1,5 @@
 -- What the two entries say of descriptions that break off (specs/Whole.antt): of every description. Assumes nothing.
+use Rattle.std.specs.Prelude.{Option, None}
 use Prim.Native.Nat.{ℕ, zero, suc, ◌+◌, ◌-◌, ◌≤◌}
 use mathlib.Core.Path.{◌≡◌, refl, sym, ap, subst, ◌∙◌}
 use mathlib.Core.Bool.{Bool, true, false, cond, ◌&&◌}
@@ -12,11 +13,8 @@ use Rattle.refusal.specs.Refusal.{Told, accepted, told_number}
 use Rattle.types.specs.declared.ColumnDescriptor.{ColumnDescriptor}
 use Rattle.types.specs.declared.Columns.{Columns}
 use Rattle.types.specs.Places.{max_columns, column_list}
-use Rattle.column.specs.declared.EnvEntry.{EnvEntry}
-use Rattle.triplets.specs.declared.Pending.{Pending}
-use Rattle.triplets.specs.declared.Pending.TheVariants as pending
 use Rattle.triplets.specs.Triplets.{Triplet, Reading, triplet, first_triplet, begins, cons_triplet, reading, breaks_off}
-use Rattle.triplets.specs.Descriptors.{no_entries, pending_after, environment_after, triplet_columns, columns_from, columns_of}
+use Rattle.triplets.specs.Descriptors.{Environment, no_entries, pending_after, environment_after, triplet_columns, columns_from, columns_of}
 use Rattle.triplets.proofs.ReadingLaws.{begun, reading_more, reading_none}
 use Rattle.qrydsc.specs.Qrydsc.{numbered, DescriptionTold, refused_description, list_answer, max_qrydsc, description, whole_description}
 use Rattle.qrydsc.specs.Origins.{OrderedByOrigin}
@@ -279,7 +277,7 @@ sent_append [] ys = refl
 sent_append (t ∷ xs) ys = ap (λ (l : List ℕ). sent t ++ l) (sent_append xs ys) ∙ sym (append_assoc (sent t) (sent_all xs) (sent_all ys))
 
 -- the columns of the first triplets are the first columns
-first_columns_lem : (p : Pending) (env : List EnvEntry) (k : ℕ) (ts : List Triplet)
+first_columns_lem : (p : Option ℕ) (env : Environment) (k : ℕ) (ts : List Triplet)
     → columns_from p env (take k ts) ≡ take (length (columns_from p env (take k ts))) (columns_from p env ts)
 unfolding columns_from
 first_columns_lem p env zero ts = refl
@@ -331,7 +329,7 @@ module _ (s : List ℕ) where
   unfolding ts columns_of
   columns_up_to m b =
       let r : (reading 2 (take m s)).triplets ≡ take b.0 ts = ap (λ (l : List ℕ). (reading 2 l).triplets) (up_to m b) ∙ ap (λ (q : Reading). q.triplets) (read_whole_lem (take b.0 ts)) in
-      rw r (first_columns_lem pending.Nothing no_entries b.0 ts)
+      rw r (first_columns_lem None no_entries b.0 ts)
 
   pub beginnings : Beginnings s
   unfolding ts

@@ -1,6 +1,7 @@
 -- What parse_qrydsc and parse_whole_qrydsc answer: H4, H7, N6b, N6c, refusals 1, 2 and 15. Assumes nothing.
-use Rattle.std.specs.Prelude.{ℕ, ◌+◌, Bool, false, cond, List, [], ◌∷◌, ltb, length}
-use Rattle.refusal.specs.Refusal.{Told, accepted, refused, told}
+use Rattle.std.specs.Prelude.{ℕ, ◌+◌, Bool, false, cond, List, [], ◌∷◌, Result, Ok, Err, ltb, length}
+use Rattle.refusal.specs.declared.Refusal.{Refusal}
+use Rattle.refusal.specs.Refusal.{Told, accepted, refused, refusal_number, refusal_values}
 use Rattle.types.specs.declared.ColumnDescriptor.{ColumnDescriptor}
 use Rattle.types.specs.declared.Columns.{Columns}
 use Rattle.types.specs.Places.{max_columns, column_list}
@@ -36,12 +37,13 @@ pub record DescriptionTold : Type 0 where
   pub columns : Columns
   pub broken_off : Bool
 
-abbrev pub told_description : Description → DescriptionTold
-told_description d = record { outcome = told d.outcome; columns = d.columns; broken_off = d.broken_off }
-
 -- H4, H7, N6b: no column, every place blank, and nothing said of an end
 abbrev pub refused_description : ℕ → List ℕ → DescriptionTold
 refused_description n vs = record { outcome = refused n vs; columns = column_list []; broken_off = false }
+
+abbrev pub told_description : Result Description Refusal → DescriptionTold
+told_description (Ok d) = record { outcome = accepted; columns = d.columns; broken_off = d.broken_off }
+told_description (Err r) = refused_description (refusal_number r) (refusal_values r)
 
 -- the answer to a list of columns, and to whether the description breaks off: refusal 2, else the list, numbered from 0
 unfoldable pub list_answer : Bool → List ColumnDescriptor → DescriptionTold

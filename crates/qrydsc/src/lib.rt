@@ -10,22 +10,23 @@ ghost use Rattle.qrydsc.specs.Qrydsc.{told_description, refused_description, des
 ghost use Rattle.qrydsc.specs.Entries.{entry_answer, full_answer};
 
 use column::{EnvEntry, LID_COUNT};
-use refusal::{Outcome, Refusal};
-use triplets::{Cursor, Pending, Step};
-use types::{ByteOrder, ColumnDescriptor, Columns, Db2Type, MAX_COLUMNS, Origin, ReferenceLength};
+use refusal::Refusal;
+use triplets::{Cursor, Reached};
+use types::{ByteOrder, ColumnDescriptor, Columns, Db2Type, MAX_COLUMNS, Origin};
 
 // How many bytes a description may have. specs/Qrydsc.antt calls it max_qrydsc.
 pub const MAX_QRYDSC: usize = 65536;
 
-// What both calls answer. After a refusal no column is there, and broken_off is false.
+// What both calls answer where they accept.
 #[derive(Clone, Copy)]
 pub struct Description {
-    pub outcome: Outcome,
     pub columns: Columns,
     // Bytes are left behind the last whole triplet.
     pub broken_off: bool,
 }
 
+// An unused place. A function and no constant, so that a contract says that it is the rules' blank column.
+#[tactic(auto, unfolding(types::specs::Places::blank_column))]
 fn blank_column() -> ColumnDescriptor
     ensures { result ≡ blank_column }
 {
@@ -40,19 +41,7 @@ fn blank_column() -> ColumnDescriptor
         ccsid: 0,
         db2_type: Db2Type::Null,
         byte_order: ByteOrder::BigEndian,
-        extdta_reference_length: ReferenceLength::Absent,
-    }
-}
-
-fn refused(r: Refusal) -> Description
-    ensures { told_description result ≡ refused_description (refusal_number r) (refusal_values r) }
-{
-    let blank = blank_column();
-    let columns = [blank; MAX_COLUMNS];
-    Description {
-        outcome: Outcome::Refused(r),
-        columns: Columns { columns, count: 0 },
-        broken_off: false,
+        extdta_reference_length: None,
     }
 }
 
@@ -74,58 +63,46 @@ fn too_many(data: &[u8], cursor: Cursor, whole: bool) -> Refusal
 }
 
 // Both calls in one: what they differ in is what they do at the end.
-fn parse(data: &[u8], whole: bool) -> Description
+fn parse(data: &[u8], whole: bool) -> Result<Description, Refusal>
     ensures { told_description result ≡ entry_answer whole «data».now }
 {
     if MAX_QRYDSC < data.len() {
-        return refused(Refusal::QrydscTooLong);
+        return Err(Refusal::QrydscTooLong);
     }
-    let blank = blank_column();
-    let mut columns = [blank; MAX_COLUMNS];
+    let mut columns = [blank_column(); MAX_COLUMNS];
     let mut count: usize = 0;
-    let mut environment = [EnvEntry {
-        declared: false,
-        drda_type: 0,
-        ccsid: 0,
-    }; LID_COUNT];
+    let mut environment: [Option<EnvEntry>; LID_COUNT] = [None; LID_COUNT];
     let mut cursor = Cursor::Outer {
+        pending: None,
         at: 0,
-        pending: Pending::Nothing,
     };
+    // Each step depends on what the last one found; both its cases are work.
     loop {
-        match triplets::next_step(data, cursor) {
-            Step::End(end) => {
+        match triplets::next_column(data, cursor, &mut environment) {
+            Reached::End(end) => {
                 let broken_off = end < data.len();
                 if broken_off {
                     if whole {
-                        return refused(Refusal::QrydscBrokenOff);
+                        return Err(Refusal::QrydscBrokenOff);
                     }
                 }
-                return Description {
-                    outcome: Outcome::Accepted,
+                return Ok(Description {
                     columns: Columns { columns, count },
                     broken_off,
-                };
+                });
             }
-            Step::Skip(next) => {
-                cursor = next;
-            }
-            Step::Declare { next, entry, lid } => {
-                let place = lid as usize;
-                let known = environment[place];
-                environment[place] = known.first(entry);
-                cursor = next;
-            }
-            Step::Column { next, source } => {
+            Reached::Column {
+                next,
+                source,
+                entry,
+            } => {
                 if MAX_COLUMNS <= count {
-                    return refused(too_many(data, next, whole));
+                    return Err(too_many(data, next, whole));
                 }
-                let lid = triplets::lid_at(data, source);
-                let place = lid as usize;
-                let entry = environment[place];
-                let mut numbered = triplets::column_at(data, source, entry);
-                numbered.column_index = count as u8;
-                columns[count] = numbered;
+                columns[count] = ColumnDescriptor {
+                    column_index: count as u8,
+                    ..triplets::column_at(data, source, entry)
+                };
                 count += 1;
                 cursor = next;
             }
@@ -134,14 +111,14 @@ fn parse(data: &[u8], whole: bool) -> Description
 }
 
 // The columns that a description describes, in order: those before its end or, where it breaks off, before that place.
-pub fn parse_qrydsc(data: &[u8]) -> Description
+pub fn parse_qrydsc(data: &[u8]) -> Result<Description, Refusal>
     ensures { told_description result ≡ description «data».now }
 {
     parse(data, false)
 }
 
 // The same, save that a description that breaks off is refused: 15, behind 1 and before 2.
-pub fn parse_whole_qrydsc(data: &[u8]) -> Description
+pub fn parse_whole_qrydsc(data: &[u8]) -> Result<Description, Refusal>
     ensures { told_description result ≡ whole_description «data».now }
 {
     parse(data, true)

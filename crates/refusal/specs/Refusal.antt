@@ -1,9 +1,7 @@
 -- Refusals by the rules' numbers: promises speak of these numbers and values, and not of the code's enum (G10). Assumes nothing.
-use Rattle.std.specs.Prelude.{ℕ, List, [], ◌∷◌, get_or}
+use Rattle.std.specs.Prelude.{ℕ, List, [], ◌∷◌, get_or, Result, Ok, Err}
 use Rattle.refusal.specs.declared.Refusal.{Refusal}
 use Rattle.refusal.specs.declared.Refusal.TheVariants.{QrydscTooLong, TooManyColumns, CountTooLarge, InputTooLong, DecFloatColumn, DecimalEmpty, DecimalTooLong, BufferTooShort, TextBufferTooShort, DecimalDigit, DecimalSign, DecimalOutOfRange, QrydscBrokenOff, UnknownRelease}
-use Rattle.refusal.specs.declared.Outcome.{Outcome}
-use Rattle.refusal.specs.declared.Outcome.TheVariants.{Accepted, Refused}
 
 -- the number of a refusal
 abbrev pub refusal_number : Refusal → ℕ
@@ -26,27 +24,17 @@ refusal_number UnknownRelease = 22
 abbrev pub refusal_values : Refusal → List ℕ
 refusal_values (BufferTooShort expected actual) = expected ∷ actual ∷ []
 refusal_values (TextBufferTooShort needed) = needed ∷ []
-refusal_values QrydscTooLong = []
-refusal_values TooManyColumns = []
-refusal_values CountTooLarge = []
-refusal_values InputTooLong = []
-refusal_values DecFloatColumn = []
-refusal_values DecimalEmpty = []
-refusal_values DecimalTooLong = []
-refusal_values DecimalDigit = []
-refusal_values DecimalSign = []
-refusal_values DecimalOutOfRange = []
-refusal_values QrydscBrokenOff = []
-refusal_values UnknownRelease = []
+refusal_values r = []
 
 -- what a call says of its input: that it accepted, or a refusal by number and values
 pub data Told : Type 0 where
   accepted : Told
   refused : ℕ → List ℕ → Told
 
-abbrev pub told : Outcome → Told
-told Accepted = accepted
-told (Refused r) = refused (refusal_number r) (refusal_values r)
+-- of an answer: what is in an accepted one has no part in it
+abbrev pub told : {A : Type 0} → Result A Refusal → Told
+told (Ok a) = accepted
+told (Err r) = refused (refusal_number r) (refusal_values r)
 
 -- the refusal's number, and 0 where there is none
 abbrev pub told_number : Told → ℕ

@@ -1,5 +1,5 @@
-// Face. Why a call refuses its input, as one enum, and whether a call accepted. Every call of the library answers with these; no other
-// crate takes a Refusal apart. It has no text for people: the numbers are those of docs/RULES.md, "Refusals".
+// Face. Why a call refuses its input, as one enum: every call of the library that may refuse answers Result<T, Refusal>. No other crate takes a Refusal
+// apart. It has no text for people: the numbers are those of docs/RULES.md, "Refusals".
 #![tactic(auto)]
 
 ghost use Rattle.std.specs.Prelude.{◌≡◌, get_or};
@@ -38,7 +38,7 @@ pub const QRYDSC_BROKEN_OFF: u32 = 15;
 pub const UNKNOWN_RELEASE: u32 = 22;
 
 // The refusals, by their numbers: a call tests them in this order, save that 15 comes behind 1 and 22 comes first.
-#[derive(Clone, Copy)]
+#[derive(Clone, Copy, Debug, PartialEq, Eq)]
 pub enum Refusal {
     // 1: a description of more than 65,536 bytes.
     QrydscTooLong,
@@ -71,7 +71,8 @@ pub enum Refusal {
 }
 
 impl Refusal {
-    fn number(self) -> u32
+    // The number of the rules.
+    pub fn number(self) -> u32
         ensures { result ≡ refusal_number self }
     {
         match self {
@@ -95,90 +96,60 @@ impl Refusal {
         }
     }
 
-    fn first_value(self) -> usize
+    // The first of the numbers that come with it, and 0 where there is none.
+    pub fn first_value(self) -> usize
         ensures { result ≡ get_or (refusal_values self) 0 0 }
     {
         match self {
-            Refusal::QrydscTooLong => 0,
-            Refusal::TooManyColumns => 0,
-            Refusal::CountTooLarge => 0,
-            Refusal::InputTooLong => 0,
-            Refusal::DecFloatColumn => 0,
-            Refusal::DecimalEmpty => 0,
-            Refusal::DecimalTooLong => 0,
             Refusal::BufferTooShort {
                 expected,
                 actual: _,
             } => expected,
             Refusal::TextBufferTooShort { needed } => needed,
-            Refusal::DecimalDigit => 0,
-            Refusal::DecimalSign => 0,
-            Refusal::DecimalOutOfRange => 0,
-            Refusal::QrydscBrokenOff => 0,
-            Refusal::UnknownRelease => 0,
+            _ => 0,
         }
     }
 
-    fn second_value(self) -> usize
+    // The second.
+    pub fn second_value(self) -> usize
         ensures { result ≡ get_or (refusal_values self) 1 0 }
     {
         match self {
-            Refusal::QrydscTooLong => 0,
-            Refusal::TooManyColumns => 0,
-            Refusal::CountTooLarge => 0,
-            Refusal::InputTooLong => 0,
-            Refusal::DecFloatColumn => 0,
-            Refusal::DecimalEmpty => 0,
-            Refusal::DecimalTooLong => 0,
             Refusal::BufferTooShort {
                 expected: _,
                 actual,
             } => actual,
-            Refusal::TextBufferTooShort { needed: _ } => 0,
-            Refusal::DecimalDigit => 0,
-            Refusal::DecimalSign => 0,
-            Refusal::DecimalOutOfRange => 0,
-            Refusal::QrydscBrokenOff => 0,
-            Refusal::UnknownRelease => 0,
+            _ => 0,
         }
     }
 }
 
-// Whether a call accepted its input.
-#[derive(Clone, Copy)]
-pub enum Outcome {
-    Accepted,
-    Refused(Refusal),
+// The number of the refusal that an answer is, and 0 where it is none.
+pub fn number<T>(answer: &Result<T, Refusal>) -> u32
+    ensures { result ≡ told_number (told answer.now) }
+{
+    match answer {
+        Ok(_) => 0,
+        Err(r) => r.number(),
+    }
 }
 
-impl Outcome {
-    // The refusal's number, and 0 where there is none.
-    pub fn number(self) -> u32
-        ensures { result ≡ told_number (told self) }
-    {
-        match self {
-            Outcome::Accepted => 0,
-            Outcome::Refused(r) => r.number(),
-        }
+// Its first value, and 0 where it has none.
+pub fn first_value<T>(answer: &Result<T, Refusal>) -> usize
+    ensures { result ≡ told_value (told answer.now) 0 }
+{
+    match answer {
+        Ok(_) => 0,
+        Err(r) => r.first_value(),
     }
+}
 
-    // The refusal's first value, and 0 where it has none.
-    pub fn first_value(self) -> usize
-        ensures { result ≡ told_value (told self) 0 }
-    {
-        match self {
-            Outcome::Accepted => 0,
-            Outcome::Refused(r) => r.first_value(),
-        }
-    }
-
-    // The refusal's second value, and 0 where it has none.
-    pub fn second_value(self) -> usize
-        ensures { result ≡ told_value (told self) 1 }
-    {
-        match self {
-            Outcome::Accepted => 0,
-            Outcome::Refused(r) => r.second_value(),
-        }
+// Its second value, and 0 where it has none.
+pub fn second_value<T>(answer: &Result<T, Refusal>) -> usize
+    ensures { result ≡ told_value (told answer.now) 1 }
+{
+    match answer {
+        Ok(_) => 0,
+        Err(r) => r.second_value(),
     }
 }

@@ -10,10 +10,11 @@ use Rattle.types.specs.Places.{max_columns, filled, blank_value}
 use Rattle.buffer.specs.Buffer.{overwritten}
 use Rattle.buffer.proofs.Writing.{Writing, fits}
 use Rattle.rules.specs.Walk.{column_need, Cell, done, walk_body}
-use Rattle.rules.specs.Row.{cell_value, row_values, row_texts, row_replaced}
+use Rattle.rules.specs.Row.{cell_value, row_values, row_texts, row_replaced, accept, body_decision}
 use Rattle.rules.specs.Conversions.{conversions_of}
 use Rattle.rules.proofs.Walks.{pieces_of}
 use Rattle.rules.proofs.Progress.{piece_at, text_in, replaced_in, Placing, placing_start, placing_step, placing_end, placed_start, placed_step}
+use Rattle.row.proofs.Wholes.{decided_accepted}
 
 -- the next unwritten byte is within the buffer
 pub next_within : {T d l out : List ℕ} {o : ℕ} → Writing T d l out o → o ≤ length out
@@ -25,6 +26,8 @@ module _ (release : ℕ) (cs : List ColumnDescriptor) (start : ℕ) (s : List �
   pieces = pieces_of (walk_body cs start s)
 
   pub record Filling (places : List ValuePlace) (i at next replaced : ℕ) (out : List ℕ) : Type 0 where
+    pub whole : walk_body cs start s ≡ done pieces end
+    pub decided : body_decision (conversions_of release) cs start s d ≡ accept pieces end
     pub passed : List Cell
     pub placing : Placing (conversions_of release) cs start s pieces end d passed i at next replaced out
     pub placed : places ≡ filled blank_value (row_values (conversions_of release) passed 0)
@@ -33,6 +36,8 @@ module _ (release : ℕ) (cs : List ColumnDescriptor) (start : ℕ) (s : List �
       → (b : ValuePlace) → b ≡ blank_value → Filling (replicate max_columns b) 0 start 0 0 d
   filling_start h w k b e =
       record {
+        whole = w;
+        decided = decided_accepted release cs start s d w k;
         passed = [];
         placing = placing_start (conversions_of release) cs start s pieces end d h w k;
         placed = rw e (placed_start (conversions_of release));
@@ -45,6 +50,8 @@ module _ (release : ℕ) (cs : List ColumnDescriptor) (start : ℕ) (s : List �
       → Filling (set places i v) (i + 1) (at + n) (next + k) (replaced + m) (take next out ++ (ys ++ drop (length out - next) (drop next out)))
   filling_step {places} {i} {at} {next} {replaced} {out} f c e r q h v g n k m y z x ys w =
       record {
+        whole = f.whole;
+        decided = f.decided;
         passed = f.passed ++ (piece_at c at r ∷ []);
         placing = placing_step (conversions_of release) cs start s pieces end d f.placing c e r q n k m y z x ys w;
         placed = placed_step (conversions_of release) f.passed places f.placed i next f.placing.count h f.placing.sum (piece_at c at r) v g;

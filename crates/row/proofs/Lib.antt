@@ -1,3 +1,4 @@
+pub mod Columns
 pub mod Wholes
 pub mod Filling
 pub mod Scales

@@ -1,6 +1,7 @@
 -- A walk that is done, and what is decided of it. Assumes nothing.
+use Rattle.std.specs.Prelude.{Option, Some, None}
 use Prim.Native.Nat.{ℕ, ◌≤◌, ◌<◌}
-use mathlib.Core.Path.{◌≡◌, sym, ap, ◌∙◌}
+use mathlib.Core.Path.{◌≡◌, refl, sym, ap, ◌∙◌}
 use mathlib.Core.List.{List, [], ◌∷◌}
 use lib.ListN.{length}
 use borrow.Author.Tests.{lt-ltb, le-ltb}
@@ -9,7 +10,13 @@ use Rattle.rules.specs.Walk.{Cell, Walk, done, short, walk_body}
 use Rattle.rules.specs.Row.{row_texts, refuse, accept, walk_decision, body_decision}
 use Rattle.rules.specs.Conversions.{conversions_of}
 use Rattle.rules.proofs.Walks.{pieces_of}
+use Rattle.rules.proofs.Progress.{Walking, walking_end}
 use Rattle.row.specs.Whole.{Whole}
+
+-- an answer that is no number
+pub none_left : (r : Option ℕ) → ((k : ℕ) → r ≡ Some k → ⊥) → r ≡ None
+none_left (Some k) h = absurd (h k refl)
+none_left None h = refl
 
 pub whole_is : {w : Walk} {end : ℕ} → Whole w end → w ≡ done (pieces_of w) end
 whole_is {w} {end} h = h.is ∙ ap (λ (ps : List Cell). done ps end) (sym (ap pieces_of h.is))
@@ -21,6 +28,12 @@ end_of (short e a) = 0
 
 pub whole_ends : (w : Walk) → ((end : ℕ) × Whole w end) → Whole w (end_of w)
 whole_ends w h = record { cells = pieces_of w; is = whole_is h.1 ∙ ap (done (pieces_of w)) (sym (ap end_of (whole_is h.1))) }
+
+pub whole_done : (w : Walk) → ((end : ℕ) × Whole w end) → w ≡ done (pieces_of w) (end_of w)
+whole_done w h = whole_is (whole_ends w h)
+
+pub whole_walk : (cs : List ColumnDescriptor) (start : ℕ) (s : List ℕ) {i at : ℕ} → Walking cs start s i at → length cs ≤ i → Whole (walk_body cs start s) at
+whole_walk cs start s w h = record { cells = w.passed; is = walking_end cs start s w h }
 
 -- ---- what is decided for the text buffer d
 

@@ -3,7 +3,7 @@ use Prim.Native.Nat.{ℕ, zero, suc, ◌+◌, ◌*◌, ◌/◌, ◌<◌}
 use mathlib.Core.Path.{◌≡◌, refl, sym}
 use mathlib.Core.Bool.{Bool, true, false, cond}
 use mathlib.Core.List.{List, [], ◌∷◌}
-use mathlib.Core.Option.{Option, some, none}
+use Rattle.std.specs.Prelude.{Option, Some, None}
 use native.Mathlib.Omega.{arith}
 use lib.ListN.{length, drop, get_or}
 use Rattle.types.specs.declared.ColumnDescriptor.{ColumnDescriptor}
@@ -27,26 +27,26 @@ named_here (a ∷ (b ∷ ws)) (suc i) h =
     let g : suc i + 1 ≡ suc (i + 1) = omega arith in
     rw (f, e, g) (named_here ws i (omega arith))
 
--- the column that the code made of the two words
-pub named_at : (ws : List ℕ) (i : ℕ) → i < length ws / 2 → {c : ColumnDescriptor} → c ≡ column_named (get_or ws (2 * i) 0) (get_or ws (2 * i + 1) 0) → drop i (columns_named ws) ≡ c ∷ drop (i + 1) (columns_named ws)
-named_at ws i h e = rw e (named_here ws i h)
+-- the column of the two words a and b that the code read
+pub named_at : (ws : List ℕ) (i : ℕ) → i < length ws / 2 → {a b : ℕ} → (a ≡ get_or ws (2 * i) 0) × (b ≡ get_or ws (2 * i + 1) 0) → {c : ColumnDescriptor} → c ≡ column_named a b → drop i (columns_named ws) ≡ c ∷ drop (i + 1) (columns_named ws)
+named_at ws i h r e = rw (e, r.0, r.1) (named_here ws i h)
 
 -- what was joined to the column
 pub record Joined (a b : ℕ) (x : Option (List ColumnDescriptor)) (cs : List ColumnDescriptor) : Type 0 where
   pub others : List ColumnDescriptor
-  pub read : x ≡ some others
+  pub read : x ≡ Some others
   pub all : cs ≡ column_named a b ∷ others
 
-joined_is : (a b : ℕ) (x : Option (List ColumnDescriptor)) (cs : List ColumnDescriptor) → joined (read_column a b) x ≡ some cs → Joined a b x cs
+joined_is : (a b : ℕ) (x : Option (List ColumnDescriptor)) (cs : List ColumnDescriptor) → joined (read_column a b) x ≡ Some cs → Joined a b x cs
 unfolding read_column
 joined_is a b x cs h = by (is_column a b) x h
   where
-    by : (t : Bool) (y : Option (List ColumnDescriptor)) → joined (cond t (some (column_named a b)) none) y ≡ some cs → Joined a b y cs
-    by true (some ds) q = record { others = ds; read = refl; all = cc }
-    by true none q = let z : ◌≡◌ {A = ℕ} 0 1 = cc in absurd (omega arith)
+    by : (t : Bool) (y : Option (List ColumnDescriptor)) → joined (cond t (Some (column_named a b)) None) y ≡ Some cs → Joined a b y cs
+    by true (Some ds) q = record { others = ds; read = refl; all = cc }
+    by true None q = let z : ◌≡◌ {A = ℕ} 0 1 = cc in absurd (omega arith)
     by false y q = let z : ◌≡◌ {A = ℕ} 0 1 = cc in absurd (omega arith)
 
-pub read_named : (ws : List ℕ) (cs : List ColumnDescriptor) → read_columns ws ≡ some cs → columns_named ws ≡ cs
+pub read_named : (ws : List ℕ) (cs : List ColumnDescriptor) → read_columns ws ≡ Some cs → columns_named ws ≡ cs
 unfolding read_columns columns_named
 read_named [] cs h = cc
 read_named (a ∷ []) cs h = let z : ◌≡◌ {A = ℕ} 0 1 = cc in absurd (omega arith)

@@ -1,6 +1,5 @@
 -- For inner functions; no public promise rests on it. What each pass over the columns tells. Assumes nothing.
-use Rattle.std.specs.Prelude.{ℕ, ◌+◌, ◌/◌, ◌%◌, ◌^◌, ◌≡◌, Bool, false, List, [], ◌∷◌, eqb, length, set}
-use Rattle.std.proofs.Math.Option.{Option, some, none}
+use Rattle.std.specs.Prelude.{ℕ, ◌+◌, ◌/◌, ◌%◌, ◌^◌, ◌≡◌, Bool, false, List, [], ◌∷◌, eqb, length, set, Option, Some, None, Result, Ok, Err}
 use Rattle.types.specs.declared.ColumnDescriptor.{ColumnDescriptor}
 use Rattle.types.specs.declared.ValuePlace.{ValuePlace}
 use Rattle.rules.specs.Walk.{Cell, Walk, done, short}
@@ -10,17 +9,15 @@ use Rattle.cell.specs.Cell.{is_number}
 use Rattle.words.specs.Words.{type_named}
 use Rattle.words.specs.Reading.{column_named}
 use Rattle.words.specs.Values.{kind_word, number_word, length_word}
-use Rattle.row_words.specs.declared.Checked.{Checked}
-use Rattle.row_words.specs.declared.Checked.TheVariants.{Columns, NoColumn}
-use Rattle.row_words.specs.declared.Walked.{Walked}
-use Rattle.row_words.specs.declared.Walked.TheVariants.{Done, Short}
-use Rattle.row_words.specs.declared.RowOutcome.{RowOutcome}
-use Rattle.row_words.specs.declared.RowOutcome.TheVariants.{Accepted, TooShort, TextTooShort}
+use Rattle.piece.specs.declared.Lacking.{Lacking}
+use Rattle.row_words.specs.declared.Taken.{Taken}
+use Rattle.row_words.specs.declared.RowError.{RowError}
+use Rattle.row_words.specs.declared.RowError.TheVariants.{TooShort, TextTooShort}
 
--- whether a column is of type DecFloat, or that some words are no column's
-abbrev pub checked_of : Option (List ColumnDescriptor) → Checked
-checked_of (some cs) = Columns (any_dec_float cs)
-checked_of none = NoColumn
+-- whether a column is of type DecFloat, where words are columns'
+abbrev pub checked_of : Option (List ColumnDescriptor) → Option Bool
+checked_of (Some cs) = Some (any_dec_float cs)
+checked_of None = None
 
 -- the columns that words name, two words for each. Where read_columns reads columns, it reads these
 unfoldable pub columns_named : List ℕ → List ColumnDescriptor
@@ -52,13 +49,13 @@ abbrev pub three_set : List ℕ → ℕ → ValuePlace → List ℕ
 three_set v q x = words_set v q (kind_word x) (number_word x.value) (length_word x.value)
 
 -- how a walk ends
-abbrev pub outline : Walk → Walked
-outline (done ps n) = Done n
-outline (short expected actual) = Short expected actual
+abbrev pub outline : Walk → Result ℕ Lacking
+outline (done ps n) = Ok n
+outline (short e a) = Err (record { expected = e; actual = a })
 
--- what an outcome says of a decision, at a release
-abbrev pub Says : ℕ → RowOutcome → Decision → Type 0
-Says release (Accepted used written replaced) d =
-    (ps : List Cell) × ((d ≡ accept ps used) × ((written ≡ length (row_texts (conversions_of release) ps)) × (replaced ≡ row_replaced (conversions_of release) ps)))
-Says release (TooShort expected actual) d = d ≡ refuse 8 (expected ∷ actual ∷ [])
-Says release (TextTooShort needed) d = d ≡ refuse 9 (needed ∷ [])
+-- what an answer says of a decision, at a release
+abbrev pub Says : ℕ → Result Taken RowError → Decision → Type 0
+Says release (Ok t) d =
+    (ps : List Cell) × ((d ≡ accept ps t.used) × ((t.written ≡ length (row_texts (conversions_of release) ps)) × (t.replaced ≡ row_replaced (conversions_of release) ps)))
+Says release (Err (TooShort expected actual)) d = d ≡ refuse 8 (expected ∷ actual ∷ [])
+Says release (Err (TextTooShort needed)) d = d ≡ refuse 9 (needed ∷ [])

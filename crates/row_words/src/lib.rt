@@ -7,7 +7,7 @@ mod puts;
 mod tags;
 mod values;
 
-ghost use Rattle.std.specs.Prelude.{◌≡◌, ℕ, ◌*◌, ◌/◌, ◌%◌, ◌≤◌, ◌^◌, ◌||◌, eqb, length};
+ghost use Rattle.std.specs.Prelude.{◌≡◌, ℕ, ◌+◌, ◌*◌, ◌/◌, ◌%◌, ◌<◌, ◌≤◌, ◌^◌, ◌||◌, eqb, length, get_or, Ok};
 ghost use Rattle.refusal.specs.Refusal.{input_limit};
 ghost use Rattle.types.specs.Places.{max_columns};
 ghost use Rattle.rules.specs.Walk.{skip_of, walk_body};
@@ -16,30 +16,17 @@ ghost use Rattle.rules.specs.Conversions.{conversions_of};
 ghost use Rattle.words.specs.Reading.{read_columns};
 ghost use Rattle.row_words.specs.Rows.{values_after};
 ghost use Rattle.row_words.specs.Passes.{checked_of, columns_named, outline, Says};
+ghost use Rattle.row_words.specs.declared.RowError.TheVariants.{TooShort};
 ghost use Rattle.piece.specs.Marks.{PlainMarks};
 ghost use Rattle.piece.specs.Texts.{texts_of, replaced_of, needed_beyond};
 
 use buffer::Written;
 use needs::need_named;
 use piece::marks::{NONE, WORDS, mark};
-use piece::{piece_length, shortage, skip_of};
+use piece::{Lacking, piece_length, shortage, skip_of};
 use puts::put_column;
 use types::Db2Value;
-use words::{column_named, is_column};
-
-// What the columns' words say before the row is looked at: whether a column is of type DecFloat, or that some words are no column's.
-#[derive(Clone, Copy)]
-pub enum Checked {
-    Columns { dec_float: bool },
-    NoColumn,
-}
-
-// What going through the columns finds: every column has its bytes, the last of them before place `end` of the input; or the row is too short.
-#[derive(Clone, Copy)]
-pub enum Walked {
-    Done { end: usize },
-    Short { expected: usize, actual: usize },
-}
+use words::ColumnWords;
 
 // A number, and how many bytes it takes.
 #[derive(Clone, Copy)]
@@ -48,7 +35,7 @@ pub struct NumberValue {
     pub used: usize,
 }
 
-// How many bytes of the row a column took, how many bytes of text were written, and how many U+FFFD among them were put in.
+// How many bytes of the row a column took, or all of them, how many bytes of text were written, and how many U+FFFD among them were put in.
 #[derive(Clone, Copy)]
 pub struct Taken {
     pub used: usize,
@@ -56,85 +43,79 @@ pub struct Taken {
     pub replaced: usize,
 }
 
-// What is decided of a row's body: accepted, with the bytes of the input that are used, the bytes of text that are written, and how many U+FFFD among
-// them were put in; or refused.
-#[derive(Clone, Copy)]
-pub enum RowOutcome {
-    Accepted {
-        used: usize,
-        written: usize,
-        replaced: usize,
-    },
-    TooShort {
-        expected: usize,
-        actual: usize,
-    },
-    TextTooShort {
-        needed: usize,
-    },
+// Why a row's body is refused.
+#[derive(Clone, Copy, Debug, PartialEq, Eq)]
+pub enum RowError {
+    TooShort { expected: usize, actual: usize },
+    TextTooShort { needed: usize },
 }
 
-// Whether a column was of type DecFloat, or the one of this first word is.
-fn is_dec_float(before: bool, first: u64) -> bool
-    ensures { result ≡ (before || eqb 6 (first % 2 ^ 8)) }
-{
-    if before {
-        return true;
+impl From<Lacking> for RowError {
+    ghost from_gives = { λ l e. e ≡ TooShort l.expected l.actual };
+
+    fn from(l: Lacking) -> RowError {
+        RowError::TooShort {
+            expected: l.expected,
+            actual: l.actual,
+        }
     }
-    tags::DEC_FLOAT == first % 0x100
 }
 
-// Whether every two words are a column's, and whether one of the columns is of type DecFloat.
-pub fn check_columns(columns: &[u64]) -> Checked
+// The two words of column i. By its number and not by as_chunks: marks and values are found by it too.
+fn words_at(columns: &[u64], i: usize) -> ColumnWords
+    requires { i < length columns.now / 2 }
+    ensures { (result.first ≡ get_or columns.now (2 * i) 0) × (result.second ≡ get_or columns.now (2 * i + 1) 0) }
+{
+    ColumnWords {
+        first: columns[2 * i],
+        second: columns[2 * i + 1],
+    }
+}
+
+// Whether a column was of type DecFloat, or the one of these words is. In the loop the two ways of || would join before the next words.
+fn is_dec_float(before: bool, words: ColumnWords) -> bool
+    ensures { result ≡ (before || eqb 6 (words.first % 2 ^ 8)) }
+{
+    before || words.first % 0x100 == tags::DEC_FLOAT
+}
+
+// Whether a column is of type DecFloat, where every two words are a column's and none is left over.
+pub fn check_columns(columns: &[u64]) -> Option<bool>
     ensures { result ≡ checked_of (read_columns columns.now) }
 {
     let mut dec_float = false;
-    let mut at: usize = 0;
-    while at + 1 < columns.len() {
-        let first = columns[at];
-        if !is_column(first, columns[at + 1]) {
-            return Checked::NoColumn;
+    for i in 0..columns.len() / 2 {
+        let words = words_at(columns, i);
+        if !words.is_column() {
+            return None;
         }
-        dec_float = is_dec_float(dec_float, first);
-        at += 2;
+        dec_float = is_dec_float(dec_float, words);
     }
-    if at == columns.len() {
-        return Checked::Columns { dec_float };
-    }
-    Checked::NoColumn
+    (columns.len() % 2 == 0).then_some(dec_float)
 }
 
-// Whether every column has its bytes. Nothing is written before that is known.
-fn walk_columns(columns: &[u64], data: &[u8], start: usize) -> Walked
+// The end of the last column in the input, where every column has its bytes. Nothing is written before that is known.
+fn walk_columns(columns: &[u64], data: &[u8], start: usize) -> Result<usize, Lacking>
     requires start { start ≤ length «data».now }
     requires limit { length «data».now ≤ input_limit }
     ensures { result ≡ outline (walk_body (columns_named columns.now) start «data».now) }
 {
-    let count = columns.len() / 2;
     let mut at = start;
-    let mut i: usize = 0;
-    while i < count {
-        let k = 2 * i;
-        let first = columns[k];
-        let second = columns[k + 1];
+    for i in 0..columns.len() / 2 {
+        let words = words_at(columns, i);
         let rest = &data[at..];
-        let n = need_named(rest, first, second);
+        let n = need_named(rest, words);
         if rest.len() < n {
-            let column = column_named(first, second);
-            let s = shortage(rest, at - start, column);
-            return Walked::Short {
-                expected: s.expected,
-                actual: s.actual,
-            };
+            return Err(shortage(rest, at - start, words.column()));
         }
         at += n;
-        i += 1;
     }
-    Walked::Done { end: at }
+    Ok(at)
 }
 
-// How long the texts of a row are together, where a text buffer of `room` bytes is too short for them; else 0. Every column has its bytes, the
-// last of them before place `end` of the input. Where the texts are measured, a column is marked whose text is copied.
+// How long the texts of a row are together, where a text buffer of `room` bytes is too short for them. Every column has its bytes, the
+// last of them before place `end` of the input. Where the texts are measured, a column is marked whose text is copied. row has the same of columns by value:
+// one for both would take a closure that makes a column, with a clause on each that it makes.
 fn text_needed(
     columns: &[u64],
     data: &[u8],
@@ -143,11 +124,11 @@ fn text_needed(
     end: usize,
     room: usize,
     marks: &mut [u64; WORDS],
-) -> usize
+) -> Option<usize>
     requires count { length columns.now / 2 ≤ max_columns }
     requires start { start ≤ length «data».now }
     requires limit { length «data».now ≤ input_limit }
-    requires whole { Walked.Done end ≡ outline (walk_body (columns_named columns.now) start «data».now) }
+    requires whole { Ok end ≡ outline (walk_body (columns_named columns.now) start «data».now) }
     requires marks { PlainMarks release marks.old (walk_body (columns_named columns.now) start «data».now) }
     ensures needed { result ≡ needed_beyond room (texts_of release (walk_body (columns_named columns.now) start «data».now)) }
     ensures marks { PlainMarks release marks.new (walk_body (columns_named columns.now) start «data».now) }
@@ -155,24 +136,18 @@ fn text_needed(
     let count = columns.len() / 2;
     // no text of n bytes is longer than 3 n + 258
     if 3 * (end - start) + 258 * count <= room {
-        return 0;
+        return None;
     }
     let mut at = start;
     let mut total: usize = 0;
-    let mut i: usize = 0;
-    while i < count {
-        let k = 2 * i;
-        let column = column_named(columns[k], columns[k + 1]);
+    for i in 0..count {
+        let column = words_at(columns, i).column();
         let p = piece_length(&data[at..], column, release);
         mark(marks, i, p.plain);
         at += p.used;
         total += p.len;
-        i += 1;
     }
-    if total <= room {
-        return 0;
-    }
-    total
+    (room < total).then_some(total)
 }
 
 // Writes the values, and their texts one after the other: how many bytes of text they are, and how many U+FFFD among them were put in.
@@ -187,7 +162,7 @@ fn write_columns(
 ) -> Written
     requires start { start ≤ length «data».now }
     requires limit { length «data».now ≤ input_limit }
-    requires whole { (end : ℕ) × (Walked.Done end ≡ outline (walk_body (columns_named columns.now) start «data».now)) }
+    requires whole { (end : ℕ) × (Ok end ≡ outline (walk_body (columns_named columns.now) start «data».now)) }
     requires words { 3 * (length columns.now / 2) ≤ length values.old }
     requires room { length (texts_of release (walk_body (columns_named columns.now) start «data».now)) ≤ length text.old }
     requires count { length columns.now / 2 ≤ max_columns }
@@ -197,18 +172,14 @@ fn write_columns(
     ensures text { text.new ≡ text_after (conversions_of release) (body_decision (conversions_of release) (columns_named columns.now) start «data».now text.old) text.old }
     ensures replaced { result.replaced ≡ replaced_of release (walk_body (columns_named columns.now) start «data».now) }
 {
-    let count = columns.len() / 2;
     let mut at = start;
     let mut next: usize = 0;
     let mut replaced: usize = 0;
-    let mut i: usize = 0;
-    while i < count {
-        let k = 2 * i;
+    for i in 0..columns.len() / 2 {
         let p = put_column(
             &data[at..],
             at,
-            columns[k],
-            columns[k + 1],
+            words_at(columns, i),
             release,
             marks,
             i,
@@ -220,7 +191,6 @@ fn write_columns(
         at += p.used;
         next += p.written;
         replaced += p.replaced;
-        i += 1;
     }
     Written {
         len: next,
@@ -235,7 +205,7 @@ pub fn decode_row(
     release: u32,
     values: &mut [u64],
     text: &mut [u8],
-) -> RowOutcome
+) -> Result<Taken, RowError>
     requires count { length columns.now / 2 ≤ max_columns }
     requires limit { length «data».now ≤ input_limit }
     requires words { 3 * (length columns.now / 2) ≤ length values.old }
@@ -244,20 +214,15 @@ pub fn decode_row(
     ensures text { text.new ≡ text_after (conversions_of release) (body_decision (conversions_of release) (columns_named columns.now) (skip_of «data».now) «data».now text.old) text.old }
 {
     let start = skip_of(data);
-    match walk_columns(columns, data, start) {
-        Walked::Short { expected, actual } => RowOutcome::TooShort { expected, actual },
-        Walked::Done { end } => {
-            let mut marks: [u64; WORDS] = [NONE; WORDS];
-            let needed = text_needed(columns, data, release, start, end, text.len(), &mut marks);
-            if 0 < needed {
-                return RowOutcome::TextTooShort { needed };
-            }
-            let w = write_columns(columns, data, release, start, &marks, values, text);
-            RowOutcome::Accepted {
-                used: end,
-                written: w.len,
-                replaced: w.replaced,
-            }
-        }
+    let end = walk_columns(columns, data, start)?;
+    let mut marks: [u64; WORDS] = [NONE; WORDS];
+    if let Some(needed) = text_needed(columns, data, release, start, end, text.len(), &mut marks) {
+        return Err(RowError::TextTooShort { needed });
     }
+    let w = write_columns(columns, data, release, start, &marks, values, text);
+    Ok(Taken {
+        used: end,
+        written: w.len,
+        replaced: w.replaced,
+    })
 }

@@ -12,88 +12,87 @@ use crate::tags;
 use cell::extents;
 use cell::extents::{counted_need, decimal_need, other_need, timestamp_need};
 use piece::{is_null, lead};
-use words::column_named;
+use words::ColumnWords;
 
-pub fn is_nullable(first: u64) -> bool
-    ensures { result ≡ is_nullable first }
+// Functions and no methods: the struct is another crate's.
+pub fn is_nullable(words: ColumnWords) -> bool
+    ensures { result ≡ is_nullable words.first }
 {
-    first / 0x1_0000_0000_0000 % 2 == 1
+    words.first / 0x1_0000_0000_0000 % 2 == 1
 }
 
 // The numbers that the type holds, as one; of a Decimal the precision and the scale.
-pub fn type_numbers(first: u64) -> u16
-    ensures { result ≡ type_numbers first }
+pub fn type_numbers(words: ColumnWords) -> u16
+    ensures { result ≡ type_numbers words.first }
 {
-    (first / 0x100 % 0x1_0000) as u16
+    (words.first / 0x100 % 0x1_0000) as u16
 }
 
-pub fn precision(first: u64) -> u8
-    ensures { result ≡ type_numbers first % 2 ^ 8 }
+pub fn precision(words: ColumnWords) -> u8
+    ensures { result ≡ type_numbers words.first % 2 ^ 8 }
 {
-    (first / 0x100 % 0x100) as u8
+    (words.first / 0x100 % 0x100) as u8
 }
 
 // The column's own length.
-pub fn length_of(second: u64) -> u16
-    ensures { result ≡ second % 2 ^ 16 }
+pub fn length_of(words: ColumnWords) -> u16
+    ensures { result ≡ words.second % 2 ^ 16 }
 {
-    (second % 0x1_0000) as u16
+    (words.second % 0x1_0000) as u16
 }
 
 // Whether a VarChar is the header of a LOB outside the row.
-pub fn is_header(first: u64) -> bool
-    ensures { result ≡ bit8000 (type_numbers first) }
+pub fn is_header(words: ColumnWords) -> bool
+    ensures { result ≡ bit8000 (type_numbers words.first) }
 {
-    0x8000 <= type_numbers(first)
+    0x8000 <= type_numbers(words)
 }
 
-fn other_named(rest: &[u8], first: u64, second: u64) -> usize
-    requires { NoNumber first }
-    ensures { (result ≡ need (extent_of (column_named first second)) rest.now) × (result ≤ most_need) }
+fn other_named(rest: &[u8], words: ColumnWords) -> usize
+    requires { NoNumber words.first }
+    ensures { (result ≡ need (extent_of (column_named words.first words.second)) rest.now) × (result ≤ most_need) }
 {
-    let column = column_named(first, second);
-    other_need(rest, column)
+    other_need(rest, words.column())
 }
 
-fn var_char_need(rest: &[u8], first: u64, second: u64) -> usize
-    requires { first % 2 ^ 8 ≡ 8 }
-    ensures { (result ≡ need (extent_of (column_named first second)) rest.now) × (result ≤ most_need) }
+fn var_char_need(rest: &[u8], words: ColumnWords) -> usize
+    requires { words.first % 2 ^ 8 ≡ 8 }
+    ensures { (result ≡ need (extent_of (column_named words.first words.second)) rest.now) × (result ≤ most_need) }
 {
-    if is_header(first) {
-        return other_named(rest, first, second);
+    if is_header(words) {
+        return other_named(rest, words);
     }
     counted_need(1, rest)
 }
 
 // How many bytes a value takes that is there.
-fn value_need(rest: &[u8], first: u64, second: u64) -> usize
-    ensures { (result ≡ need (extent_of (column_named first second)) rest.now) × (result ≤ most_need) }
+fn value_need(rest: &[u8], words: ColumnWords) -> usize
+    ensures { (result ≡ need (extent_of (column_named words.first words.second)) rest.now) × (result ≤ most_need) }
 {
-    match first % 0x100 {
+    match words.first % 0x100 {
         tags::SMALL_INT => extents::SMALL_INT,
         tags::INTEGER => extents::INTEGER,
         tags::BIG_INT => extents::BIG_INT,
         tags::REAL => extents::REAL,
         tags::DOUBLE => extents::DOUBLE,
-        tags::DECIMAL => decimal_need(precision(first)),
-        tags::CHAR => type_numbers(first) as usize,
-        tags::VAR_CHAR => var_char_need(rest, first, second),
+        tags::DECIMAL => decimal_need(precision(words)),
+        tags::CHAR => type_numbers(words) as usize,
+        tags::VAR_CHAR => var_char_need(rest, words),
         tags::DATE => extents::DATE,
         tags::TIME => extents::TIME,
-        tags::TIMESTAMP => timestamp_need(length_of(second)),
-        _ => other_named(rest, first, second),
+        tags::TIMESTAMP => timestamp_need(length_of(words)),
+        _ => other_named(rest, words),
     }
 }
 
 // How many bytes the column takes, its indicator included.
-pub fn need_named(rest: &[u8], first: u64, second: u64) -> usize
-    ensures { result ≡ column_need (column_named first second) rest.now }
+pub fn need_named(rest: &[u8], words: ColumnWords) -> usize
+    ensures { result ≡ column_need (column_named words.first words.second) rest.now }
 {
-    let nullable = is_nullable(first);
+    let nullable = is_nullable(words);
     if is_null(rest, nullable) {
         return 1;
     }
     let from = lead(nullable);
-    let n = value_need(&rest[from..], first, second);
-    from + n
+    from + value_need(&rest[from..], words)
 }

@@ -1,4 +1,5 @@
 // A column's value written into its three words, and its text into the unwritten rest of the text buffer, by the column's two words.
+// What is handed on is what piece's other_write takes, and the place of the three words.
 ghost use Rattle.std.specs.Prelude.{◌≡◌, true, ◌+◌, ◌<◌, ◌≤◌, length};
 ghost use Rattle.refusal.specs.Refusal.{input_limit};
 ghost use Rattle.buffer.specs.Buffer.{overwritten};
@@ -18,15 +19,15 @@ use piece::items::text_start;
 use piece::marks::WORDS;
 use piece::{is_null, lead, other_write};
 use types::ValuePlace;
-use words::{type_of, value_words};
+use words::{ColumnWords, ValueWords, value_words};
 
-fn put_words(values: &mut [u64], at: usize, kind: u64, number: u64, len: u64)
+fn put_words(values: &mut [u64], at: usize, words: ValueWords)
     requires { at + 2 < length values.old }
-    ensures { values.new ≡ words_set values.old at kind number len }
+    ensures { values.new ≡ words_set values.old at words.kind words.number words.len }
 {
-    values[at] = kind;
-    values[at + 1] = number;
-    values[at + 2] = len;
+    values[at] = words.kind;
+    values[at + 1] = words.number;
+    values[at + 2] = words.len;
 }
 
 // Writes a value into its three words.
@@ -34,16 +35,14 @@ fn put_value(values: &mut [u64], at: usize, place: ValuePlace)
     requires { at + 2 < length values.old }
     ensures { values.new ≡ three_set values.old at place }
 {
-    let w = value_words(place);
-    put_words(values, at, w.kind, w.number, w.len);
+    put_words(values, at, value_words(place));
 }
 
 // Writes a value that is there, whose first byte is at place `at` of the input.
 fn put_there(
     rest: &[u8],
     at: usize,
-    first: u64,
-    second: u64,
+    words: ColumnWords,
     release: u32,
     marks: &[u64; WORDS],
     k: usize,
@@ -52,25 +51,24 @@ fn put_there(
     values: &mut [u64],
     place: usize,
 ) -> Taken
-    requires there { need (extent_of (column_named first second)) rest.now ≤ length rest.now }
+    requires there { need (extent_of (column_named words.first words.second)) rest.now ≤ length rest.now }
     requires limit { at + length rest.now ≤ input_limit }
-    requires room { length (value_text release (column_named first second) rest.now) ≤ length out.old }
+    requires room { length (value_text release (column_named words.first words.second) rest.now) ≤ length out.old }
     requires words { place + 2 < length values.old }
-    requires plain { (k < 768) × (mark_at marks.now k ≡ true → PlainCell release (value_in (column_named first second) at rest.now)) }
-    ensures used { result.used ≡ need (extent_of (column_named first second)) rest.now }
-    ensures count { result.written ≡ length (value_text release (column_named first second) rest.now) }
-    ensures bytes { out.new ≡ overwritten (value_text release (column_named first second) rest.now) out.old }
-    ensures values { values.new ≡ three_set values.old place (cell_value (conversions_of release) (value_in (column_named first second) at rest.now) next) }
-    ensures replaced { result.replaced ≡ value_replaced release (column_named first second) rest.now }
+    requires plain { (k < 768) × (mark_at marks.now k ≡ true → PlainCell release (value_in (column_named words.first words.second) at rest.now)) }
+    ensures used { result.used ≡ need (extent_of (column_named words.first words.second)) rest.now }
+    ensures count { result.written ≡ length (value_text release (column_named words.first words.second) rest.now) }
+    ensures bytes { out.new ≡ overwritten (value_text release (column_named words.first words.second) rest.now) out.old }
+    ensures values { values.new ≡ three_set values.old place (cell_value (conversions_of release) (value_in (column_named words.first words.second) at rest.now) next) }
+    ensures replaced { result.replaced ≡ value_replaced release (column_named words.first words.second) rest.now }
 {
-    if first % 0x100 < 5 {
-        let v = decode_number(rest, first);
-        let value = v.value;
+    if words.first % 0x100 < 5 {
+        let v = decode_number(rest, words);
         put_value(
             values,
             place,
             ValuePlace {
-                value,
+                value: v.value,
                 external: false,
             },
         );
@@ -80,11 +78,10 @@ fn put_there(
             replaced: 0,
         };
     }
-    let from = text_start(type_of(first));
-    let d = decode_other(rest, first, second);
+    let from = text_start(words.db2_type());
+    let d = decode_other(rest, words);
     let p = other_write(d, release, from, rest, at, marks, k, next, out);
-    let found = p.place;
-    put_value(values, place, found);
+    put_value(values, place, p.place);
     Taken {
         used: p.used,
         written: p.written,
@@ -98,8 +95,7 @@ fn put_there(
 pub fn put_column(
     rest: &[u8],
     at: usize,
-    first: u64,
-    second: u64,
+    words: ColumnWords,
     release: u32,
     marks: &[u64; WORDS],
     k: usize,
@@ -108,20 +104,25 @@ pub fn put_column(
     values: &mut [u64],
     place: usize,
 ) -> Taken
-    requires there { column_need (column_named first second) rest.now ≤ length rest.now }
+    requires there { column_need (column_named words.first words.second) rest.now ≤ length rest.now }
     requires limit { at + length rest.now ≤ input_limit }
-    requires room { length (cell_text release (column_named first second) rest.now) ≤ length out.old }
+    requires room { length (cell_text release (column_named words.first words.second) rest.now) ≤ length out.old }
     requires words { place + 2 < length values.old }
-    requires plain { (k < 768) × (mark_at marks.now k ≡ true → PlainCell release (cell_in (column_named first second) at rest.now)) }
-    ensures used { result.used ≡ column_need (column_named first second) rest.now }
-    ensures count { result.written ≡ length (cell_text release (column_named first second) rest.now) }
-    ensures bytes { out.new ≡ overwritten (cell_text release (column_named first second) rest.now) out.old }
-    ensures values { values.new ≡ three_set values.old place (cell_value (conversions_of release) (cell_in (column_named first second) at rest.now) next) }
-    ensures replaced { result.replaced ≡ cell_replaced release (column_named first second) rest.now }
+    requires plain { (k < 768) × (mark_at marks.now k ≡ true → PlainCell release (cell_in (column_named words.first words.second) at rest.now)) }
+    ensures used { result.used ≡ column_need (column_named words.first words.second) rest.now }
+    ensures count { result.written ≡ length (cell_text release (column_named words.first words.second) rest.now) }
+    ensures bytes { out.new ≡ overwritten (cell_text release (column_named words.first words.second) rest.now) out.old }
+    ensures values { values.new ≡ three_set values.old place (cell_value (conversions_of release) (cell_in (column_named words.first words.second) at rest.now) next) }
+    ensures replaced { result.replaced ≡ cell_replaced release (column_named words.first words.second) rest.now }
 {
-    let nullable = is_nullable(first);
+    let nullable = is_nullable(words);
     if is_null(rest, nullable) {
-        put_words(values, place, 0, 0, 0);
+        let null = ValueWords {
+            kind: 0,
+            number: 0,
+            len: 0,
+        };
+        put_words(values, place, null);
         return Taken {
             used: 1,
             written: 0,
@@ -132,8 +133,7 @@ pub fn put_column(
     let t = put_there(
         &rest[from..],
         at + from,
-        first,
-        second,
+        words,
         release,
         marks,
         k,
@@ -142,9 +142,8 @@ pub fn put_column(
         values,
         place,
     );
-    let used = from + t.used;
     Taken {
-        used,
+        used: from + t.used,
         written: t.written,
         replaced: t.replaced,
     }

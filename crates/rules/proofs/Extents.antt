@@ -2,6 +2,7 @@
 --     Stays    bytes added behind a value that is there change nothing. It holds of an extent that ends itself.
 --     Cuts     bytes taken away behind a value that is there change nothing. It holds of every extent.
 -- Assumes nothing.
+use Rattle.std.specs.Prelude.{None, Option, Some}
 use Prim.Native.Nat.{ℕ, ◌+◌, ◌*◌, ◌-◌, ◌≤◌, ◌<◌}
 use mathlib.Core.Path.{◌≡◌, refl, sym, ap, ◌∙◌}
 use mathlib.Core.Bool.{Bool, true, false, cond, not, ◌&&◌, ◌||◌, true≢false, false≢true}
@@ -15,8 +16,6 @@ use borrow.Author.Tests.{le-leb, lt-leb, leb-true, leb-false, eqb-true, eq-eqb, 
 use Rattle.types.specs.declared.Db2Type.{Db2Type}
 use Rattle.types.specs.declared.Db2Type.TheVariants as type
 use Rattle.types.specs.declared.ByteOrder.TheVariants.{BigEndian}
-use Rattle.types.specs.declared.ReferenceLength.{ReferenceLength}
-use Rattle.types.specs.declared.ReferenceLength.TheVariants.{Absent, Width}
 use Rattle.types.specs.declared.ColumnDescriptor.{ColumnDescriptor}
 use Rattle.numbers.specs.Number.{unsigned}
 use Rattle.numbers.proofs.Laws.{take_first}
@@ -412,14 +411,14 @@ varying_exceptions : (b : Bool) (k unit : ℕ) → SameExceptions false false (b
 varying_exceptions true k unit = (refl, refl, refl)
 varying_exceptions false k unit = (refl, refl, refl)
 
-lob_exceptions : (r : ReferenceLength) (b : Bool) → SameExceptions false (is_absent r && b) false (lob_extent r (cond b Locator Inline))
-lob_exceptions (Width w) b = (refl, refl, refl)
-lob_exceptions Absent true = (refl, refl, refl)
-lob_exceptions Absent false = (refl, refl, refl)
+lob_exceptions : (r : Option ℕ) (b : Bool) → SameExceptions false (is_absent r && b) false (lob_extent r (cond b Locator Inline))
+lob_exceptions (Some w) b = (refl, refl, refl)
+lob_exceptions None true = (refl, refl, refl)
+lob_exceptions None false = (refl, refl, refl)
 
-xml_exceptions : (r : ReferenceLength) → SameExceptions false false false (lob_extent r Inline)
-xml_exceptions (Width w) = (refl, refl, refl)
-xml_exceptions Absent = (refl, refl, refl)
+xml_exceptions : (r : Option ℕ) → SameExceptions false false false (lob_extent r Inline)
+xml_exceptions (Some w) = (refl, refl, refl)
+xml_exceptions None = (refl, refl, refl)
 
 type_exceptions : (t : Db2Type) (c : ColumnDescriptor) → SameExceptions (is_long_materialized t) (is_lob_of_length0 t c) (is_tiny_header t) (type_extent t c)
 type_exceptions type.SmallInt c = (refl, refl, refl)
@@ -468,16 +467,16 @@ unfolding ends_itself
 header_ends true k unit e = le-leb 2 k (omega (arith, leb-false k 1 e))
 header_ends false k unit e = refl
 
-lob_ends : (r : ReferenceLength) (b : Bool) → ((is_absent r && b) || false) ≡ false → ends_itself (lob_extent r (cond b Locator Inline)) ≡ true
+lob_ends : (r : Option ℕ) (b : Bool) → ((is_absent r && b) || false) ≡ false → ends_itself (lob_extent r (cond b Locator Inline)) ≡ true
 unfolding ends_itself
-lob_ends (Width w) b e = refl
-lob_ends Absent true e = absurd (true≢false e)
-lob_ends Absent false e = refl
+lob_ends (Some w) b e = refl
+lob_ends None true e = absurd (true≢false e)
+lob_ends None false e = refl
 
-xml_ends : (r : ReferenceLength) → ends_itself (lob_extent r Inline) ≡ true
+xml_ends : (r : Option ℕ) → ends_itself (lob_extent r Inline) ≡ true
 unfolding ends_itself
-xml_ends (Width w) = refl
-xml_ends Absent = refl
+xml_ends (Some w) = refl
+xml_ends None = refl
 
 materialized_ends : (k : ℕ) → (leb 1024 k || false) ≡ false → ends_itself (Materialized k) ≡ true
 unfolding ends_itself

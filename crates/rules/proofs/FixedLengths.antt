@@ -3,7 +3,7 @@
 use Prim.Native.Nat.{ℕ}
 use mathlib.Core.Bool.{true, false, true≢false}
 use mathlib.Core.List.{List, [], ◌∷◌}
-use mathlib.Core.Option.{Option, some, none}
+use Rattle.std.specs.Prelude.{Option, Some, None}
 use mathlib.Core.Path.{◌≡◌, refl}
 use Rattle.types.specs.FixedLength.{packed_length, fixed_length}
 use Rattle.types.specs.Names.{named_in}
@@ -20,8 +20,8 @@ others = type.Graphic 0 ∷ type.Timestamp ∷ type.Boolean ∷ type.DecFloat 0 
 
 -- a fixed length is the extent's; of a type whose length varies nothing is said
 abbrev Agrees : Option ℕ → Extent → Type 0
-Agrees (some n) e = e ≡ Fixed n
-Agrees none e = Unit {0}
+Agrees (Some n) e = e ≡ Fixed n
+Agrees None e = Unit {0}
 
 type_agrees : (t : Db2Type) (c : ColumnDescriptor) → named_in others t ≡ false → Agrees (fixed_length t) (type_extent t c)
 type_agrees type.SmallInt c h = refl

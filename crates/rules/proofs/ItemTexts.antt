@@ -1,4 +1,5 @@
 -- What holds of every text that the conversions make holds of a value's text, whatever its type. Assumes nothing.
+use Rattle.std.specs.Prelude.{None, Option, Some}
 use Prim.Native.Nat.{ℕ}
 use mathlib.Core.Path.{◌≡◌, refl}
 use mathlib.Core.Bool.{Bool, true, false, cond, ◌||◌}
@@ -8,8 +9,6 @@ use lib.Dec.{eqb}
 use Rattle.buffer.specs.Buffer.{Converted, unreplaced}
 use Rattle.types.specs.declared.Db2Type.{Db2Type}
 use Rattle.types.specs.declared.Db2Type.TheVariants as type
-use Rattle.types.specs.declared.ReferenceLength.{ReferenceLength}
-use Rattle.types.specs.declared.ReferenceLength.TheVariants.{Absent, Width}
 use Rattle.types.specs.declared.ColumnDescriptor.{ColumnDescriptor}
 use Rattle.types.specs.Names.{bit8000, low15}
 use Rattle.rules.specs.Extent.{is_reference, is_short_reference, says_header}
@@ -57,10 +56,10 @@ module _ (L : Conversions) (T : Converted → Type 0) where
     of_inline_lem clobs = h.of_inline 4
     of_inline_lem xmls = h.of_inline 4
 
-    of_lob : (r : ReferenceLength) (located : Bool) (k : Lob) → TextOf T (lob_item L r located k s)
+    of_lob : (r : Option ℕ) (located : Bool) (k : Lob) → TextOf T (lob_item L r located k s)
     unfolding lob_item
-    of_lob (Width w) located k = picked (all_zero s || is_empty_reference s) _ _ (of_empty k) (of_reference k)
-    of_lob Absent located k =
+    of_lob (Some w) located k = picked (all_zero s || is_empty_reference s) _ _ (of_empty k) (of_reference k)
+    of_lob None located k =
         picked (is_reference s) _ _ (picked (all_zero (drop 1 s)) _ _ (of_empty k) (of_reference k)) (picked located _ _ (of_reference k) (of_inline_lem k))
 
     header_of : (b : Bool) → T (L.locator (cond b (drop 2 s) s))

@@ -1,4 +1,5 @@
 -- What each type's value is, as far as answers need it: of a sort that the type allows, and a part that lies within the value's own bytes. Assumes nothing.
+use Rattle.std.specs.Prelude.{None, Option, Some}
 use Prim.Native.Nat.{ℕ, ◌-◌, ◌≤◌}
 use mathlib.Core.Path.{◌≡◌, refl}
 use mathlib.Core.Bool.{Bool, true, false, cond, ◌||◌}
@@ -9,8 +10,6 @@ use lib.ListN.{length, drop}
 use lib.Dec.{eqb}
 use Rattle.types.specs.declared.Db2Type.{Db2Type}
 use Rattle.types.specs.declared.Db2Type.TheVariants as type
-use Rattle.types.specs.declared.ReferenceLength.{ReferenceLength}
-use Rattle.types.specs.declared.ReferenceLength.TheVariants.{Absent, Width}
 use Rattle.types.specs.declared.ColumnDescriptor.{ColumnDescriptor}
 use Rattle.types.specs.Names.{bit8000, low15, named_in}
 use Rattle.numbers.specs.Number.{Number}
@@ -73,10 +72,10 @@ module _ (L : Conversions) (ks : List Sort) (s : List ℕ) (N : Number → Type 
   abbrev Of : Item → Type 0
   Of = Item_of ks (length s) N Z
 
-  of_lob : (r : ReferenceLength) (b : Bool) (k : Lob) → Among ks (lob_sort k) → Item_of ks (length s) N Z (lob_item L r b k s)
+  of_lob : (r : Option ℕ) (b : Bool) (k : Lob) → Among ks (lob_sort k) → Item_of ks (length s) N Z (lob_item L r b k s)
   unfolding lob_item
-  of_lob (Width w) b k m = either Of (all_zero s || is_empty_reference s) (lob_empty k) (lob_reference L k s) (of_empty k m) (of_reference k m)
-  of_lob Absent b k m =
+  of_lob (Some w) b k m = either Of (all_zero s || is_empty_reference s) (lob_empty k) (lob_reference L k s) (of_empty k m) (of_reference k m)
+  of_lob None b k m =
       either Of (is_reference s) (cond (all_zero (drop 1 s)) (lob_empty k) (lob_reference L k s)) (cond b (lob_reference L k s) (lob_inline L k s))
       (either Of (all_zero (drop 1 s)) (lob_empty k) (lob_reference L k s) (of_empty k m) (of_reference k m))
       (either Of b (lob_reference L k s) (lob_inline L k s) (of_reference k m) (of_inline_lem k m))

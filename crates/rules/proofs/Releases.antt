@@ -1,4 +1,5 @@
 -- The laws of specs/Releases.antt: what the host's release changes of a row. Assumes nothing.
+use Rattle.std.specs.Prelude.{None, Option, Some}
 use Prim.Native.Nat.{ℕ, zero, suc, ◌%◌}
 use mathlib.Core.Path.{◌≡◌, refl, sym, ap, ◌∙◌}
 use mathlib.Core.Bool.{Bool, true, false, cond, not, ◌&&◌, ◌||◌, true≢false}
@@ -11,8 +12,6 @@ use Rattle.conversion.specs.Releases.{is_named, ccsid_by}
 use Rattle.conversion.proofs.Releases.{releases}
 use Rattle.types.specs.declared.Db2Type.{Db2Type}
 use Rattle.types.specs.declared.Db2Type.TheVariants as type
-use Rattle.types.specs.declared.ReferenceLength.{ReferenceLength}
-use Rattle.types.specs.declared.ReferenceLength.TheVariants.{Absent, Width}
 use Rattle.types.specs.declared.ColumnDescriptor.{ColumnDescriptor}
 use Rattle.types.specs.declared.Columns.{Columns}
 use Rattle.types.specs.Names.{named_in, bit8000, low15}
@@ -52,14 +51,14 @@ module _ (n m : ℕ) where
   reference_same clobs s = refl
   reference_same xmls s = refl
 
-  pub lob_same : (r : ReferenceLength) (located : Bool) (k : Lob) (s : List ℕ) → lob_item (conversions_of n) r located k s ≡ lob_item (conversions_of m) r located k s
+  pub lob_same : (r : Option ℕ) (located : Bool) (k : Lob) (s : List ℕ) → lob_item (conversions_of n) r located k s ≡ lob_item (conversions_of m) r located k s
   unfolding lob_item lob_reference lob_inline
-  lob_same (Width w) located blobs s = refl
-  lob_same (Width w) located clobs s = refl
-  lob_same (Width w) located xmls s = refl
-  lob_same Absent located blobs s = refl
-  lob_same Absent located clobs s = refl
-  lob_same Absent located xmls s = refl
+  lob_same (Some w) located blobs s = refl
+  lob_same (Some w) located clobs s = refl
+  lob_same (Some w) located xmls s = refl
+  lob_same None located blobs s = refl
+  lob_same None located clobs s = refl
+  lob_same None located xmls s = refl
 
   -- only without bit 8000 is there a text by CCSID
   varying_same : (k : ℕ) (x y : Converted) → (not (bit8000 k) ≡ true → x ≡ y) → (s : List ℕ) → varying_item (conversions_of n) k x s ≡ varying_item (conversions_of m) k y s

@@ -1,11 +1,10 @@
 -- Why the columns that W9 lists have no end of their own: for each exception of specs/OwnEnd.antt a row that a longer input changes. Assumes nothing.
-use Rattle.std.specs.Prelude.{ℕ, ◌≤◌, Bool, true, false, ◌≡◌, List, [], ◌∷◌, ◌++◌, length, take, replicate}
+use Rattle.std.specs.Prelude.{ℕ, ◌≤◌, Bool, true, false, ◌≡◌, List, [], ◌∷◌, ◌++◌, length, take, replicate, None}
 use Rattle.refusal.specs.Refusal.{input_limit}
 use Rattle.types.specs.declared.Db2Type.{Db2Type}
 use Rattle.types.specs.declared.Db2Type.TheVariants as type
 use Rattle.types.specs.declared.ByteOrder.TheVariants.{BigEndian}
 use Rattle.types.specs.declared.Origin.TheVariants.{Sda}
-use Rattle.types.specs.declared.ReferenceLength.TheVariants.{Absent}
 use Rattle.types.specs.declared.ColumnDescriptor.{ColumnDescriptor}
 use Rattle.types.specs.declared.Columns.{Columns}
 use Rattle.types.specs.Places.{column_list}
@@ -27,7 +26,7 @@ column_that nullable_too t n =
       ccsid = 1208;
       db2_type = t;
       byte_order = BigEndian;
-      extdta_reference_length = Absent;
+      extdta_reference_length = None;
     }
 
 abbrev pub column : Db2Type → ℕ → ColumnDescriptor

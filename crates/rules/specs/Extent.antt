@@ -1,14 +1,12 @@
 -- How many bytes a column's value takes, of the bytes of the row that are left: W3, W4 (the Rust: decode_column_value). Each type has one of six
 -- kinds of extent, and `need` is the number that the bytes at hand make of it: the value is there where `need` is at most their number. Else it is too short,
 -- with `need` and their number as the Rust's `expected` and `actual`. Assumes nothing.
-use Rattle.std.specs.Prelude.{ℕ, ◌+◌, ◌*◌, Bool, cond, ◌&&◌, ◌||◌, List, [], ◌∷◌, length, take, get_or, ltb, leb, eqb}
+use Rattle.std.specs.Prelude.{ℕ, ◌+◌, ◌*◌, Bool, cond, ◌&&◌, ◌||◌, List, [], ◌∷◌, length, take, get_or, ltb, leb, eqb, None, Option, Some}
 use Rattle.types.specs.FixedLength.{packed_length}
 use Rattle.types.specs.Names.{bit8000, low15, graphic_unit}
 use Rattle.types.specs.declared.Db2Type.{Db2Type}
 use Rattle.types.specs.declared.Db2Type.TheVariants as type
 use Rattle.types.specs.declared.ByteOrder.TheVariants.{BigEndian}
-use Rattle.types.specs.declared.ReferenceLength.{ReferenceLength}
-use Rattle.types.specs.declared.ReferenceLength.TheVariants.{Absent, Width}
 use Rattle.types.specs.declared.ColumnDescriptor.{ColumnDescriptor}
 use Rattle.numbers.specs.Number.{unsigned}
 use Rattle.rules.specs.declared.Extent.{Extent}
@@ -62,9 +60,9 @@ abbrev pub varying_extent : ℕ → ℕ → Extent
 varying_extent n unit = cond (bit8000 n) (Header (low15 n)) (Counted unit)
 
 -- a LOB with a reference length takes so many bytes
-abbrev pub lob_extent : ReferenceLength → Extent → Extent
-lob_extent (Width w) e = Fixed w
-lob_extent Absent e = e
+abbrev pub lob_extent : Option ℕ → Extent → Extent
+lob_extent (Some w) e = Fixed w
+lob_extent None e = e
 
 -- W6: of a Blob, Clob or DbClob, by the column's length
 abbrev pub length_extent : ℕ → Extent

@@ -2,12 +2,10 @@
 -- column_has_extdta_reference). The conversions of single values are a parameter: nothing that is proved of rows rests on which they are.
 -- specs/Conversions.antt has those of the row call. Where the Rust makes a test on the rest of the row, it is made here on the value's own bytes; proofs/Extents.antt
 -- has the laws that the two agree. Assumes nothing.
-use Rattle.std.specs.Prelude.{ℕ, ◌-◌, min, Bool, true, false, cond, not, ◌&&◌, ◌||◌, List, [], ◌∷◌, length, take, drop, eqb}
+use Rattle.std.specs.Prelude.{ℕ, ◌-◌, min, Bool, true, false, cond, not, ◌&&◌, ◌||◌, List, [], ◌∷◌, length, take, drop, eqb, None, Option, Some}
 use Rattle.types.specs.declared.Db2Type.{Db2Type}
 use Rattle.types.specs.declared.Db2Type.TheVariants as type
 use Rattle.types.specs.declared.ByteOrder.{ByteOrder}
-use Rattle.types.specs.declared.ReferenceLength.{ReferenceLength}
-use Rattle.types.specs.declared.ReferenceLength.TheVariants.{Absent, Width}
 use Rattle.types.specs.declared.ColumnDescriptor.{ColumnDescriptor}
 use Rattle.types.specs.Names.{own_numbers, bit8000, low15, named_in, is_absent}
 use Rattle.numbers.specs.Number.{Number}
@@ -104,9 +102,9 @@ module _ (L : Conversions) where
   undeclared_lob located k s =
       cond (is_reference s) (cond (all_zero (drop 1 s)) (lob_empty k) (lob_reference k s)) (cond located (lob_reference k s) (lob_inline k s))
 
-  unfoldable pub lob_item : ReferenceLength → Bool → Lob → List ℕ → Item
-  lob_item (Width w) located k s = declared_lob k s
-  lob_item Absent located k s = undeclared_lob located k s
+  unfoldable pub lob_item : Option ℕ → Bool → Lob → List ℕ → Item
+  lob_item (Some w) located k s = declared_lob k s
+  lob_item None located k s = undeclared_lob located k s
 
   unfoldable pub varying_item : ℕ → Converted → List ℕ → Item
   varying_item n converted s = cond (bit8000 n) (header_item s) (text var_char converted)

@@ -1,13 +1,14 @@
 -- The row call, what it answers and what it leaves in the text buffer: H1, H5, H7, refusals 3, 4, 5, 8 and 9. Assumes nothing.
-use Rattle.std.specs.Prelude.{ℕ, ◌+◌, Bool, false, cond, ◌||◌, List, [], ◌∷◌, ◌++◌, length, ltb, eqb}
-use Rattle.refusal.specs.Refusal.{Told, accepted, refused, told, input_limit}
+use Rattle.std.specs.Prelude.{ℕ, ◌+◌, Bool, false, cond, ◌||◌, List, [], ◌∷◌, ◌++◌, length, ltb, eqb, Result, Ok, Err}
+use Rattle.refusal.specs.declared.Refusal.{Refusal}
+use Rattle.refusal.specs.Refusal.{Told, accepted, refused, refusal_number, refusal_values, input_limit}
 use Rattle.buffer.specs.Buffer.{overwritten}
 use Rattle.types.specs.declared.Db2Value.{Db2Value}
 use Rattle.types.specs.declared.Place.{Place}
 use Rattle.types.specs.declared.ColumnDescriptor.{ColumnDescriptor}
 use Rattle.types.specs.declared.Columns.{Columns}
 use Rattle.types.specs.declared.ValuePlace.{ValuePlace}
-use Rattle.types.specs.declared.RowAnswer.{RowAnswer}
+use Rattle.types.specs.declared.Row.{Row}
 use Rattle.types.specs.Names.{is_dec_float}
 use Rattle.types.specs.Places.{max_columns, filled, blank_value}
 pub use Rattle.types.specs.Places.{covered}
@@ -20,9 +21,6 @@ pub record RowTold : Type 0 where
   pub places : List ValuePlace
   pub used : ℕ
   pub replaced : ℕ
-
-abbrev pub told_row : RowAnswer → RowTold
-told_row a = record { outcome = told a.outcome; places = a.places; used = a.used; replaced = a.replaced }
 
 -- ---- values with their places
 
@@ -129,6 +127,11 @@ module _ (L : Conversions) where
 -- H5, H7
 abbrev pub refused_row : ℕ → List ℕ → RowTold
 refused_row n vs = record { outcome = refused n vs; places = filled blank_value []; used = 0; replaced = 0 }
+
+-- the call's own answer, by the rules' numbers
+abbrev pub told_row : Result Row Refusal → RowTold
+told_row (Ok r) = record { outcome = accepted; places = r.places; used = r.used; replaced = r.replaced }
+told_row (Err r) = refused_row (refusal_number r) (refusal_values r)
 
 module _ (L : Conversions) where
   unfoldable pub answer_of : Decision → RowTold

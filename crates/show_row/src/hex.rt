@@ -1,12 +1,10 @@
 // Hexadecimal text, a byte of it at a time: two digits together are a byte; between bytes stand white space, `,` or `:`; `0x` may stand before them; from
 // `#` to the end of its line is a comment; a byte order mark may stand first. So what `xxd -p` prints is read. Offsets are not taken for bytes: a `:` stands
 // behind one byte, no digit stands alone, and a line does not begin with four to eight digits and go on with two.
-ghost use Rattle.std.specs.Prelude.{◌≤◌};
 
 // What can be wrong.
 #[derive(Clone, Copy)]
 pub enum Fault {
-    Nothing,
     // No digit, and nothing that may stand between bytes.
     NoDigit,
     // The second digit of a byte is not there.
@@ -15,314 +13,169 @@ pub enum Fault {
     Offset,
 }
 
-// Where the reading stands: the digit that waits for its second one; how many digits stand together before this place, and did at the line's beginning (at
-// most MANY are counted); which run of digits of its line that is (at most 3 are counted); whether a comment is read; and the place as people count it, from
-// 1. `byte` is what the last step made, if it made one.
+// What waits for a digit: nothing, a byte's first digit for its second one, or `0x` for a byte.
 #[derive(Clone, Copy)]
-pub struct Reading {
-    pub high: u8,
-    pub run: u8,
-    pub first: u8,
-    pub runs: u8,
-    pub is_comment: bool,
-    pub line: u64,
-    pub column: u64,
-    pub byte: u8,
-    pub is_made: bool,
-    pub fault: Fault,
+enum Waiting {
+    Nothing,
+    High(u8),
+    Prefix,
 }
 
-// No digit waits for its second one.
-const NONE: u8 = 16;
-
-// Nor does one, but behind `0x` one must come.
-const DUE: u8 = 17;
+// Where the reading stands: what waits for a digit; how many digits stand together before this place, and did at the line's beginning (at most MANY are
+// counted); which run of digits of its line that is (at most 3 are counted); whether a comment is read; and the place as people count it, from 1.
+#[derive(Clone, Copy)]
+pub struct Reading {
+    waiting: Waiting,
+    run: u8,
+    first: u8,
+    runs: u8,
+    is_comment: bool,
+    pub line: u64,
+    pub column: u64,
+}
 
 // More digits than an offset has.
 const MANY: u8 = 9;
 
-pub fn start() -> Reading {
-    Reading {
-        high: NONE,
-        run: 0,
-        first: 0,
-        runs: 0,
-        is_comment: false,
-        line: 1,
-        column: 1,
-        byte: 0,
-        is_made: false,
-        fault: Fault::Nothing,
-    }
-}
-
-// A byte of the text, by what it may be.
-#[derive(Clone, Copy)]
-enum Kind {
-    Digit(u8),
-    White,
-    LineEnd,
-    Comma,
-    Colon,
-    Hash,
-    Ex,
-    Other,
-}
-
-fn kind_of(b: u8) -> Kind {
-    match b {
-        b'0'..=b'9' => Kind::Digit(b - b'0'),
-        b'A'..=b'F' => Kind::Digit(b - b'A' + 10),
-        b'a'..=b'f' => Kind::Digit(b - b'a' + 10),
-        b' ' | b'\t' | b'\r' | 0x0B | 0x0C => Kind::White,
-        b'\n' => Kind::LineEnd,
-        b',' => Kind::Comma,
-        b':' => Kind::Colon,
-        b'#' => Kind::Hash,
-        b'x' | b'X' => Kind::Ex,
-        _ => Kind::Other,
-    }
-}
-
-// The place behind a byte of the text. A line has fewer bytes than 2 to the 64.
-fn behind(r: Reading) -> Reading {
-    let mut next = r;
-    next.column = std::num::wrapping_add_u64(r.column, 1);
-    next.is_made = false;
-    next.byte = 0;
-    next
-}
-
-fn at_line_end(r: Reading) -> Reading {
-    let mut next = behind(r);
-    next.line = std::num::wrapping_add_u64(r.line, 1);
-    next.column = 1;
-    next.run = 0;
-    next.first = 0;
-    next.runs = 0;
-    next.is_comment = false;
-    next
-}
-
-fn faulty(r: Reading, fault: Fault) -> Reading {
-    Reading {
-        high: r.high,
-        run: r.run,
-        first: r.first,
-        runs: r.runs,
-        is_comment: r.is_comment,
-        line: r.line,
-        column: r.column,
-        byte: 0,
-        is_made: false,
-        fault,
-    }
-}
-
-fn one_more(n: u8, most: u8) -> u8 {
-    if n < most {
-        return n + 1;
-    }
-    most
-}
-
-// Which run of the line a digit is in.
-fn runs_with(r: Reading) -> u8 {
-    if r.run == 0 {
-        return one_more(r.runs, 3);
-    }
-    r.runs
-}
-
-// How many digits the line begins with.
-fn first_with(r: Reading) -> u8 {
-    if runs_with(r) == 1 {
-        return one_more(r.run, MANY);
-    }
-    r.first
-}
-
-// The first digit of a byte, or its second.
-fn with_digit(r: Reading, d: u8) -> Reading {
-    let mut next = behind(r);
-    next.runs = runs_with(r);
-    next.first = first_with(r);
-    next.run = one_more(r.run, MANY);
-    if NONE <= r.high {
-        next.high = d;
-        return next;
-    }
-    next.byte = r.high % 16 * 16 + d % 16;
-    next.is_made = true;
-    next.high = NONE;
-    next
-}
-
 // Whether so many digits may be an offset.
 fn is_offset(digits: u8) -> bool {
-    if digits < 4 {
-        return false;
-    }
-    digits < MANY
-}
-
-// What the digits before this place are, at their end.
-fn fault_of_run(r: Reading) -> Fault {
-    if r.high == DUE {
-        return Fault::OneDigit;
-    }
-    if r.high < NONE {
-        if r.runs == 1 {
-            if is_offset(r.run) {
-                return Fault::Offset;
-            }
-        }
-        return Fault::OneDigit;
-    }
-    if r.runs == 2 {
-        if r.run == 2 {
-            if is_offset(r.first) {
-                return Fault::Offset;
-            }
-        }
-    }
-    Fault::Nothing
-}
-
-// At the end of a run of digits, or of no digit.
-fn ended(r: Reading) -> Reading {
-    faulty(r, fault_of_run(r))
-}
-
-// What stands between bytes.
-fn between(r: Reading) -> Reading {
-    let e = ended(r);
-    if !is_good(e) {
-        return e;
-    }
-    let mut next = behind(e);
-    next.run = 0;
-    next
-}
-
-fn with_colon(r: Reading) -> Reading {
-    if 2 < r.run {
-        return faulty(r, Fault::Offset);
-    }
-    between(r)
-}
-
-// The x of `0x`: a 0 waits, and no digit stands before that. The digits behind it are the line's first.
-fn with_ex(r: Reading) -> Reading {
-    if r.high != 0 {
-        return faulty(r, Fault::NoDigit);
-    }
-    if r.run != 1 {
-        return faulty(r, Fault::NoDigit);
-    }
-    let mut next = behind(r);
-    next.high = DUE;
-    next.run = 0;
-    next.runs = 0;
-    next
-}
-
-fn with_line_end(r: Reading) -> Reading {
-    let e = ended(r);
-    if !is_good(e) {
-        return e;
-    }
-    at_line_end(e)
-}
-
-fn with_hash(r: Reading) -> Reading {
-    let mut next = between(r);
-    next.is_comment = true;
-    next
+    (4..MANY).contains(&digits)
 }
 
 // The bytes of a byte order mark in UTF-8, which stand first.
-fn is_mark(column: u64, b: u8) -> bool {
-    match b {
-        0xEF => column == 1,
-        0xBB => column == 2,
-        0xBF => column == 3,
-        _ => false,
-    }
+fn is_mark(line: u64, column: u64, b: u8) -> bool {
+    matches!(
+        (line, column, b),
+        (1, 1, 0xEF) | (1, 2, 0xBB) | (1, 3, 0xBF)
+    )
 }
 
-fn with_other(r: Reading, b: u8) -> Reading {
-    if r.line == 1 {
-        if is_mark(r.column, b) {
-            return behind(r);
+impl Reading {
+    pub fn new() -> Self {
+        Reading {
+            waiting: Waiting::Nothing,
+            run: 0,
+            first: 0,
+            runs: 0,
+            is_comment: false,
+            line: 1,
+            column: 1,
         }
     }
-    faulty(r, Fault::NoDigit)
-}
 
-// Within a comment.
-fn passed(r: Reading, b: u8) -> Reading {
-    if b == b'\n' {
-        return at_line_end(r);
+    // The place behind a byte of the text. A line has fewer bytes than 2 to the 64.
+    fn pass(&mut self) {
+        self.column = self.column.wrapping_add(1);
     }
-    behind(r)
-}
 
-// Behind one more byte of the text.
-pub fn step(r: Reading, b: u8) -> Reading {
-    if r.is_comment {
-        return passed(r, b);
+    fn pass_line_end(&mut self) {
+        self.line = self.line.wrapping_add(1);
+        self.column = 1;
+        self.run = 0;
+        self.first = 0;
+        self.runs = 0;
+        self.is_comment = false;
     }
-    match kind_of(b) {
-        Kind::Digit(d) => with_digit(r, d),
-        Kind::White => between(r),
-        Kind::Comma => between(r),
-        Kind::LineEnd => with_line_end(r),
-        Kind::Colon => with_colon(r),
-        Kind::Hash => with_hash(r),
-        Kind::Ex => with_ex(r),
-        Kind::Other => with_other(r, b),
-    }
-}
 
-// At the end of the text.
-pub fn finish(r: Reading) -> Reading {
-    ended(r)
-}
-
-pub fn is_good(r: Reading) -> bool {
-    let fault = r.fault;
-    match fault {
-        Fault::Nothing => true,
-        _ => false,
+    // The first digit of a byte, or its second, with which the byte is made.
+    fn take_digit(&mut self, digit: u8) -> Option<u8> {
+        self.pass();
+        if self.run == 0 {
+            self.runs = self.runs.saturating_add(1).min(3);
+        }
+        self.run = self.run.saturating_add(1).min(MANY);
+        if self.runs == 1 {
+            self.first = self.run;
+        }
+        match self.waiting {
+            Waiting::High(high) => {
+                self.waiting = Waiting::Nothing;
+                Some((high << 4) | digit)
+            }
+            _ => {
+                self.waiting = Waiting::High(digit);
+                None
+            }
+        }
     }
-}
 
-// How many bytes the last step made.
-pub fn made(r: Reading) -> usize
-    ensures { result ≤ 1 }
-{
-    if r.is_made {
-        return 1;
+    // What the digits before this place are, at their end.
+    fn end_run(&self) -> Result<(), Fault> {
+        match self.waiting {
+            Waiting::Prefix => Err(Fault::OneDigit),
+            Waiting::High(_) if self.runs == 1 && is_offset(self.run) => Err(Fault::Offset),
+            Waiting::High(_) => Err(Fault::OneDigit),
+            Waiting::Nothing if self.runs == 2 && self.run == 2 && is_offset(self.first) => {
+                Err(Fault::Offset)
+            }
+            Waiting::Nothing => Ok(()),
+        }
     }
-    0
+
+    // What stands between bytes.
+    fn take_separator(&mut self) -> Result<(), Fault> {
+        self.end_run()?;
+        self.pass();
+        self.run = 0;
+        Ok(())
+    }
+
+    // The x of `0x`: a 0 waits, and no digit stands before that. The digits behind it are the line's first.
+    fn take_x(&mut self) -> Result<(), Fault> {
+        match (self.waiting, self.run) {
+            (Waiting::High(0), 1) => {
+                self.pass();
+                self.waiting = Waiting::Prefix;
+                self.run = 0;
+                self.runs = 0;
+                Ok(())
+            }
+            _ => Err(Fault::NoDigit),
+        }
+    }
+
+    // Goes on behind one more byte of the text, and answers the byte that it makes, if it makes one. A fault is at the place where the reading stands.
+    pub fn step(&mut self, b: u8) -> Result<Option<u8>, Fault> {
+        match b {
+            b'\n' if self.is_comment => self.pass_line_end(),
+            _ if self.is_comment => self.pass(),
+            b'0'..=b'9' => return Ok(self.take_digit(b - b'0')),
+            b'A'..=b'F' => return Ok(self.take_digit(b - b'A' + 10)),
+            b'a'..=b'f' => return Ok(self.take_digit(b - b'a' + 10)),
+            b' ' | b'\t' | b'\r' | 0x0B | 0x0C | b',' => self.take_separator()?,
+            b'\n' => {
+                self.end_run()?;
+                self.pass_line_end();
+            }
+            b':' if 2 < self.run => return Err(Fault::Offset),
+            b':' => self.take_separator()?,
+            b'#' => {
+                self.take_separator()?;
+                self.is_comment = true;
+            }
+            b'x' | b'X' => self.take_x()?,
+            _ if is_mark(self.line, self.column, b) => self.pass(),
+            _ => return Err(Fault::NoDigit),
+        }
+        Ok(None)
+    }
+
+    // At the end of the text.
+    pub fn finish(&self) -> Result<(), Fault> {
+        self.end_run()
+    }
 }
 
 // Whether a file's bytes are hexadecimal text of at least two bytes: whoever takes them for raw bytes has most likely forgotten to say so.
 pub fn looks_like_hex(s: &[u8]) -> bool {
-    let mut r = start();
+    let mut reading = Reading::new();
     let mut count: usize = 0;
-    let mut i: usize = 0;
-    while i < s.len() {
-        r = step(r, s[i]);
-        if !is_good(r) {
-            return false;
+    for &b in s {
+        match reading.step(b) {
+            Ok(Some(_)) => count = count.saturating_add(1),
+            Ok(None) => {}
+            Err(_) => return false,
         }
-        count = std::num::wrapping_add_usize(count, made(r));
-        i += 1;
     }
-    if !is_good(finish(r)) {
-        return false;
-    }
-    2 <= count
+    reading.finish().is_ok() && 2 <= count
 }

@@ -7,19 +7,16 @@
 mod hex;
 mod load;
 
-ghost use Rattle.std.specs.Prelude.{◌≤◌};
+ghost use Rattle.std.specs.Prelude.{◌≤◌, IfSome};
 
-use check::same;
-use load::{Loaded, load};
-use qrydsc::Description;
-use refusal::Outcome;
+use load::load;
+use qrydsc::{Description, parse_qrydsc};
 use std::env::{Env, FillError};
 use tables::columns::show_columns;
 use tables::description_warnings::{warn_of_description, warn_of_rows};
 use tables::refusals::{show_refused_description, show_refused_row};
 use tables::row_warnings::{warn_of_beginning, warn_of_values};
 use tables::values::show_values;
-use types::Columns;
 
 // A byte more than the library takes: so a longer file is refused by the library.
 const DESCRIPTION: usize = 65537;
@@ -33,18 +30,14 @@ const TEXT: usize = 3178752;
 fn is_word(rt: &HostRuntime, argument: usize, want: &[u8]) -> bool {
     let mut word = [0u8; 8];
     match rt.arg(argument, &mut word) {
-        Ok(n) => same(&word[..n], want),
+        Ok(n) => &word[..n] == want,
         Err(_) => false,
     }
 }
 
 // Whether there is an argument with this number.
 fn is_given(rt: &HostRuntime, argument: usize) -> bool {
-    let mut none = [0u8; 0];
-    match rt.arg(argument, &mut none) {
-        Err(FillError::NotPresent) => false,
-        _ => true,
-    }
+    !matches!(rt.arg(argument, &mut []), Err(FillError::NotPresent))
 }
 
 // The options: whether the files are hexadecimal text, the host's release, and which argument is the first file.
@@ -55,155 +48,98 @@ struct Options {
     first: usize,
 }
 
-// The host's release that an argument says, 0 where it says none.
-fn release_of(rt: &HostRuntime, argument: usize) -> u32 {
+// The host's release that an argument says.
+fn release_of(rt: &HostRuntime, argument: usize) -> Option<u32> {
     if is_word(rt, argument, b"2") {
-        return 2;
+        return Some(2);
     }
     if is_word(rt, argument, b"3") {
-        return 3;
+        return Some(3);
     }
-    0
+    None
 }
 
-// The release, where an argument is -r; 2 where it is none.
-fn with_release(rt: &HostRuntime, is_hex: bool, at: usize) -> Options
-    requires { at ≤ 2 }
-    ensures { result.first ≤ 4 }
+// None where -r names no release.
+fn read_options(rt: &HostRuntime) -> Option<Options>
+    ensures { IfSome result (λ options. options.first ≤ 4) }
 {
-    if is_word(rt, at, b"-r") {
-        return Options {
+    let is_hex = is_word(rt, 1, b"-x");
+    let at = if is_hex { 2 } else { 1 };
+    if !is_word(rt, at, b"-r") {
+        return Some(Options {
             is_hex,
-            release: release_of(rt, at + 1),
-            first: at + 2,
-        };
+            release: 2,
+            first: at,
+        });
     }
-    Options {
+    Some(Options {
         is_hex,
-        release: 2,
-        first: at,
-    }
-}
-
-fn read_options(rt: &HostRuntime) -> Options
-    ensures { result.first ≤ 4 }
-{
-    if is_word(rt, 1, b"-x") {
-        return with_release(rt, true, 2);
-    }
-    with_release(rt, false, 1)
+        release: release_of(rt, at + 1)?,
+        first: at + 2,
+    })
 }
 
 fn usage(rt: &HostRuntime) {
-    let _ = rt.stderr().write_all(
-        b"show-row: a wrong call; the program's own is show_row [-x] [-r RELEASE] DESCRIPTION [ROW], and the release is 2 or 3\n",
+    let err = rt.stderr();
+    let _ = println!(err;
+        "show-row: a wrong call; the program's own is show_row [-x] [-r RELEASE] DESCRIPTION [ROW], and the release is 2 or 3"
     );
 }
 
-fn show_description(rt: &HostRuntime, d: &Description) {
-    let out = rt.stdout();
-    let outcome = d.outcome;
-    match outcome {
-        Outcome::Accepted => show_columns(out, &d.columns),
-        Outcome::Refused(_) => show_refused_description(out, outcome),
+// Shows the columns of a description, or its refusal.
+fn show_description(rt: &HostRuntime, release: u32, description: &[u8]) {
+    let err = rt.stderr();
+    match parse_qrydsc(description) {
+        Ok(d) => {
+            show_columns(rt.stdout(), &d.columns);
+            warn_of_description(err, &d, description);
+            warn_of_rows(err, &d, release);
+        }
+        Err(refusal) => show_refused_description(rt.stdout(), refusal),
     }
 }
 
-fn show_row<'a>(
-    rt: &HostRuntime,
-    d: &Description,
-    release: u32,
-    row: &'a [u8],
-    text: &'a mut [u8],
-) {
-    let out = rt.stdout();
+// Shows the values of a row, or the refusal of the description or the row.
+fn show_row(rt: &HostRuntime, release: u32, description: &[u8], row: &[u8], text: &mut [u8]) {
+    match parse_qrydsc(description) {
+        Ok(d) => {
+            show_decoded(rt, &d, release, row, text);
+            warn_of_description(rt.stderr(), &d, description);
+        }
+        Err(refusal) => show_refused_description(rt.stdout(), refusal),
+    }
+}
+
+fn show_decoded(rt: &HostRuntime, d: &Description, release: u32, row: &[u8], text: &mut [u8]) {
     let err = rt.stderr();
     let columns = &d.columns;
     let answer = row::decode_row(row, *columns, release, text);
-    let outcome = answer.outcome;
-    match outcome {
-        Outcome::Accepted => show_values(out, columns, &answer, row, text),
-        Outcome::Refused(_) => show_refused_row(out, outcome, row, columns),
+    match &answer {
+        Ok(accepted) => show_values(rt.stdout(), columns, accepted, row, text),
+        Err(refusal) => show_refused_row(rt.stdout(), *refusal, row, columns),
     }
     warn_of_beginning(err, row);
-    warn_of_values(
-        err,
-        columns,
-        row,
-        release,
-        outcome.number(),
-        answer.used,
-        answer.replaced,
-        text,
-    );
+    warn_of_values(err, columns, row, release, &answer, text);
 }
 
-// Reads and parses the description; nothing where it can't be read.
-fn with_description(rt: &HostRuntime, o: Options, description: &mut [u8]) {
-    let Loaded::Bytes(n) = load(rt, o.first, o.is_hex, description) else {
-        return;
-    };
-    // What load promises; asked again here, it needs no proof.
-    if description.len() < n {
-        return;
-    }
-    let d = qrydsc::parse_qrydsc(&description[0..n]);
-    let err = rt.stderr();
-    show_description(rt, &d);
-    warn_of_description(err, &d, &description[0..n]);
-    warn_of_rows(err, &d, o.release);
-}
-
-fn with_row(
-    rt: &HostRuntime,
-    o: Options,
-    second: usize,
-    description: &mut [u8],
-    row: &mut [u8],
-    text: &mut [u8],
-) {
-    let Loaded::Bytes(n) = load(rt, o.first, o.is_hex, description) else {
-        return;
-    };
-    if description.len() < n {
-        return;
-    }
-    let d = qrydsc::parse_qrydsc(&description[0..n]);
-    let Loaded::Bytes(m) = load(rt, second, o.is_hex, row) else {
-        return;
-    };
-    if row.len() < m {
-        return;
-    }
-    let outcome = d.outcome;
-    if outcome.number() != 0 {
-        show_description(rt, &d);
-        return;
-    }
-    show_row(rt, &d, o.release, &row[0..m], text);
-    warn_of_description(rt.stderr(), &d, &description[0..n]);
-}
-
+// Nothing is shown where a file can't be read.
 fn run(rt: &HostRuntime, description: &mut [u8], row: &mut [u8], text: &mut [u8]) {
-    let o = read_options(rt);
+    let Some(o) = read_options(rt) else {
+        return usage(rt);
+    };
     let second = o.first + 1;
-    if o.release == 0 {
-        usage(rt);
-        return;
+    if !is_given(rt, o.first) || is_given(rt, second + 1) {
+        return usage(rt);
     }
-    if !is_given(rt, o.first) {
-        usage(rt);
+    let Some(description) = load(rt, o.first, o.is_hex, description) else {
         return;
-    }
+    };
     if !is_given(rt, second) {
-        with_description(rt, o, description);
-        return;
+        return show_description(rt, o.release, description);
     }
-    if !is_given(rt, second + 1) {
-        with_row(rt, o, second, description, row, text);
-        return;
+    if let Some(row) = load(rt, second, o.is_hex, row) {
+        show_row(rt, o.release, description, row, text);
     }
-    usage(rt);
 }
 
 fn main(rt: HostRuntime) {

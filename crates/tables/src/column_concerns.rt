@@ -1,189 +1,102 @@
 // What the description says of a column that a warning goes by.
-use types::{ColumnDescriptor, Db2Type, FixedLength, Origin};
+use types::{ColumnDescriptor, Db2Type, Origin};
 
-// How the texts of a column are read, where they go by the CCSID.
-#[derive(Clone, Copy)]
+// How texts are read that go by the CCSID.
+#[derive(Clone, Copy, PartialEq, Eq)]
 pub enum Texts {
-    None,
     Characters,
     Graphics,
 }
 
 // Bit 8000 of a varying length: the value is a header, and no text by the CCSID.
-fn unless_header(n: u16, texts: Texts) -> Texts {
-    if 0x8000 <= n {
-        return Texts::None;
-    }
-    texts
+fn is_header(n: u16) -> bool {
+    0x8000 <= n
 }
 
-pub fn texts_of(t: Db2Type) -> Texts {
+// How the texts of a column are read, where they go by the CCSID.
+pub fn texts_of(t: Db2Type) -> Option<Texts> {
     match t {
-        Db2Type::Char(_) => Texts::Characters,
-        Db2Type::VarChar(n) => unless_header(n, Texts::Characters),
-        Db2Type::LongVarChar => Texts::Characters,
-        Db2Type::Date => Texts::Characters,
-        Db2Type::Time => Texts::Characters,
-        Db2Type::Timestamp => Texts::Characters,
-        Db2Type::LobBytes(_) => Texts::Characters,
-        Db2Type::LobChar(_) => Texts::Characters,
-        Db2Type::Graphic(_) => Texts::Graphics,
-        Db2Type::VarGraphic(n) => unless_header(n, Texts::Graphics),
-        _ => Texts::None,
+        Db2Type::VarChar(n) | Db2Type::VarGraphic(n) if is_header(n) => None,
+        Db2Type::Char(_)
+        | Db2Type::VarChar(_)
+        | Db2Type::LongVarChar
+        | Db2Type::Date
+        | Db2Type::Time
+        | Db2Type::Timestamp
+        | Db2Type::LobBytes(_)
+        | Db2Type::LobChar(_) => Some(Texts::Characters),
+        Db2Type::Graphic(_) | Db2Type::VarGraphic(_) => Some(Texts::Graphics),
+        _ => None,
     }
 }
 
 pub fn is_utf16(ccsid: u16) -> bool {
-    match ccsid {
-        1200 | 13488 => true,
-        _ => false,
-    }
+    matches!(ccsid, 1200 | 13488)
 }
 
 pub fn is_named(ccsid: u16) -> bool {
-    match ccsid {
-        37 | 500 | 819 | 1208 => true,
-        _ => false,
-    }
-}
-
-fn is_named_graphic(ccsid: u16) -> bool {
-    if is_utf16(ccsid) {
-        return true;
-    }
-    is_named(ccsid)
+    matches!(ccsid, 37 | 500 | 819 | 1208)
 }
 
 // Whether no conversion is known for the CCSID of the column's texts.
 pub fn is_unnamed(column: ColumnDescriptor) -> bool {
-    let t = column.db2_type;
-    match texts_of(t) {
-        Texts::Characters => !is_named(column.ccsid),
-        Texts::Graphics => !is_named_graphic(column.ccsid),
-        Texts::None => false,
+    match texts_of(column.db2_type) {
+        Some(Texts::Characters) => !is_named(column.ccsid),
+        Some(Texts::Graphics) => !is_utf16(column.ccsid) && !is_named(column.ccsid),
+        None => false,
     }
 }
 
 pub fn is_page_500(column: ColumnDescriptor) -> bool {
-    if column.ccsid != 500 {
-        return false;
-    }
-    let t = column.db2_type;
-    match texts_of(t) {
-        Texts::None => false,
-        _ => true,
-    }
+    column.ccsid == 500 && texts_of(column.db2_type).is_some()
 }
 
-// 0 says nothing of a code page.
-fn is_other_page(ccsid: u16) -> bool {
-    match ccsid {
-        0 | 1208 => false,
-        _ => true,
-    }
-}
-
-// A DbClob's characters have two bytes each.
+// 0 says nothing of a code page. A DbClob's characters have two bytes each.
 pub fn is_other_lob(column: ColumnDescriptor) -> bool {
-    let t = column.db2_type;
-    match t {
-        Db2Type::Clob => is_other_page(column.ccsid),
-        Db2Type::Xml => is_other_page(column.ccsid),
+    match column.db2_type {
+        Db2Type::Clob | Db2Type::Xml => !matches!(column.ccsid, 0 | 1208),
         Db2Type::DbClob => column.ccsid != 1208,
         _ => false,
     }
 }
 
 pub fn is_bit_data(code: u8) -> bool {
-    match code {
-        0x26..=0x2B => true,
-        _ => false,
-    }
-}
-
-fn is_var_char_code(code: u8) -> bool {
-    match code {
-        0x32 | 0x33 => true,
-        _ => is_bit_data(code),
-    }
+    matches!(code, 0x26..=0x2B)
 }
 
 // Codes that are not known become a VarChar, with two bytes of length.
 pub fn is_taken_for_var_char(column: ColumnDescriptor) -> bool {
-    let t = column.db2_type;
-    match t {
-        Db2Type::VarChar(_) => !is_var_char_code(column.drda_type),
-        _ => false,
-    }
-}
-
-fn is_float_or_decimal(code: u8) -> bool {
-    match code {
-        0x0A..=0x0F => true,
-        _ => false,
-    }
+    let code = column.drda_type;
+    matches!(column.db2_type, Db2Type::VarChar(_))
+        && !matches!(code, 0x32 | 0x33)
+        && !is_bit_data(code)
 }
 
 // Of a LID that is not declared the three codes are DRDA's own.
 pub fn is_other_number(column: ColumnDescriptor) -> bool {
-    let origin = column.origin;
-    match origin {
-        Origin::UndeclaredLid => false,
-        _ => is_float_or_decimal(column.drda_type),
-    }
-}
-
-fn is_graphic_code(code: u8) -> bool {
-    match code {
-        0x36..=0x3B => true,
-        _ => false,
-    }
+    column.origin != Origin::UndeclaredLid && matches!(column.drda_type, 0x0A..=0x0F)
 }
 
 // DRDA's lengths of graphics count characters of two bytes.
 pub fn is_byte_counted(column: ColumnDescriptor) -> bool {
-    if !is_graphic_code(column.drda_type) {
-        return false;
-    }
-    let t = column.db2_type;
-    match texts_of(t) {
-        Texts::Graphics => !column.graphic_length_is_character_count(),
-        _ => false,
-    }
+    matches!(column.drda_type, 0x36..=0x3B)
+        && texts_of(column.db2_type) == Some(Texts::Graphics)
+        && !column.graphic_length_is_character_count()
 }
 
-fn is_number(t: Db2Type) -> bool {
-    match t {
-        Db2Type::SmallInt => true,
-        Db2Type::Integer => true,
-        Db2Type::BigInt => true,
-        Db2Type::Real => true,
-        Db2Type::Double => true,
-        _ => false,
-    }
-}
-
-// A length of 0 may be one that is not stated.
+// Of a number. A length of 0 may be one that is not stated.
 pub fn is_length_odd(column: ColumnDescriptor) -> bool {
-    let t = column.db2_type;
-    if !is_number(t) {
-        return false;
-    }
-    if column.length == 0 {
-        return false;
-    }
-    match t.fixed_length() {
-        FixedLength::Bytes(n) => n != column.length as usize,
-        FixedLength::Varies => false,
+    match column.db2_type {
+        Db2Type::SmallInt | Db2Type::Integer | Db2Type::BigInt | Db2Type::Real | Db2Type::Double =>
+            {
+                let length = usize::from(column.length);
+                length != 0 && column.db2_type.fixed_length().is_some_and(|n| n != length)
+            }
+        _ => false,
     }
 }
 
 // Of 50 and 51 as many bytes are read as the description says.
 pub fn is_unmeasured(column: ColumnDescriptor) -> bool {
-    let t = column.db2_type;
-    match t {
-        Db2Type::LobBytes(_) => true,
-        Db2Type::LobChar(_) => true,
-        _ => false,
-    }
+    matches!(column.db2_type, Db2Type::LobBytes(_) | Db2Type::LobChar(_))
 }

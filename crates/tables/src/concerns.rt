@@ -7,6 +7,7 @@ use crate::value_concerns::{
     is_all_at, is_guessed_as, is_guessed_at, is_longer, is_odd_decimal, is_odd_indicator,
     is_unnamed_text,
 };
+use std::fmt;
 use types::ColumnDescriptor;
 
 #[derive(Clone, Copy)]
@@ -47,27 +48,80 @@ pub enum Concern {
     Packed,
 }
 
-// Without a row the column's part of it is empty.
-pub fn is_concerned(concern: Concern, column: ColumnDescriptor, part: &[u8]) -> bool {
-    match concern {
-        Concern::WillBeGuessed => is_unnamed(column),
-        Concern::WillBe037 => is_unnamed(column),
-        Concern::As037 => is_page_500(column),
-        Concern::LobText => is_other_lob(column),
-        Concern::BitData => is_bit_data(column.drda_type),
-        Concern::TakenForVarChar => is_taken_for_var_char(column),
-        Concern::OtherNumber => is_other_number(column),
-        Concern::ByteCounted => is_byte_counted(column),
-        Concern::Length => is_length_odd(column),
-        Concern::Unmeasured => is_unmeasured(column),
-        Concern::DecFloat => column.is_dec_float(),
-        Concern::ReadAsAscii => is_guessed_as(column, part, false),
-        Concern::ReadAs037 => is_guessed_as(column, part, true),
-        Concern::GuessedAt => is_guessed_at(column, part),
-        Concern::Unnamed => is_unnamed_text(column, part),
-        Concern::AllAt => is_all_at(column, part),
-        Concern::Longer => is_longer(column, part),
-        Concern::Indicator => is_odd_indicator(column.nullable, part),
-        Concern::Packed => is_odd_decimal(column, part),
+impl Concern {
+    // Whether it is one of this column, whose part of the row is empty where there is no row.
+    pub fn is_of(self, column: ColumnDescriptor, part: &[u8]) -> bool {
+        match self {
+            Concern::WillBeGuessed | Concern::WillBe037 => is_unnamed(column),
+            Concern::As037 => is_page_500(column),
+            Concern::LobText => is_other_lob(column),
+            Concern::BitData => is_bit_data(column.drda_type),
+            Concern::TakenForVarChar => is_taken_for_var_char(column),
+            Concern::OtherNumber => is_other_number(column),
+            Concern::ByteCounted => is_byte_counted(column),
+            Concern::Length => is_length_odd(column),
+            Concern::Unmeasured => is_unmeasured(column),
+            Concern::DecFloat => column.is_dec_float(),
+            Concern::ReadAsAscii => is_guessed_as(column, part, false),
+            Concern::ReadAs037 => is_guessed_as(column, part, true),
+            Concern::GuessedAt => is_guessed_at(column, part),
+            Concern::Unnamed => is_unnamed_text(column, part),
+            Concern::AllAt => is_all_at(column, part),
+            Concern::Longer => is_longer(column, part),
+            Concern::Indicator => is_odd_indicator(column.nullable, part),
+            Concern::Packed => is_odd_decimal(column, part),
+        }
+    }
+}
+
+impl fmt::Display for Concern {
+    fn fmt<W: fmt::Write>(&self, f: &mut fmt::Formatter<W>) -> fmt::Result {
+        f.write_str(match self {
+            Concern::WillBeGuessed => {
+                "no CCSID is declared, or none that is known, so that texts will be guessed at"
+            }
+            Concern::WillBe037 => {
+                "no CCSID is declared, or none that is known, so that texts will be read as code page 037, at release 3"
+            }
+            Concern::As037 => {
+                "CCSID 500 is read as code page 037, which has other characters at 4A 4F 5A 5F B0 BA BB"
+            }
+            Concern::LobText => "the text of a LOB is read as UTF-8, whatever its CCSID",
+            Concern::BitData => "bit data are read as a text",
+            Concern::TakenForVarChar => {
+                "the type code is not VARCHAR's, and is read as VarChar, with two bytes of length"
+            }
+            Concern::OtherNumber => {
+                "0A, 0C and 0E are read as Real, Decimal and Double where DRDA has FLOAT8, FLOAT4 and DECIMAL"
+            }
+            Concern::ByteCounted => {
+                "the lengths of GRAPHIC and VARGRAPHIC are taken as bytes, where DRDA counts characters"
+            }
+            Concern::Length => "the description says another length than the type has",
+            Concern::Unmeasured => {
+                "50 and 51 are read as LobBytes and LobChar, without two bytes of length"
+            }
+            Concern::DecFloat => "rows with a DecFloat column are refused, by 5",
+            Concern::ReadAsAscii => {
+                "no CCSID is declared, or none that is known, and the text is taken for ASCII"
+            }
+            Concern::ReadAs037 => {
+                "no CCSID is declared, or none that is known, and the text is taken for code page 037, since it is no ASCII"
+            }
+            Concern::GuessedAt => {
+                "the text is nothing but @, which is a blank in EBCDIC; with -r 3 it is read so"
+            }
+            Concern::Unnamed => {
+                "no CCSID is declared, or none that is known, and the text is read as code page 037, at release 3"
+            }
+            Concern::AllAt => "the text is nothing but @, which is a blank in EBCDIC",
+            Concern::Longer => "the value is longer than the description says",
+            Concern::Indicator => {
+                "the indicator is neither 00 nor FF, and a value is read behind it"
+            }
+            Concern::Packed => {
+                "the packed decimal has a digit above 9, or a sign other than A, C, D, E and F"
+            }
+        })
     }
 }

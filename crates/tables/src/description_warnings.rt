@@ -1,126 +1,103 @@
 // What a description alone warns of: no columns, columns that may be missing, and columns whose values may be others than the host's.
 use crate::concerns::Concern;
 use crate::headers::warn_header;
-use crate::triplet_list::{Lack, Listed, listed_triplets};
-use crate::warnings::{warn_columns, warning};
-use printing::Line;
+use crate::triplet_list::{Lack, lacking};
+use crate::warnings::{warn, warn_columns};
+use printing::ByteCount;
 use qrydsc::Description;
+use std::fmt;
 use std::io::Stderr;
 
-fn warn_no_columns(err: Stderr, count: usize) {
-    if count == 0 {
-        warning(err)
-            .text(b"the description has no columns")
-            .end()
-            .flush();
-    }
-}
-
 // Where the description breaks off, after how many of its bytes.
-fn warn_broken_off(err: Stderr, broken_off: bool, description: &[u8]) {
-    if !broken_off {
-        return;
-    }
-    let end = triplets::outer_end(description, 0);
-    warning(err)
-        .text(b"the description breaks off after ")
-        .byte_count(end as u64)
-        .text(b" of ")
-        .decimal(description.len() as u64)
-        .text(b": columns may be missing")
-        .end()
-        .flush();
+fn warn_broken_off(err: Stderr, description: &[u8]) {
+    let read = ByteCount(triplets::outer_end(description, 0));
+    let count = description.len();
+    warn(
+        err,
+        format_args!("the description breaks off after {read} of {count}: columns may be missing"),
+    );
 }
 
-fn counted(line: Line, count: u64) -> Line {
-    if count == 1 {
-        return line.text(b"1 triplet of the description");
+// A number of triplets.
+#[derive(Clone, Copy)]
+struct Triplets(usize);
+
+impl fmt::Display for Triplets {
+    fn fmt<W: fmt::Write>(&self, f: &mut fmt::Formatter<W>) -> fmt::Result {
+        match self.0 {
+            1 => f.write_str("1 triplet of the description"),
+            n => write!(f, "{n} triplets of the description"),
+        }
     }
-    line.decimal(count).text(b" triplets of the description")
 }
 
-fn lack_name(line: Line, lack: Lack) -> Line {
-    match lack {
-        Lack::Continued => line.text(
-            b" of type 7F, which continues the one before it, is not read: columns are missing",
-        ),
-        Lack::Unused => line.text(b" without a column: columns may be missing"),
-        Lack::LeftOver => line.text(
-            b" with bytes left over behind its columns: a column may be cut",
-        ),
+impl fmt::Display for Lack {
+    fn fmt<W: fmt::Write>(&self, f: &mut fmt::Formatter<W>) -> fmt::Result {
+        f.write_str(match self {
+            Lack::Continued => {
+                "of type 7F, which continues the one before it, is not read: columns are missing"
+            }
+            Lack::Unused => "without a column: columns may be missing",
+            Lack::LeftOver => "with bytes left over behind its columns: a column may be cut",
+        })
     }
 }
 
 // How many triplets lack something, and of the first where it begins and its type.
 fn warn_triplets(err: Stderr, lack: Lack, description: &[u8]) {
-    let found = listed_triplets(lack, description);
-    if found.count == 0 {
-        return;
+    if let Some((count, first)) = lacking(lack, description) {
+        let triplets = Triplets(count);
+        let start = first.start;
+        let kind = first.kind;
+        warn(
+            err,
+            format_args!("{triplets} {lack} (the first at byte {start}, of type {kind:02X})"),
+        );
     }
-    lack_name(counted(warning(err), found.count), lack)
-        .text(b" (the first at byte ")
-        .decimal(found.first as u64)
-        .text(b", of type ")
-        .hex_byte(found.kind)
-        .byte(b')')
-        .end()
-        .flush();
 }
 
-// A row begins so, and no description.
-fn warn_swapped(err: Stderr, description: &[u8]) {
-    if description.len() < 2 {
-        return;
-    }
-    if description[0] != 0xFF {
-        return;
-    }
-    if description[1] != 0 {
-        return;
-    }
-    warning(err)
-        .text(b"the description begins FF 00, as a row does")
-        .end()
-        .flush();
-}
-
-// What the description alone tells.
+// What the description alone tells, where it is accepted.
 pub fn warn_of_description(err: Stderr, d: &Description, description: &[u8]) {
-    let columns = &d.columns;
-    let outcome = d.outcome;
-    if outcome.number() != 0 {
-        return;
+    // A row begins so, and no description.
+    if description.starts_with(&[0xFF, 0x00]) {
+        warn(err, "the description begins FF 00, as a row does");
     }
-    warn_swapped(err, description);
-    warn_header(err, b"the description", description);
-    warn_no_columns(err, columns.count);
-    warn_broken_off(err, d.broken_off, description);
-    warn_triplets(err, Lack::Continued, description);
-    warn_triplets(err, Lack::Unused, description);
-    warn_triplets(err, Lack::LeftOver, description);
-    let none = [0u8; 0];
-    warn_columns(err, Concern::TakenForVarChar, columns, &none);
-    warn_columns(err, Concern::OtherNumber, columns, &none);
-    warn_columns(err, Concern::ByteCounted, columns, &none);
-    warn_columns(err, Concern::Length, columns, &none);
-    warn_columns(err, Concern::Unmeasured, columns, &none);
-    warn_columns(err, Concern::BitData, columns, &none);
-    warn_columns(err, Concern::As037, columns, &none);
-    warn_columns(err, Concern::LobText, columns, &none);
+    warn_header(err, "the description", description);
+    if d.columns.count == 0 {
+        warn(err, "the description has no columns");
+    }
+    if d.broken_off {
+        warn_broken_off(err, description);
+    }
+    for lack in [Lack::Continued, Lack::Unused, Lack::LeftOver] {
+        warn_triplets(err, lack, description);
+    }
+    let concerns = [
+        Concern::TakenForVarChar,
+        Concern::OtherNumber,
+        Concern::ByteCounted,
+        Concern::Length,
+        Concern::Unmeasured,
+        Concern::BitData,
+        Concern::As037,
+        Concern::LobText,
+    ];
+    for concern in concerns {
+        warn_columns(err, concern, &d.columns, &[]);
+    }
 }
 
 // How a host's release has texts read whose CCSID no conversion is known for.
 fn unnamed(release: u32) -> Concern {
-    if release == 2 {
-        return Concern::WillBeGuessed;
+    match release {
+        2 => Concern::WillBeGuessed,
+        _ => Concern::WillBe037,
     }
-    Concern::WillBe037
 }
 
 // What it tells of the rows to come, where there is none yet.
 pub fn warn_of_rows(err: Stderr, d: &Description, release: u32) {
-    let columns = &d.columns;
-    let none = [0u8; 0];
-    warn_columns(err, unnamed(release), columns, &none);
-    warn_columns(err, Concern::DecFloat, columns, &none);
+    for concern in [unnamed(release), Concern::DecFloat] {
+        warn_columns(err, concern, &d.columns, &[]);
+    }
 }

@@ -1,5 +1,6 @@
 // Inner. What the program show_row prints: the table of a description's columns, that of a row's values, a refusal as a line; and on standard error warnings
 // where a table may mislead. It reads no file, and decides nothing: a column's bytes are found by the function that the row call goes by.
+// Where the system takes no more of what is printed, the rest is passed over.
 #![tactic(auto)]
 
 mod column_concerns;
@@ -7,6 +8,7 @@ pub mod columns;
 mod concerns;
 pub mod description_warnings;
 mod headers;
+mod parts;
 pub mod refusals;
 pub mod row_warnings;
 mod status;

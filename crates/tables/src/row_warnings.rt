@@ -1,160 +1,115 @@
 // What a row warns of: how it begins, what follows it, and values that may be others than the host's.
 use crate::concerns::Concern;
 use crate::headers::warn_header;
-use crate::status::{is_status, with_state};
-use crate::warnings::{rest_at, warn_columns, warning, within};
-use piece::skip_of;
-use printing::Line;
+use crate::status::state_of;
+use crate::warnings::{warn, warn_columns};
+use printing::Hex;
+use refusal::Refusal;
 use std::io::Stderr;
-use types::Columns;
+use std::{fmt, io};
+use types::{Columns, Row};
 
-fn replaced_name(line: Line, replaced: usize) -> Line {
-    if replaced == 1 {
-        return line.text(b"1 character was not valid and was replaced by U+FFFD");
+// A number of characters that were replaced.
+#[derive(Clone, Copy)]
+struct Replaced(usize);
+
+impl fmt::Display for Replaced {
+    fn fmt<W: fmt::Write>(&self, f: &mut fmt::Formatter<W>) -> fmt::Result {
+        match self.0 {
+            1 => f.write_str("1 character was not valid and was replaced by U+FFFD"),
+            n => write!(
+                f,
+                "{n} characters were not valid and were replaced by U+FFFD"
+            ),
+        }
     }
-    line.decimal(replaced as u64)
-        .text(b" characters were not valid and were replaced by U+FFFD")
 }
 
-// How many characters were replaced, if any were, and in which columns: those with which the sum grows.
-fn warn_replaced(
+// How many characters were replaced, and in which columns: those with which the sum grows.
+fn list_replaced(
     err: Stderr,
     columns: &Columns,
     row: &[u8],
     release: u32,
     replaced: usize,
     text: &mut [u8],
-) {
-    if replaced == 0 {
-        return;
-    }
-    let count = columns.count;
+) -> io::Result<()> {
+    print!(err; "show-row: warning: {}: column", Replaced(replaced))?;
     let mut some = *columns;
-    let mut line = replaced_name(warning(err), replaced).text(b": column");
-    let mut sum: usize = 0;
-    let mut i: usize = 0;
-    while i < count {
-        let next = i + 1;
-        some.count = next;
-        let a = row::decode_row(row, some, release, text);
-        line = with_grown(line, sum, a.replaced, i);
-        sum = a.replaced;
-        i = next;
+    let mut sum = 0;
+    for i in 0..columns.count {
+        some.count = i + 1;
+        let after = match row::decode_row(row, some, release, text) {
+            Ok(answer) => answer.replaced,
+            Err(_) => 0,
+        };
+        if after != sum {
+            let separator = if sum == 0 { " " } else { ", " };
+            print!(err; "{separator}{i}")?;
+        }
+        sum = after;
     }
-    line.end().flush();
+    println!(err)
 }
 
-fn with_grown(line: Line, before: usize, after: usize, i: usize) -> Line {
-    if before == after {
-        return line;
-    }
-    if before == 0 {
-        return line.byte(b' ').decimal(i as u64);
-    }
-    line.text(b", ").decimal(i as u64)
-}
-
-// The two bytes skipped are FF 00 before a row of a host that sends them. Else they may be another thing.
-fn warn_skipped(err: Stderr, second: u8) {
-    if second == 0 {
-        return;
-    }
-    warning(err)
-        .text(b"the row begins FF ")
-        .hex_byte(second)
-        .text(b" where a host sends FF 00: it may be no row, or one without these two bytes")
-        .end()
-        .flush();
-}
-
-// Whether there was something to say.
-fn warn_status(err: Stderr, row: &[u8]) -> bool {
-    if !is_status(row) {
-        return false;
-    }
-    if row.len() < 10 {
-        return false;
-    }
-    with_state(
-        warning(err).text(b"this looks like a status (SQLCA) with SQLSTATE "),
-        &row[5..10],
-    )
-    .text(b", and not like a row")
-    .end()
-    .flush();
-    true
-}
-
-// Whether what follows a row can be the next one, which begins FF 00, or a status.
+// Behind a row that begins FF 00 comes the next one, which begins so too, or a status.
 fn can_follow(rest: &[u8]) -> bool {
-    if rest.len() == 0 {
-        return true;
+    match rest {
+        [] | [0xFF] => true,
+        [0xFF, second, ..] => *second == 0,
+        _ => state_of(rest).is_some(),
     }
-    if rest[0] != 0xFF {
-        return is_status(rest);
-    }
-    if rest.len() < 2 {
-        return true;
-    }
-    rest[1] == 0
 }
 
-// Where a row begins FF 00, so does the next.
 fn warn_rest(err: Stderr, row: &[u8], used: usize) {
-    if row.len() < 2 {
-        return;
+    let rest = row.get(used..).unwrap_or_default();
+    if row.starts_with(&[0xFF, 0x00]) && !can_follow(rest) {
+        let begun = Hex(rest.get(..2).unwrap_or(rest));
+        warn(
+            err,
+            format_args!(
+                "behind the row stands X'{begun}', and no next row (FF 00) and no status: the row may end elsewhere"
+            ),
+        );
     }
-    if skip_of(row) != 2 {
-        return;
-    }
-    if row[1] != 0 {
-        return;
-    }
-    let rest = rest_at(row, used);
-    if can_follow(rest) {
-        return;
-    }
-    warning(err)
-        .text(b"behind the row stands X'")
-        .hex_bytes(within(rest, 2))
-        .text(b"', and no next row (FF 00) and no status: the row may end elsewhere")
-        .end()
-        .flush();
 }
 
-// One byte alone is not skipped, and what does not begin FF has no such bytes.
+// The two bytes that are skipped are FF 00 before a row of a host that sends them. Else they may be another thing. One byte alone is not skipped, and what
+// does not begin FF has no such bytes.
 fn warn_first(err: Stderr, row: &[u8]) {
-    if row.len() == 0 {
-        return;
+    match row {
+        [] | [0xFF, 0x00, ..] => {}
+        [0xFF] => warn(
+            err,
+            "the row is FF alone: it may be the first byte of FF 00",
+        ),
+        [0xFF, second, ..] => warn(
+            err,
+            format_args!(
+                "the row begins FF {second:02X} where a host sends FF 00: it may be no row, or one without these two bytes"
+            ),
+        ),
+        _ => warn(
+            err,
+            "the row does not begin FF 00, as a host sends it: it may be no row, or begin elsewhere",
+        ),
     }
-    if row[0] != 0xFF {
-        warning(err)
-            .text(
-                b"the row does not begin FF 00, as a host sends it: it may be no row, or begin elsewhere",
-            )
-            .end()
-            .flush();
-        return;
-    }
-    if row.len() == 1 {
-        warning(err)
-            .text(b"the row is FF alone: it may be the first byte of FF 00")
-            .end()
-            .flush();
-        return;
-    }
-    warn_skipped(err, row[1]);
 }
 
 // What the row's first bytes tell, accepted or not.
 pub fn warn_of_beginning(err: Stderr, row: &[u8]) {
-    if warn_header(err, b"the row", row) {
+    if warn_header(err, "the row", row) {
         return;
     }
-    if warn_status(err, row) {
-        return;
+    match state_of(row) {
+        Some(state) => warn(
+            err,
+            format_args!(
+                "this looks like a status (SQLCA) with SQLSTATE {state}, and not like a row"
+            ),
+        ),
+        None => warn_first(err, row),
     }
-    warn_first(err, row);
 }
 
 // Texts of a CCSID that no conversion is known for. At release 2 a look at the bytes decides how they are read; at release 3 they are code page 037.
@@ -163,9 +118,9 @@ fn warn_unnamed(err: Stderr, columns: &Columns, row: &[u8], release: u32) {
         warn_columns(err, Concern::Unnamed, columns, row);
         return;
     }
-    warn_columns(err, Concern::ReadAs037, columns, row);
-    warn_columns(err, Concern::ReadAsAscii, columns, row);
-    warn_columns(err, Concern::GuessedAt, columns, row);
+    for concern in [Concern::ReadAs037, Concern::ReadAsAscii, Concern::GuessedAt] {
+        warn_columns(err, concern, columns, row);
+    }
 }
 
 // What the values of a row tell, and what is left behind it. Of a row that is refused, only the indicators.
@@ -174,19 +129,19 @@ pub fn warn_of_values(
     columns: &Columns,
     row: &[u8],
     release: u32,
-    refused: u32,
-    used: usize,
-    replaced: usize,
+    answer: &Result<Row, Refusal>,
     text: &mut [u8],
 ) {
     warn_columns(err, Concern::Indicator, columns, row);
-    if refused != 0 {
+    let Ok(accepted) = answer else {
         return;
+    };
+    warn_rest(err, row, accepted.used);
+    if accepted.replaced != 0 {
+        let _ = list_replaced(err, columns, row, release, accepted.replaced, text);
     }
-    warn_rest(err, row, used);
-    warn_replaced(err, columns, row, release, replaced, text);
     warn_unnamed(err, columns, row, release);
-    warn_columns(err, Concern::AllAt, columns, row);
-    warn_columns(err, Concern::Longer, columns, row);
-    warn_columns(err, Concern::Packed, columns, row);
+    for concern in [Concern::AllAt, Concern::Longer, Concern::Packed] {
+        warn_columns(err, concern, columns, row);
+    }
 }

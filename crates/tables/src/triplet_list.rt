@@ -1,6 +1,9 @@
 // The triplets of a description behind which columns may be missing: those that give no column and no environment entry, and are no row lay-out (71) and no
 // MDD before another triplet (78) either; the continuation 7F among them; and groups whose columns leave bytes over.
-use triplets::{Next, next_triplet};
+ghost use Rattle.std.specs.Prelude.{◌-◌, length};
+ghost use Rattle.std.specs.Iterator.{at_most};
+
+use triplets::next_triplet;
 
 const SDA: u8 = 0x70;
 
@@ -23,146 +26,114 @@ pub enum Lack {
     LeftOver,
 }
 
-// How many they are; of the first, where it begins and its type.
+// A triplet, where it begins, its data, and what stands behind it.
 #[derive(Clone, Copy)]
-pub struct Listed {
-    pub count: u64,
-    pub first: usize,
+pub struct Listed<'a> {
     pub kind: u8,
+    pub start: usize,
+    data: &'a [u8],
+    behind: &'a [u8],
 }
 
-// Whether a triplet is an SDA with data.
-fn is_sda(kind: u8, at: usize, end: usize) -> bool {
-    if kind != SDA {
-        return false;
-    }
-    2 < std::num::wrapping_sub_usize(end, at)
+// Triplets one after the other, as long as there are so many bytes for one.
+#[derive(Drop)]
+struct Triplets<'a> {
+    part: &'a [u8],
+    least: usize,
+    at: usize,
 }
 
-// Whether a part holds an SDA with data, so that a group has a column.
-fn has_inner_sda(data: &[u8], start: usize, end: usize) -> bool {
-    let mut at = start;
-    while at < end {
-        if data.len() < end {
-            return false;
-        }
-        let Next::Triplet { kind, end: after } = next_triplet(data, at, end, 3) else {
-            return false;
-        };
-        if after <= at {
-            return false;
-        }
-        if is_sda(kind, at, after) {
-            return true;
-        }
-        at = after;
+// The triplets of a description, and those within a group.
+fn outer(part: &[u8]) -> Triplets<'_> {
+    Triplets {
+        part,
+        least: 2,
+        at: 0,
     }
-    false
 }
 
-// A D0 group has a column for each three bytes behind D0.
-fn group_has_column(data: &[u8], start: usize, end: usize) -> bool {
-    if end <= start {
-        return false;
+fn inner(part: &[u8]) -> Triplets<'_> {
+    Triplets {
+        part,
+        least: 3,
+        at: 0,
     }
-    if data.len() < end {
-        return false;
+}
+
+impl<'a> Iterator for Triplets<'a> {
+    type Item = Listed<'a>;
+
+    ghost remaining = { λ t. at_most (length t.part.now - t.at) };
+
+    fn next(&mut self) -> Option<Listed<'a>> {
+        let part = self.part;
+        let start = self.at;
+        if part.len() < start || self.least < 2 {
+            return None;
+        }
+        let triplet = next_triplet(part, start, part.len(), self.least)?;
+        let end = triplet.end;
+        // A triplet has two bytes and lies within: asked again here, it needs no proof.
+        let data = part.get(start.checked_add(2)?..end)?;
+        let behind = part.get(end..)?;
+        self.at = end;
+        Some(Listed {
+            kind: triplet.kind,
+            start,
+            data,
+            behind,
+        })
     }
-    if data[start] == 0xD0 {
-        return 4 <= end - start;
+}
+
+// A D0 group has a column for each three bytes behind D0, another for each SDA with data.
+fn group_has_column(data: &[u8]) -> bool {
+    match data {
+        [] => false,
+        [0xD0, threes @ ..] => 3 <= threes.len(),
+        _ => inner(data).any(|t| t.kind == SDA && !t.data.is_empty()),
     }
-    has_inner_sda(data, start, end)
 }
 
 // Whether a triplet begins here for which an MDD may stand: an SDA, a group or a row lay-out.
-fn is_described_at(data: &[u8], at: usize) -> bool {
-    if data.len() < at {
-        return false;
-    }
-    let Next::Triplet { kind, end: _ } = next_triplet(data, at, data.len(), 2) else {
-        return false;
-    };
-    match kind {
-        SDA | RLO | GDA => true,
-        _ => false,
-    }
+fn is_described(part: &[u8]) -> bool {
+    outer(part)
+        .next()
+        .is_some_and(|t| matches!(t.kind, SDA | RLO | GDA))
 }
 
-// Whether a triplet gives something, or is a row lay-out. Its data are from `start` to `end`.
-fn is_used(data: &[u8], kind: u8, start: usize, end: usize) -> bool {
-    match kind {
-        SDA => start < end,
-        RLO => true,
-        GDA => group_has_column(data, start, end),
-        MDD => is_described_at(data, end),
-        CONTINUATION => true,
-        _ => false,
-    }
-}
-
-// Whether behind D0 and the threes of a group one or two bytes are left.
-fn has_left_over(data: &[u8], kind: u8, start: usize, end: usize) -> bool {
-    if kind != GDA {
-        return false;
-    }
-    if end <= start {
-        return false;
-    }
-    if data.len() < end {
-        return false;
-    }
-    if data[start] != 0xD0 {
-        return false;
-    }
-    (end - start) % 3 != 1
-}
-
-fn lacks(lack: Lack, data: &[u8], kind: u8, start: usize, end: usize) -> bool {
-    match lack {
-        Lack::Continued => kind == CONTINUATION,
-        Lack::Unused => !is_used(data, kind, start, end),
-        Lack::LeftOver => has_left_over(data, kind, start, end),
-    }
-}
-
-fn with_one(l: Listed, at: usize, kind: u8) -> Listed {
-    if l.count == 0 {
-        return Listed {
-            count: 1,
-            first: at,
-            kind,
-        };
-    }
-    Listed {
-        count: std::num::wrapping_add_u64(l.count, 1),
-        first: l.first,
-        kind: l.kind,
-    }
-}
-
-// The triplets that lack this.
-pub fn listed_triplets(lack: Lack, data: &[u8]) -> Listed {
-    let mut l = Listed {
-        count: 0,
-        first: 0,
-        kind: 0,
-    };
-    let mut at: usize = 0;
-    while at < data.len() {
-        let Next::Triplet { kind, end } = next_triplet(data, at, data.len(), 2) else {
-            return l;
-        };
-        // A triplet has two bytes and lies within: asked again here, it needs no proof.
-        if end <= at {
-            return l;
+impl Listed<'_> {
+    // Whether it gives something, or is a row lay-out.
+    fn is_used(&self) -> bool {
+        match self.kind {
+            SDA => !self.data.is_empty(),
+            RLO | CONTINUATION => true,
+            GDA => group_has_column(self.data),
+            MDD => is_described(self.behind),
+            _ => false,
         }
-        if data.len() < end {
-            return l;
-        }
-        if lacks(lack, data, kind, std::num::wrapping_add_usize(at, 2), end) {
-            l = with_one(l, at, kind);
-        }
-        at = end;
     }
-    l
+
+    // Whether behind D0 and the threes of a group one or two bytes are left.
+    fn has_left_over(&self) -> bool {
+        match self.data {
+            [0xD0, threes @ ..] => self.kind == GDA && threes.len() % 3 != 0,
+            _ => false,
+        }
+    }
+
+    fn lacks(&self, lack: Lack) -> bool {
+        match lack {
+            Lack::Continued => self.kind == CONTINUATION,
+            Lack::Unused => !self.is_used(),
+            Lack::LeftOver => self.has_left_over(),
+        }
+    }
+}
+
+// How many triplets lack this, and the first of them.
+pub fn lacking(lack: Lack, description: &[u8]) -> Option<(usize, Listed<'_>)> {
+    let count = outer(description).filter(|t| t.lacks(lack)).count();
+    let first = outer(description).find(|t| t.lacks(lack))?;
+    Some((count, first))
 }

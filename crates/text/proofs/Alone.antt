@@ -1,33 +1,46 @@
--- What a conversion answers when it is called alone: where the release is none, where the bytes are too many, and where they are not. Assumes nothing.
+-- What a conversion answers when it is called alone, and what it leaves in the buffer: where the bytes are too many and where they are not, where the release is
+-- none and where it is one. Assumes nothing.
 use Prim.Native.Nat.{ℕ, ◌≤◌, ◌<◌}
 use mathlib.Core.Bool.{true, false}
 use mathlib.Core.List.{List, []}
-use mathlib.Core.Path.{◌≡◌, refl}
+use mathlib.Core.Path.{◌≡◌}
 use borrow.Author.Tests.{lt-ltb, le-ltb}
 use lib.ListN.{length}
 use Rattle.refusal.specs.Refusal.{input_limit}
-use Rattle.buffer.specs.Buffer.{Converted, TextTold, refused_text, text_answer, text_buffer}
+use Rattle.buffer.specs.Buffer.{Converted, refused_text, text_answer, text_buffer}
 use Rattle.conversion.specs.Conversion.{is_release}
 use Rattle.text.specs.Text.{conversion_answer, conversion_buffer, release_answer, release_buffer}
 
-module _ (s d : List ℕ) {a : TextTold} where
-  pub too_long : (x : Converted) → input_limit < length s → a ≡ refused_text 4 [] → (a ≡ conversion_answer s x d) × (d ≡ conversion_buffer s x.text_bytes d)
-  unfolding conversion_answer conversion_buffer
-  too_long x h q = rw (q, lt-ltb input_limit (length s) h) (refl, refl)
+module _ (s d : List ℕ) where
+  pub too_long_answer : (x : Converted) → input_limit < length s → conversion_answer s x d ≡ refused_text 4 []
+  unfolding conversion_answer
+  too_long_answer x h = rw (lt-ltb input_limit (length s) h)
 
-  -- x is what the conversion makes that was picked
-  pub picked : {x y : Converted} → y ≡ x → length s ≤ input_limit → (ys : List ℕ) → (a ≡ text_answer y d) × (ys ≡ text_buffer y.text_bytes d)
-      → (a ≡ conversion_answer s x d) × (ys ≡ conversion_buffer s x.text_bytes d)
-  unfolding conversion_answer conversion_buffer
-  picked e h ys r = rw (le-ltb input_limit (length s) h, ← e) r
+  pub too_long_buffer : (t : List ℕ) → input_limit < length s → conversion_buffer s t d ≡ d
+  unfolding conversion_buffer
+  too_long_buffer t h = rw (lt-ltb input_limit (length s) h)
 
--- the same of a call that states a release
-module _ (release : ℕ) (s d : List ℕ) {a : TextTold} where
-  pub unknown : (x : Converted) → is_release release ≡ false → a ≡ refused_text 22 [] → (a ≡ release_answer release s x d) × (d ≡ release_buffer release s x.text_bytes d)
-  unfolding release_answer release_buffer
-  unknown x h q = rw (q, h) (refl, refl)
+  pub short_answer : (x : Converted) → length s ≤ input_limit → conversion_answer s x d ≡ text_answer x d
+  unfolding conversion_answer
+  short_answer x h = rw (le-ltb input_limit (length s) h)
 
-  pub known : (x : Converted) → is_release release ≡ true → (ys : List ℕ) → (a ≡ conversion_answer s x d) × (ys ≡ conversion_buffer s x.text_bytes d)
-      → (a ≡ release_answer release s x d) × (ys ≡ release_buffer release s x.text_bytes d)
-  unfolding release_answer release_buffer
-  known x h ys r = rw h r
+  pub short_buffer : (t : List ℕ) → length s ≤ input_limit → conversion_buffer s t d ≡ text_buffer t d
+  unfolding conversion_buffer
+  short_buffer t h = rw (le-ltb input_limit (length s) h)
+
+module _ (release : ℕ) (s d : List ℕ) where
+  pub unknown_answer : (x : Converted) → is_release release ≡ false → release_answer release s x d ≡ refused_text 22 []
+  unfolding release_answer
+  unknown_answer x h = rw h
+
+  pub unknown_buffer : (t : List ℕ) → is_release release ≡ false → release_buffer release s t d ≡ d
+  unfolding release_buffer
+  unknown_buffer t h = rw h
+
+  pub known_answer : (x : Converted) → is_release release ≡ true → release_answer release s x d ≡ conversion_answer s x d
+  unfolding release_answer
+  known_answer x h = rw h
+
+  pub known_buffer : (t : List ℕ) → is_release release ≡ true → release_buffer release s t d ≡ conversion_buffer s t d
+  unfolding release_buffer
+  known_buffer t h = rw h

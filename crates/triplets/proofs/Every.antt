@@ -1,5 +1,6 @@
 -- What holds of the column of every SDA and of every LID holds of every column of a description. B is what is known of its bytes, and E of the environment's
 -- entries. Assumes nothing.
+use Rattle.std.specs.Prelude.{Option, None, Some}
 use Prim.Native.Nat.{ℕ, zero, suc, ◌-◌}
 use mathlib.Core.Bool.{Bool, true, false, cond}
 use mathlib.Core.List.{List, [], ◌∷◌, ◌++◌}
@@ -9,10 +10,8 @@ use Rattle.types.specs.declared.ColumnDescriptor.{ColumnDescriptor}
 use Rattle.column.specs.declared.EnvEntry.{EnvEntry}
 use Rattle.column.specs.Column.{sda_column}
 use Rattle.column.specs.Group.{entry_of, first_entry, no_entry, lid_column}
-use Rattle.triplets.specs.declared.Pending.{Pending}
-use Rattle.triplets.specs.declared.Pending.TheVariants as pending
 use Rattle.triplets.specs.Triplets.{Triplet, first_triplet, begins, Reading, stopped, cons_triplet, reading_of, reading}
-use Rattle.triplets.specs.Descriptors.{last_of, pending_after, no_entries, declare, environment_after, sda_columns, outer_sda, lid_columns, inner_columns, group_columns, triplet_columns, columns_from, columns_of}
+use Rattle.triplets.specs.Descriptors.{Environment, last_of, pending_after, no_entries, declare, environment_after, sda_columns, outer_sda, lid_columns, inner_columns, group_columns, triplet_columns, columns_from, columns_of}
 
 abbrev pub Every : {A : Type 0} → (A → Type 0) → List A → Type 0
 Every P [] = Unit {0}
@@ -22,12 +21,12 @@ Every P (x ∷ xs) = P x × Every P xs
 abbrev pub EachByte : (ℕ → Type 0) → List ℕ → Type 0
 EachByte B s = (i : ℕ) → B (get_or s i 0)
 
-pub record Describes (P : ColumnDescriptor → Type 0) (E : EnvEntry → Type 0) (B : ℕ → Type 0) : Type 0 where
+pub record Describes (P : ColumnDescriptor → Type 0) (E : Option EnvEntry → Type 0) (B : ℕ → Type 0) : Type 0 where
   pub of_zero : B 0
   pub of_no_entry : E no_entry
-  pub of_entry : (mdd : ℕ) (d : List ℕ) → B mdd → EachByte B d → E (entry_of mdd d)
+  pub of_entry : (mdd : ℕ) (d : List ℕ) → B mdd → EachByte B d → E (Some (entry_of mdd d))
   pub of_sda : (d : List ℕ) → EachByte B d → P (sda_column d)
-  pub of_lid : (e : EnvEntry) (l a b : ℕ) → E e → B l → B a → B b → P (lid_column e l a b)
+  pub of_lid : (e : Option EnvEntry) (l a b : ℕ) → E e → B l → B a → B b → P (lid_column e l a b)
 
 every_append : {A : Type 0} (P : A → Type 0) (xs ys : List A) → Every P xs → Every P ys → Every P (xs ++ ys)
 every_append P [] ys h k = k
@@ -75,7 +74,7 @@ module _ (B : ℕ → Type 0) (z : B 0) where
       go true r = (each_take B z (get_or s 0 0 - 2) (drop 2 s) (each_drop B 2 s h), r)
       go false r = tt
 
-module _ (P : ColumnDescriptor → Type 0) (E : EnvEntry → Type 0) (B : ℕ → Type 0) (k : Describes P E B) where
+module _ (P : ColumnDescriptor → Type 0) (E : Option EnvEntry → Type 0) (B : ℕ → Type 0) (k : Describes P E B) where
   every_sda : (d : List ℕ) → EachByte B d → Every P (sda_columns d)
   unfolding sda_columns
   every_sda d h = go (eqb (length d) 0)
@@ -84,7 +83,7 @@ module _ (P : ColumnDescriptor → Type 0) (E : EnvEntry → Type 0) (B : ℕ �
       go true = tt
       go false = (k.of_sda d h, tt)
 
-  every_lid : (env : List EnvEntry) → Every E env → (d : List ℕ) → EachByte B d → Every P (lid_columns env d)
+  every_lid : (env : Environment) → Every E env → (d : List ℕ) → EachByte B d → Every P (lid_columns env d)
   unfolding lid_columns
   every_lid env he [] h = tt
   every_lid env he (l ∷ []) h = tt
@@ -101,7 +100,7 @@ module _ (P : ColumnDescriptor → Type 0) (E : EnvEntry → Type 0) (B : ℕ �
       go true = every_sda t.body h.0
       go false = tt
 
-  every_group : (env : List EnvEntry) → Every E env → (d : List ℕ) → EachByte B d → Every P (group_columns env d)
+  every_group : (env : Environment) → Every E env → (d : List ℕ) → EachByte B d → Every P (group_columns env d)
   unfolding group_columns reading
   every_group env he d h = go (eqb (get_or d 0 0) 0xD0)
     where
@@ -109,16 +108,16 @@ module _ (P : ColumnDescriptor → Type 0) (E : EnvEntry → Type 0) (B : ℕ �
       go true = every_lid env he (drop 1 d) (each_drop B 1 d h)
       go false = every_inner (reading_of 3 (length d) d).triplets (every_read B k.of_zero 3 (length d) d h)
 
-  abbrev PendingIs : Pending → Type 0
-  PendingIs pending.Nothing = Unit {0}
-  PendingIs (pending.Type m) = B m
+  abbrev PendingIs : Option ℕ → Type 0
+  PendingIs None = Unit {0}
+  PendingIs (Some m) = B m
 
-  every_outer : (p : Pending) (d : List ℕ) → EachByte B d → Every P (outer_sda p d)
+  every_outer : (p : Option ℕ) (d : List ℕ) → EachByte B d → Every P (outer_sda p d)
   unfolding outer_sda
-  every_outer pending.Nothing d h = every_sda d h
-  every_outer (pending.Type m) d h = tt
+  every_outer None d h = every_sda d h
+  every_outer (Some m) d h = tt
 
-  every_triplet : (p : Pending) (env : List EnvEntry) → Every E env → (t : Triplet) → Body B t → Every P (triplet_columns p env t)
+  every_triplet : (p : Option ℕ) (env : Environment) → Every E env → (t : Triplet) → Body B t → Every P (triplet_columns p env t)
   unfolding triplet_columns
   every_triplet p env he t h = go (eqb t.kind 0x70) (eqb t.kind 0x76)
     where
@@ -131,23 +130,20 @@ module _ (P : ColumnDescriptor → Type 0) (E : EnvEntry → Type 0) (B : ℕ �
   unfolding pending_after last_of
   pending_after_lem t h = go (eqb t.kind 0x78) (eqb (length t.body) 0)
     where
-      go : (x y : Bool) → PendingIs (cond x (cond y pending.Nothing (pending.Type (get_or t.body (length t.body - 1) 0))) pending.Nothing)
+      go : (x y : Bool) → PendingIs (cond x (cond y None (Some (get_or t.body (length t.body - 1) 0))) None)
       go true true = tt
       go true false = h (length t.body - 1)
       go false y = tt
 
-  first_kept : (x y : EnvEntry) → E x → E y → E (first_entry x y)
+  first_kept : (x y : Option EnvEntry) → E x → E y → E (first_entry x y)
   unfolding first_entry
-  first_kept x y hx hy = go x.declared
-    where
-      go : (b : Bool) → E (cond b x y)
-      go true = hx
-      go false = hy
+  first_kept None y hx hy = hy
+  first_kept (Some e) y hx hy = hx
 
-  environment_after_lem : (p : Pending) → PendingIs p → (env : List EnvEntry) → Every E env → (t : Triplet) → Body B t → Every E (environment_after p env t)
+  environment_after_lem : (p : Option ℕ) → PendingIs p → (env : Environment) → Every E env → (t : Triplet) → Body B t → Every E (environment_after p env t)
   unfolding environment_after declare
-  environment_after_lem pending.Nothing hp env he t h = he
-  environment_after_lem (pending.Type m) hp env he t h = go (eqb t.kind 0x70) (eqb (length t.body) 0)
+  environment_after_lem None hp env he t h = he
+  environment_after_lem (Some m) hp env he t h = go (eqb t.kind 0x70) (eqb (length t.body) 0)
     where
       l : ℕ
       l = get_or t.body 0 0
@@ -155,11 +151,11 @@ module _ (P : ColumnDescriptor → Type 0) (E : EnvEntry → Type 0) (B : ℕ �
       go : (x y : Bool) → Every E (cond x (cond y env (declare env l (entry_of m t.body))) env)
       go true true = he
       go true false =
-          every_set E env he l (first_entry (get_or env l no_entry) (entry_of m t.body))
-          (first_kept (get_or env l no_entry) (entry_of m t.body) (every_at E no_entry k.of_no_entry env he l) (k.of_entry m t.body hp h))
+          every_set E env he l (first_entry (get_or env l no_entry) (Some (entry_of m t.body)))
+          (first_kept (get_or env l no_entry) (Some (entry_of m t.body)) (every_at E no_entry k.of_no_entry env he l) (k.of_entry m t.body hp h))
       go false y = he
 
-  every_from : (p : Pending) → PendingIs p → (env : List EnvEntry) → Every E env → (ts : List Triplet) → Every (Body B) ts → Every P (columns_from p env ts)
+  every_from : (p : Option ℕ) → PendingIs p → (env : Environment) → Every E env → (ts : List Triplet) → Every (Body B) ts → Every P (columns_from p env ts)
   unfolding columns_from
   every_from p hp env he [] h = tt
   every_from p hp env he (t ∷ ts) h =
@@ -168,4 +164,4 @@ module _ (P : ColumnDescriptor → Type 0) (E : EnvEntry → Type 0) (B : ℕ �
 
   pub every_column : (s : List ℕ) → EachByte B s → Every P (columns_of s)
   unfolding columns_of reading no_entries
-  every_column s h = every_from pending.Nothing tt no_entries (every_alike E 256 no_entry k.of_no_entry) (reading_of 2 (length s) s).triplets (every_read B k.of_zero 2 (length s) s h)
+  every_column s h = every_from None tt no_entries (every_alike E 256 no_entry k.of_no_entry) (reading_of 2 (length s) s).triplets (every_read B k.of_zero 2 (length s) s h)

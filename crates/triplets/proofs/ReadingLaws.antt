@@ -9,10 +9,10 @@ use lib.Dec.{leb}
 use lib.ListN.{length, get_or, take, drop, length-drop}
 use lib.Seq.{slice, drop-drop, length-slice}
 use borrow.Author.Tests.{leb-true}
-use Rattle.triplets.specs.declared.Next.{Next}
-use Rattle.triplets.specs.declared.Next.TheVariants as next
+use Rattle.std.specs.Prelude.{Option, Some, None}
+use Rattle.triplets.specs.declared.Triplet.{Triplet as Placed}
 use Rattle.triplets.specs.Triplets.{Reading, triplet, begins, first_triplet, stopped, cons_triplet, reading_of, reading}
-use Rattle.triplets.specs.Steps.{next_of}
+use Rattle.triplets.specs.Steps.{placed, next_of}
 use Rattle.triplets.proofs.Slices.{slice_slice}
 
 and_left : (a b : Bool) → (a && b) ≡ true → a ≡ true
@@ -110,28 +110,29 @@ ends f =
     let w = f.whole in
     omega arith
 
-none : (least : ℕ) (s : List ℕ) (i e : ℕ) → next_of least (slice i e s) i ≡ next.Nothing → reading least (slice i e s) ≡ stopped (slice i e s)
+none : (least : ℕ) (s : List ℕ) (i e : ℕ) → next_of least (slice i e s) i ≡ None → reading least (slice i e s) ≡ stopped (slice i e s)
 unfolding next_of
 none least s i e h = go (begins least (slice i e s)) refl h
   where
     go : (b : Bool)
         → begins least (slice i e s) ≡ b
-        → cond b (next.Triplet (get_or (slice i e s) 1 0) (i + get_or (slice i e s) 0 0)) next.Nothing ≡ next.Nothing
+        → cond b (Some (placed (get_or (slice i e s) 1 0) (i + get_or (slice i e s) 0 0))) None ≡ None
         → reading least (slice i e s) ≡ stopped (slice i e s)
     go true t f = let z : ◌≡◌ {A = ℕ} 0 1 = cc in absurd (omega arith)
     go false t f = reading_none least (slice i e s) t
 
-some : (least : ℕ) (s : List ℕ) (i e k m : ℕ) → i ≤ e → e ≤ length s → next_of least (slice i e s) i ≡ next.Triplet k m → Found least s i e k m
+some : (least : ℕ) (s : List ℕ) (i e k m : ℕ) → i ≤ e → e ≤ length s → next_of least (slice i e s) i ≡ Some (placed k m) → Found least s i e k m
 unfolding next_of
 some least s i e k m p q h = go (begins least (slice i e s)) refl h
   where
     go : (b : Bool)
         → begins least (slice i e s) ≡ b
-        → cond b (next.Triplet (get_or (slice i e s) 1 0) (i + get_or (slice i e s) 0 0)) next.Nothing ≡ next.Triplet k m
+        → cond b (Some (placed (get_or (slice i e s) 1 0) (i + get_or (slice i e s) 0 0))) None ≡ Some (placed k m)
         → Found least s i e k m
     go true t f =
-        let pk : get_or (slice i e s) 1 0 ≡ k = cc in
-        let pm : i + get_or (slice i e s) 0 0 ≡ m = cc in
+        let same : placed (get_or (slice i e s) 1 0) (i + get_or (slice i e s) 0 0) ≡ placed k m = cc in
+        let pk : get_or (slice i e s) 1 0 ≡ k = ap (λ (t : Placed). t.kind) same in
+        let pm : i + get_or (slice i e s) 0 0 ≡ m = ap (λ (t : Placed). t.end) same in
         let b = begun least (slice i e s) t in
         let l = length-slice i e s q in
         let size : get_or (slice i e s) 0 0 - 2 ≡ m - (i + 2) = omega arith in
@@ -148,12 +149,12 @@ some least s i e k m p q h = go (begins least (slice i e s)) refl h
     go false t f = let z : ◌≡◌ {A = ℕ} 0 1 = cc in absurd (omega arith)
 
 -- the same of an answer n
-module _ {n : Next} (least : ℕ) (s : List ℕ) (i e : ℕ) (asked : n ≡ next_of least (slice i e s) i) where
-  pub next_none : n ≡ next.Nothing → (reading least (slice i e s)).triplets ≡ []
+module _ {n : Option Placed} (least : ℕ) (s : List ℕ) (i e : ℕ) (asked : n ≡ next_of least (slice i e s) i) where
+  pub next_none : n ≡ None → (reading least (slice i e s)).triplets ≡ []
   next_none h = ap (λ (r : Reading). r.triplets) (none least s i e (sym asked ∙ h))
 
-  pub next_unread : n ≡ next.Nothing → (reading least (slice i e s)).unread ≡ slice i e s
+  pub next_unread : n ≡ None → (reading least (slice i e s)).unread ≡ slice i e s
   next_unread h = ap (λ (r : Reading). r.unread) (none least s i e (sym asked ∙ h))
 
-  pub next_some : (k m : ℕ) → i ≤ e → e ≤ length s → n ≡ next.Triplet k m → Found least s i e k m
-  next_some k m p q h = some least s i e k m p q (sym asked ∙ h)
+  pub next_some : {t : Placed} → i ≤ e → e ≤ length s → n ≡ Some t → Found least s i e t.kind t.end
+  next_some {t = t} p q h = some least s i e t.kind t.end p q (sym asked ∙ h)

@@ -1,4 +1,5 @@
 -- What each sort of step says of the columns to come. Assumes nothing.
+use Rattle.std.specs.Prelude.{Option, None, Some}
 use mathlib.Core.Path.{◌≡◌, refl, sym, ap, ◌∙◌}
 use mathlib.Core.Bool.{Bool, true, false, cond, ◌&&◌}
 use mathlib.Core.List.{List, [], ◌∷◌, ◌++◌}
@@ -11,15 +12,12 @@ use lib.ListN.{length, get_or, take, drop}
 use lib.Seq.{slice, slice_empty, slice-cons, length-slice, drop-drop}
 use borrow.Author.Tests.{ne_eqb, lt-ltb, le-ltb, ltb-true, ltb-false}
 use Rattle.types.specs.declared.ColumnDescriptor.{ColumnDescriptor}
-use Rattle.column.specs.declared.EnvEntry.{EnvEntry}
 use Rattle.column.specs.Column.{sda_column}
 use Rattle.column.specs.Group.{entry_of, no_entry, lid_column}
-use Rattle.triplets.specs.declared.Pending.{Pending}
-use Rattle.triplets.specs.declared.Pending.TheVariants as pending
 use Rattle.triplets.specs.declared.Cursor.{Cursor}
 use Rattle.triplets.specs.declared.Cursor.TheVariants as cursor
 use Rattle.triplets.specs.Triplets.{Triplet, triplet, reading, breaks_off}
-use Rattle.triplets.specs.Descriptors.{last_of, pending_after, declare, environment_after, sda_columns, outer_sda, lid_columns, inner_columns, group_columns, triplet_columns, columns_from}
+use Rattle.triplets.specs.Descriptors.{Environment, last_of, pending_after, declare, environment_after, sda_columns, outer_sda, lid_columns, inner_columns, group_columns, triplet_columns, columns_from}
 use Rattle.triplets.specs.Steps.{group_at, outer_from, end_from, outer_at, to_come, CursorWithin, ahead, Goes}
 use Rattle.triplets.proofs.Slices.{slice_all, get_d_slice}
 use Rattle.triplets.proofs.ReadingLaws.{unread_within, Found}
@@ -37,7 +35,7 @@ module _ (s : List ℕ) (a e : ℕ) (h : e ≤ length s) where
 pub no_data : (s : List ℕ) (a e : ℕ) → a ≡ e → slice a e s ≡ []
 no_data s a e q = rw q (slice_empty e s)
 
-pub last_byte : (s : List ℕ) (a e : ℕ) → a < e → e ≤ length s → last_of (slice a e s) ≡ pending.Type (get_or s (e - 1) 0)
+pub last_byte : (s : List ℕ) (a e : ℕ) → a < e → e ≤ length s → last_of (slice a e s) ≡ Some (get_or s (e - 1) 0)
 unfolding last_of
 last_byte s a e h k =
     let q : a + (e - a - 1) ≡ e - 1 = omega arith in
@@ -67,42 +65,42 @@ breaks_before s = rw (slice_all s) (go (length (reading 2 s).unread) (unread_wit
     go (suc u) h = lt-ltb (length s - suc u) (length s) (omega arith) ∙ sym (lt-ltb 0 (suc u) (omega arith))
 
 -- ---- outer triplets
-pub outer_end : (s : List ℕ) (i : ℕ) (p : Pending) → (reading 2 (slice i (length s) s)).triplets ≡ [] → (env : List EnvEntry) → to_come s env (cursor.Outer p i) ≡ []
+pub outer_end : (s : List ℕ) (i : ℕ) (p : Option ℕ) → (reading 2 (slice i (length s) s)).triplets ≡ [] → (env : Environment) → to_come s env (cursor.Outer p i) ≡ []
 unfolding to_come columns_from
 outer_end s i p h env = rw h
 
-same_environment : (p : Pending) (env : List EnvEntry) (t : Triplet) → eqb t.kind 0x70 ≡ false → environment_after p env t ≡ env
+same_environment : (p : Option ℕ) (env : Environment) (t : Triplet) → eqb t.kind 0x70 ≡ false → environment_after p env t ≡ env
 unfolding environment_after
-same_environment pending.Nothing env t e = refl
-same_environment (pending.Type mdd) env t e = rw e
+same_environment None env t e = refl
+same_environment (Some mdd) env t e = rw e
 
-same_empty : (p : Pending) (env : List EnvEntry) (k : ℕ) → environment_after p env (triplet k []) ≡ env
+same_empty : (p : Option ℕ) (env : Environment) (k : ℕ) → environment_after p env (triplet k []) ≡ env
 unfolding environment_after
-same_empty pending.Nothing env k = refl
-same_empty (pending.Type mdd) env k = go (eqb k 0x70)
+same_empty None env k = refl
+same_empty (Some mdd) env k = go (eqb k 0x70)
   where
     go : (b : Bool) → cond b env env ≡ env
     go true = refl
     go false = refl
 
-empty_sda : (p : Pending) → outer_sda p [] ≡ []
+empty_sda : (p : Option ℕ) → outer_sda p [] ≡ []
 unfolding outer_sda sda_columns
-empty_sda pending.Nothing = refl
-empty_sda (pending.Type mdd) = refl
+empty_sda None = refl
+empty_sda (Some mdd) = refl
 
 -- the columns to come where a group begins
-group_begins : (s : List ℕ) (env : List EnvEntry) (a e : ℕ) → a ≤ e → e ≤ length s
-    → group_columns env (slice a e s) ++ columns_from pending.Nothing env (outer_from s e) ≡ to_come s env (group_at s a e)
+group_begins : (s : List ℕ) (env : Environment) (a e : ℕ) → a ≤ e → e ≤ length s
+    → group_columns env (slice a e s) ++ columns_from None env (outer_from s e) ≡ to_come s env (group_at s a e)
 unfolding group_columns group_at to_come
 group_begins s env a e h k = go (ltb a e) refl
   where
     data_begins : (b : Bool)
-        → cond b (lid_columns env (drop 1 (slice a e s))) (inner_columns (reading 3 (slice a e s)).triplets) ++ columns_from pending.Nothing env (outer_from s e)
+        → cond b (lid_columns env (drop 1 (slice a e s))) (inner_columns (reading 3 (slice a e s)).triplets) ++ columns_from None env (outer_from s e)
         ≡ to_come s env (cond b (cursor.Lids (a + 1) e) (cursor.Inner a e))
     data_begins true = rw (drop-drop 1 a (take e s))
     data_begins false = refl
 
-    go : (b : Bool) → ltb a e ≡ b → group_columns env (slice a e s) ++ columns_from pending.Nothing env (outer_from s e) ≡ to_come s env (group_at s a e)
+    go : (b : Bool) → ltb a e ≡ b → group_columns env (slice a e s) ++ columns_from None env (outer_from s e) ≡ to_come s env (group_at s a e)
     go true t = rw (t, first_byte s a e k (ltb-true a e t)) (data_begins (eqb (get_or s a 0) 0xD0))
     go false t = rw (t, no_data s a e (omega (arith, ltb-false a e t)))
 
@@ -124,35 +122,35 @@ group_ends s a e = go (ltb a e && eqb (get_or s a 0) 0xD0)
     go true = refl
     go false = refl
 
-module _ (s : List ℕ) (i : ℕ) (p : Pending) (k m : ℕ) (f : Found 2 s i (length s) k m) where
+module _ (s : List ℕ) (i : ℕ) (p : Option ℕ) (k m : ℕ) (f : Found 2 s i (length s) k m) where
   abbrev body : List ℕ
   body = slice (i + 2) m s
 
-  outer_more : (env : List EnvEntry)
+  outer_more : (env : Environment)
       → to_come s env (cursor.Outer p i)
       ≡ triplet_columns p env (triplet k body) ++ columns_from (pending_after (triplet k body)) (environment_after p env (triplet k body)) (outer_from s m)
   unfolding to_come columns_from
   outer_more env = rw f.more
 
-  to_outer : (q : Pending) (rest : List EnvEntry → List ColumnDescriptor)
-      → ((env : List EnvEntry) → to_come s env (cursor.Outer p i) ≡ rest env)
+  to_outer : (q : Option ℕ) (rest : Environment → List ColumnDescriptor)
+      → ((env : Environment) → to_come s env (cursor.Outer p i) ≡ rest env)
       → Goes s (cursor.Outer p i) (cursor.Outer q m) rest
   to_outer q rest same =
       let l = f.low in
       let h = f.high in
       record { within = h; less = omega arith; same = same; ends = end_after f }
 
-  pub outer_empty : k ≡ 0x70 → i + 2 ≡ m → Goes s (cursor.Outer p i) (cursor.Outer pending.Nothing m) (λ env. to_come s env (cursor.Outer pending.Nothing m))
+  pub outer_empty : k ≡ 0x70 → i + 2 ≡ m → Goes s (cursor.Outer p i) (cursor.Outer None m) (λ env. to_come s env (cursor.Outer None m))
   unfolding to_come triplet_columns pending_after
   outer_empty e q =
-      to_outer pending.Nothing (λ env. to_come s env (cursor.Outer pending.Nothing m))
+      to_outer None (λ env. to_come s env (cursor.Outer None m))
       (λ env. outer_more env ∙ rw (no_data s (i + 2) m q, e, empty_sda p, same_empty p env 0x70))
 
   pub outer_other : (k ≡ 0x70 → ⊥) → (k ≡ 0x76 → ⊥) → (k ≡ 0x78 → ⊥)
-      → Goes s (cursor.Outer p i) (cursor.Outer pending.Nothing m) (λ env. to_come s env (cursor.Outer pending.Nothing m))
+      → Goes s (cursor.Outer p i) (cursor.Outer None m) (λ env. to_come s env (cursor.Outer None m))
   unfolding to_come triplet_columns pending_after
   outer_other a b d =
-      to_outer pending.Nothing (λ env. to_come s env (cursor.Outer pending.Nothing m))
+      to_outer None (λ env. to_come s env (cursor.Outer None m))
       (λ env. outer_more env ∙ rw (same_environment p env (triplet k body) (ne_eqb _ _ a), ne_eqb _ _ a, ne_eqb _ _ b, ne_eqb _ _ d))
 
   pub outer_mdd : k ≡ 0x78 → Goes s (cursor.Outer p i) (cursor.Outer (last_of body) m) (λ env. to_come s env (cursor.Outer (last_of body) m))
@@ -179,32 +177,32 @@ module _ (s : List ℕ) (i k m : ℕ) (f : Found 2 s i (length s) k m) (e : k �
   h : i + 2 < m
   h = let l = f.low in omega arith
 
-  pub outer_column : Goes s (cursor.Outer pending.Nothing i) (cursor.Outer pending.Nothing m)
-      (λ env. sda_column (slice (i + 2) m s) ∷ to_come s env (cursor.Outer pending.Nothing m))
+  pub outer_column : Goes s (cursor.Outer None i) (cursor.Outer None m)
+      (λ env. sda_column (slice (i + 2) m s) ∷ to_come s env (cursor.Outer None m))
   unfolding to_come triplet_columns pending_after environment_after outer_sda sda_columns
   outer_column =
-      to_outer s i pending.Nothing k m f pending.Nothing (λ env. sda_column (slice (i + 2) m s) ∷ to_come s env (cursor.Outer pending.Nothing m))
-      (λ env. outer_more s i pending.Nothing k m f env ∙ rw (e, some_data s (i + 2) m f.high h))
+      to_outer s i None k m f None (λ env. sda_column (slice (i + 2) m s) ∷ to_come s env (cursor.Outer None m))
+      (λ env. outer_more s i None k m f env ∙ rw (e, some_data s (i + 2) m f.high h))
 
   pub outer_declare : (mdd : ℕ)
-      → Goes s (cursor.Outer (pending.Type mdd) i) (cursor.Outer pending.Nothing m)
-      (λ env. to_come s (declare env (get_or s (i + 2) 0) (entry_of mdd (slice (i + 2) m s))) (cursor.Outer pending.Nothing m))
+      → Goes s (cursor.Outer (Some mdd) i) (cursor.Outer None m)
+      (λ env. to_come s (declare env (get_or s (i + 2) 0) (entry_of mdd (slice (i + 2) m s))) (cursor.Outer None m))
   unfolding to_come triplet_columns pending_after environment_after outer_sda
   outer_declare mdd =
-      to_outer s i (pending.Type mdd) k m f pending.Nothing
-      (λ env. to_come s (declare env (get_or s (i + 2) 0) (entry_of mdd (slice (i + 2) m s))) (cursor.Outer pending.Nothing m))
-      (λ env. outer_more s i (pending.Type mdd) k m f env ∙ rw (e, some_data s (i + 2) m f.high h, first_byte s (i + 2) m f.high h))
+      to_outer s i (Some mdd) k m f None
+      (λ env. to_come s (declare env (get_or s (i + 2) 0) (entry_of mdd (slice (i + 2) m s))) (cursor.Outer None m))
+      (λ env. outer_more s i (Some mdd) k m f env ∙ rw (e, some_data s (i + 2) m f.high h, first_byte s (i + 2) m f.high h))
 
 -- ---- inner triplets
 module _ (s : List ℕ) (i e : ℕ) (p : i ≤ e) (q : e ≤ length s) where
   pub inner_none : (reading 3 (slice i e s)).triplets ≡ []
-      → Goes s (cursor.Inner i e) (cursor.Outer pending.Nothing e) (λ env. to_come s env (cursor.Outer pending.Nothing e))
+      → Goes s (cursor.Inner i e) (cursor.Outer None e) (λ env. to_come s env (cursor.Outer None e))
   unfolding to_come inner_columns
   inner_none h = record { within = q; less = omega arith; same = λ env. rw h; ends = refl }
 
 module _ (s : List ℕ) (i e k m : ℕ) (f : Found 3 s i e k m) where
-  to_inner : (rest : List EnvEntry → List ColumnDescriptor)
-      → ((env : List EnvEntry) → to_come s env (cursor.Inner i e) ≡ rest env)
+  to_inner : (rest : Environment → List ColumnDescriptor)
+      → ((env : Environment) → to_come s env (cursor.Inner i e) ≡ rest env)
       → Goes s (cursor.Inner i e) (cursor.Inner m e) rest
   to_inner rest same =
       let l = f.low in
@@ -224,7 +222,7 @@ module _ (s : List ℕ) (i e k m : ℕ) (f : Found 3 s i e k m) where
   unfolding to_come inner_columns sda_columns
   inner_empty h =
       to_inner (λ env. to_come s env (cursor.Inner m e))
-      (λ env. rw (f.more, no_data s (i + 2) m h) (go (eqb k 0x70) (inner_columns (reading 3 (slice m e s)).triplets) (columns_from pending.Nothing env (outer_from s e))))
+      (λ env. rw (f.more, no_data s (i + 2) m h) (go (eqb k 0x70) (inner_columns (reading 3 (slice m e s)).triplets) (columns_from None env (outer_from s e))))
     where
       go : (b : Bool) (xs ys : List ColumnDescriptor) → (cond b [] [] ++ xs) ++ ys ≡ xs ++ ys
       go true xs ys = refl
@@ -235,7 +233,7 @@ module _ (s : List ℕ) (i e k m : ℕ) (f : Found 3 s i e k m) where
   inner_other x = to_inner (λ env. to_come s env (cursor.Inner m e)) (λ env. rw (f.more, ne_eqb _ _ x))
 
 -- ---- the threes of a D0 group
-short_lids : (env : List EnvEntry) (d : List ℕ) → length d < 3 → lid_columns env d ≡ []
+short_lids : (env : Environment) (d : List ℕ) → length d < 3 → lid_columns env d ≡ []
 unfolding lid_columns
 short_lids env [] h = refl
 short_lids env (l ∷ []) h = refl
@@ -243,7 +241,7 @@ short_lids env (l ∷ a ∷ []) h = refl
 short_lids env (l ∷ a ∷ b ∷ d) h = absurd (omega arith)
 
 module _ (s : List ℕ) (i e : ℕ) (p : i ≤ e) (q : e ≤ length s) where
-  pub lids_end : e - i < 3 → Goes s (cursor.Lids i e) (cursor.Outer pending.Nothing e) (λ env. to_come s env (cursor.Outer pending.Nothing e))
+  pub lids_end : e - i < 3 → Goes s (cursor.Lids i e) (cursor.Outer None e) (λ env. to_come s env (cursor.Outer None e))
   unfolding to_come
   lids_end h =
       let l = length-slice i e s q in

@@ -1,5 +1,6 @@
 // Inner. The triplets of a description, a step at a time: a step tells where a column is described, gives an environment entry to keep, or does
-// neither. It holds neither the columns nor the environment: its caller keeps both, in arrays of its own.
+// neither; and its columns, one at a time. It holds neither the columns nor the environment: its caller keeps both, in arrays of its own.
+// Triplets are named by places and not by slices: a cursor keeps a place from one step to the next, and a slice would need its place beside it.
 #![tactic(auto)]
 
 ghost use Rattle.std.specs.Prelude.{◌≡◌, List, ℕ, ◌+◌, ◌≤◌, ◌<◌, length, get_or};
@@ -9,30 +10,24 @@ ghost use Rattle.column.specs.Said.{said_column};
 ghost use Rattle.triplets.specs.declared.Cursor.{Cursor};
 ghost use Rattle.triplets.specs.declared.Source.{Source};
 ghost use Rattle.triplets.specs.Descriptors.{last_of};
-ghost use Rattle.triplets.specs.Steps.{next_of, group_at, end_from, outer_at, CursorWithin, start_in, SourceWithin, column_at, Leads};
+ghost use Rattle.triplets.specs.Steps.{next_of, group_at, end_from, outer_at, CursorWithin, start_in, SourceWithin, column_at, Leads, Reaches};
 
-use column::{EnvEntry, Said};
+use column::{EnvEntry, LID_COUNT, Said};
 use types::ColumnDescriptor;
 
-const TRIPLET_TYPE_SDA: u8 = 0x70;
+// The types of the triplets by which a description is read. Others describe nothing.
+pub const TRIPLET_TYPE_SDA: u8 = 0x70;
 
-const TRIPLET_TYPE_GDA: u8 = 0x76;
+pub const TRIPLET_TYPE_GDA: u8 = 0x76;
 
-const TRIPLET_TYPE_MDD: u8 = 0x78;
+pub const TRIPLET_TYPE_MDD: u8 = 0x78;
 
-// The type that an MDD left for the SDA after it.
-#[derive(Clone, Copy)]
-pub enum Pending {
-    Nothing,
-    Type(u8),
-}
-
-// Where the reading stands: before an outer triplet; among the threes of a D0 group (Q5); or before an inner triplet of any other group (Q7). The group
+// Where the reading stands: before an outer triplet, with the type that an MDD left for the SDA after it; among the threes of a D0 group (Q5); or before an inner triplet of any other group (Q7). The group
 // ends at `end`.
 #[derive(Clone, Copy)]
 pub enum Cursor {
     // The small field first: so no variant's pending shares bytes with another's end.
-    Outer { pending: Pending, at: usize },
+    Outer { pending: Option<u8>, at: usize },
     Lids { at: usize, end: usize },
     Inner { at: usize, end: usize },
 }
@@ -62,111 +57,96 @@ pub enum Step {
     },
 }
 
-// The triplet that begins at a place, up to its end, or that none does.
+// A triplet of a description: its type, and where it ends.
 #[derive(Clone, Copy)]
-pub enum Next {
-    Nothing,
-    Triplet { kind: u8, end: usize },
+pub struct Triplet {
+    pub kind: u8,
+    pub end: usize,
 }
 
-// The triplet at a place of a part that ends at `end`, where at least `least` bytes remain.
-pub fn next_triplet(data: &[u8], at: usize, end: usize, least: usize) -> Next
+// The triplet at a place of a part that ends at `end`, where at least `least` bytes remain; or that none begins there.
+pub fn next_triplet(data: &[u8], at: usize, end: usize, least: usize) -> Option<Triplet>
     requires at_le_end { (at ≤ end) × (end ≤ length «data».now) }
     requires le_least { 2 ≤ least }
     ensures { result ≡ next_of least (slice at end «data».now) at }
 {
     let remain = end - at;
     if remain < least {
-        return Next::Nothing;
+        return None;
     }
     let size = data[at] as usize;
     if size < 2 {
-        return Next::Nothing;
+        return None;
     }
     if remain < size {
-        return Next::Nothing;
+        return None;
     }
-    Next::Triplet {
+    Some(Triplet {
         kind: data[at + 1],
         end: at + size,
-    }
+    })
 }
 
-// What an MDD leaves.
-pub fn pending_of(data: &[u8], start: usize, end: usize) -> Pending
-    requires { (start ≤ end) × (end ≤ length «data».now) }
-    ensures { result ≡ last_of (slice start end «data».now) }
+// What an MDD with these data leaves.
+#[tactic(auto, unfolding(crate::specs::Descriptors::last_of))]
+pub fn pending_of(body: &[u8]) -> Option<u8>
+    ensures { result ≡ last_of body.now }
 {
-    if start == end {
-        return Pending::Nothing;
-    }
-    Pending::Type(data[end - 1])
+    body.last().copied()
 }
 
 // Where a group begins whose data is this part.
+#[tactic(auto, unfolding(crate::specs::Steps::group_at))]
 fn group_at(data: &[u8], start: usize, end: usize) -> Cursor
     requires { (start ≤ end) × (end ≤ length «data».now) }
     ensures { result ≡ group_at «data».now start end }
 {
-    if start < end {
-        if data[start] == 0xD0 {
-            return Cursor::Lids { at: start + 1, end };
-        }
+    if start < end && data[start] == 0xD0 {
+        Cursor::Lids { at: start + 1, end }
+    } else {
+        Cursor::Inner { at: start, end }
     }
-    Cursor::Inner { at: start, end }
 }
 
-fn outer_step(data: &[u8], at: usize, pending: Pending) -> Step
+fn outer_step(data: &[u8], at: usize, pending: Option<u8>) -> Step
     requires { at ≤ length «data».now }
     ensures { Leads «data».now (Cursor.Outer pending at) result }
 {
-    let Next::Triplet { kind, end } = next_triplet(data, at, data.len(), 2) else {
+    let Some(Triplet { kind, end }) = next_triplet(data, at, data.len(), 2) else {
         return Step::End(at);
     };
     let start = at + 2;
+    let body = &data[start..end];
+    let next = Cursor::Outer {
+        pending: None,
+        at: end,
+    };
     if kind == TRIPLET_TYPE_SDA {
         if start == end {
-            return Step::Skip(Cursor::Outer {
-                at: end,
-                pending: Pending::Nothing,
-            });
+            return Step::Skip(next);
         }
-        let Pending::Type(mdd) = pending else {
+        let Some(mdd) = pending else {
             return Step::Column {
-                next: Cursor::Outer {
-                    at: end,
-                    pending: Pending::Nothing,
-                },
+                next,
                 source: Source::Sda { start, end },
             };
         };
-        let entry = column::parse_environmental_sda(&data[start..end], mdd);
+        let entry = column::parse_environmental_sda(body, mdd);
         let lid = data[start];
-        return Step::Declare {
-            next: Cursor::Outer {
-                at: end,
-                pending: Pending::Nothing,
-            },
-            entry,
-            lid,
-        };
+        return Step::Declare { next, entry, lid };
     }
     if kind == TRIPLET_TYPE_GDA {
         return Step::Skip(group_at(data, start, end));
     }
     if kind == TRIPLET_TYPE_MDD {
-        let left = pending_of(data, start, end);
+        let left = pending_of(body);
         return Step::Skip(Cursor::Outer {
-            at: end,
             pending: left,
+            at: end,
         });
     }
     // RLOs and triplets of unknown types.
-    let cleared = Pending::Nothing;
-    Step::Skip(Cursor::Outer {
-        at: end,
-        pending: cleared,
-    })
+    Step::Skip(next)
 }
 
 // What it says holds of every description that is long enough.
@@ -176,8 +156,8 @@ fn lid_step(at: usize, end: usize) -> Step
 {
     if end - at < 3 {
         return Step::Skip(Cursor::Outer {
+            pending: None,
             at: end,
-            pending: Pending::Nothing,
         });
     }
     let after = at + 3;
@@ -191,22 +171,21 @@ fn inner_step(data: &[u8], at: usize, end: usize) -> Step
     requires { (at ≤ end) × (end ≤ length «data».now) }
     ensures { Leads «data».now (Cursor.Inner at end) result }
 {
-    let Next::Triplet { kind, end: after } = next_triplet(data, at, end, 3) else {
+    let Some(Triplet { kind, end: after }) = next_triplet(data, at, end, 3) else {
         return Step::Skip(Cursor::Outer {
+            pending: None,
             at: end,
-            pending: Pending::Nothing,
         });
     };
     let start = at + 2;
-    if kind == TRIPLET_TYPE_SDA {
-        if start < after {
-            return Step::Column {
-                next: Cursor::Inner { at: after, end },
-                source: Source::Sda { start, end: after },
-            };
-        }
+    let next = Cursor::Inner { at: after, end };
+    match kind {
+        TRIPLET_TYPE_SDA if start < after => Step::Column {
+            next,
+            source: Source::Sda { start, end: after },
+        },
+        _ => Step::Skip(next),
     }
-    Step::Skip(Cursor::Inner { at: after, end })
 }
 
 // The step at a cursor.
@@ -227,8 +206,7 @@ pub fn outer_at(cursor: Cursor) -> usize
 {
     match cursor {
         Cursor::Outer { at, pending: _ } => at,
-        Cursor::Lids { at: _, end } => end,
-        Cursor::Inner { at: _, end } => end,
+        Cursor::Lids { at: _, end } | Cursor::Inner { at: _, end } => end,
     }
 }
 
@@ -238,12 +216,10 @@ pub fn outer_end(data: &[u8], start: usize) -> usize
     ensures { result ≡ end_from «data».now start }
 {
     let mut at = start;
-    loop {
-        let Next::Triplet { kind: _, end } = next_triplet(data, at, data.len(), 2) else {
-            return at;
-        };
-        at = end;
+    while let Some(triplet) = next_triplet(data, at, data.len(), 2) {
+        at = triplet.end;
     }
+    at
 }
 
 // The LID of a column, or the type code of an SDA: the place of the environment whose entry the column may need.
@@ -252,40 +228,77 @@ pub fn lid_at(data: &[u8], source: Source) -> u8
     ensures { result ≡ get_or «data».now (start_in source) 0 }
 {
     match source {
-        Source::Sda { start, end: _ } => data[start],
-        Source::Lid { start } => data[start],
+        Source::Sda { start, end: _ } | Source::Lid { start } => data[start],
     }
 }
 
-fn sda_said(data: &[u8], start: usize, end: usize) -> Said
-    requires { (start < end) × (end ≤ length «data».now) }
-    ensures { said_column result ≡ sda_column (slice start end «data».now) }
-{
-    column::parse_sda_triplet(&data[start..end])
-}
-
-fn lid_said(data: &[u8], start: usize, entry: EnvEntry) -> Said
-    requires { start + 2 < length «data».now }
-    ensures { said_column result ≡ column_at «data».now entry (Source.Lid start) }
-{
-    column::parse_compact_gda_lid(entry, data[start], data[start + 1], data[start + 2])
-}
-
-fn said_at(data: &[u8], source: Source, entry: EnvEntry) -> Said
+fn said_at(data: &[u8], source: Source, entry: Option<EnvEntry>) -> Said
     requires { SourceWithin «data».now source }
     ensures { said_column result ≡ column_at «data».now entry source }
 {
     match source {
-        Source::Sda { start, end } => sda_said(data, start, end),
-        Source::Lid { start } => lid_said(data, start, entry),
+        Source::Sda { start, end } => column::parse_sda_triplet(&data[start..end]),
+        Source::Lid { start } => {
+            column::parse_compact_gda_lid(entry, data[start], data[start + 1], data[start + 2])
+        }
     }
 }
 
 // The column that is described there. The entry is the environment's for its LID.
-pub fn column_at(data: &[u8], source: Source, entry: EnvEntry) -> ColumnDescriptor
+pub fn column_at(data: &[u8], source: Source, entry: Option<EnvEntry>) -> ColumnDescriptor
     requires { SourceWithin «data».now source }
     ensures { result ≡ column_at «data».now entry source }
 {
     let said = said_at(data, source, entry);
     column::column(said)
+}
+
+// What a reading comes to: where the next column is described, with the environment's entry for its LID and the cursor behind it; or no column, and
+// the place of the first byte that the outer triplets leave unread.
+#[derive(Clone, Copy)]
+pub enum Reached {
+    End(usize),
+    Column {
+        next: Cursor,
+        source: Source,
+        entry: Option<EnvEntry>,
+    },
+}
+
+// Reads on from a cursor to the next column. The environment takes the entries that are declared before it. It is compiled into each caller's loop.
+#[inline(always)]
+pub fn next_column(
+    data: &[u8],
+    cursor: Cursor,
+    environment: &mut [Option<EnvEntry>; LID_COUNT],
+) -> Reached
+    requires { CursorWithin «data».now cursor }
+    ensures { Reaches «data».now cursor environment.old environment.new result }
+{
+    let mut at = cursor;
+    // Each step leads to the next cursor.
+    loop {
+        match next_step(data, at) {
+            Step::End(end) => {
+                return Reached::End(end);
+            }
+            Step::Skip(after) => {
+                at = after;
+            }
+            Step::Declare { next, entry, lid } => {
+                let place = lid as usize;
+                environment[place] = EnvEntry::first(environment[place], Some(entry));
+                at = next;
+            }
+            Step::Column { next, source } => {
+                let lid = lid_at(data, source);
+                let entry = environment[lid as usize];
+                return Reached::Column {
+                    next,
+                    source,
+                    entry,
+                };
+            }
+        }
+    }
 }

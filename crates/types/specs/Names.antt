@@ -1,11 +1,9 @@
 -- A type's name, the numbers that it holds, and the two parts of a length; whether a type is one of a list of types by name, whatever its numbers; tests of columns. Assumes nothing.
-use Rattle.std.specs.Prelude.{ℕ, ◌+◌, ◌*◌, ◌%◌, ◌^◌, Bool, true, false, cond, ◌&&◌, ◌||◌, List, [], ◌∷◌, leb, eqb}
+use Rattle.std.specs.Prelude.{ℕ, ◌+◌, ◌*◌, ◌%◌, ◌^◌, Bool, true, false, cond, ◌&&◌, ◌||◌, List, [], ◌∷◌, leb, eqb, None, Option, Some}
 use Rattle.types.specs.declared.Db2Type.{Db2Type}
 use Rattle.types.specs.declared.Db2Type.TheVariants as type
 use Rattle.types.specs.declared.ByteOrder.{ByteOrder}
 use Rattle.types.specs.declared.ByteOrder.TheVariants.{BigEndian, LittleEndian}
-use Rattle.types.specs.declared.ReferenceLength.{ReferenceLength}
-use Rattle.types.specs.declared.ReferenceLength.TheVariants.{Absent, Width}
 use Rattle.types.specs.declared.ColumnDescriptor.{ColumnDescriptor}
 
 -- the place of a type's name in the enum
@@ -87,9 +85,9 @@ named_in (u ∷ us) t = eqb (name_of u) (name_of t) || named_in us t
 abbrev pub is_dec_float : ColumnDescriptor → Bool
 is_dec_float c = named_in (type.DecFloat 0 ∷ []) c.db2_type
 
-abbrev pub is_absent : ReferenceLength → Bool
-is_absent Absent = true
-is_absent (Width w) = false
+abbrev pub is_absent : Option ℕ → Bool
+is_absent None = true
+is_absent (Some w) = false
 
 abbrev pub is_little_endian : ByteOrder → Bool
 is_little_endian BigEndian = false

@@ -1,10 +1,9 @@
 -- Lists in a fixed number of places, and what an unused place holds: H4, H5. Assumes nothing.
-use Rattle.std.specs.Prelude.{ℕ, ◌-◌, false, List, ◌++◌, length, take, replicate}
+use Rattle.std.specs.Prelude.{ℕ, ◌-◌, false, List, ◌++◌, length, take, replicate, None}
 use Rattle.types.specs.declared.Db2Type.TheVariants as type
 use Rattle.types.specs.declared.Db2Value.{Db2Value}
 use Rattle.types.specs.declared.ByteOrder.TheVariants.{BigEndian}
 use Rattle.types.specs.declared.Origin.TheVariants.{Sda}
-use Rattle.types.specs.declared.ReferenceLength.TheVariants.{Absent}
 use Rattle.types.specs.declared.ColumnDescriptor.{ColumnDescriptor}
 use Rattle.types.specs.declared.Columns.{Columns}
 use Rattle.types.specs.declared.ValuePlace.{ValuePlace}
@@ -31,7 +30,7 @@ blank_column =
       ccsid = 0;
       db2_type = type.Null;
       byte_order = BigEndian;
-      extdta_reference_length = Absent;
+      extdta_reference_length = None;
     }
 
 -- H5: an unused value place

@@ -4,17 +4,15 @@
 
 ghost use Rattle.std.specs.Prelude.{◌≡◌};
 ghost use Rattle.types.specs.Types.{from_drda_type};
-ghost use Rattle.types.specs.FixedLength.{told_length, fixed_length};
+ghost use Rattle.types.specs.FixedLength.{fixed_length};
 ghost use Rattle.types.specs.Names.{graphic_length_is_character_count, graphic_unit, is_dec_float};
 ghost use Rattle.types.specs.Kinds.{kind_in, of_kind};
-
-use refusal::Outcome;
 
 // How many columns a list has places for. specs/Places.antt calls it max_columns.
 pub const MAX_COLUMNS: usize = 128;
 
 // The type of a column, with the numbers that it holds (the Rust: types.rs).
-#[derive(Clone, Copy)]
+#[derive(Clone, Copy, PartialEq, Eq)]
 pub enum Db2Type {
     SmallInt,
     Integer,
@@ -54,15 +52,8 @@ pub struct DrdaType {
     pub nullable: bool,
 }
 
-// The byte count of a type's values, where the type alone tells it: Option<usize> in the Rust.
-#[derive(Clone, Copy)]
-pub enum FixedLength {
-    Bytes(usize),
-    Varies,
-}
-
 // The order of the bytes of a number in the row.
-#[derive(Clone, Copy)]
+#[derive(Clone, Copy, PartialEq, Eq)]
 pub enum ByteOrder {
     BigEndian,
     LittleEndian,
@@ -70,23 +61,16 @@ pub enum ByteOrder {
 
 // Where a description has a column from: an SDA, or a LID of a D0 group, which an environment entry declares or none does. The Rust does not keep it, and
 // nothing is decoded by it.
-#[derive(Clone, Copy)]
+#[derive(Clone, Copy, PartialEq, Eq)]
 pub enum Origin {
     Sda,
     UndeclaredLid,
     DeclaredLid,
 }
 
-// The width of a reference to a LOB outside the row that the description declares: Option<u16> in the Rust. A width of 0 is declared.
-#[derive(Clone, Copy)]
-pub enum ReferenceLength {
-    Absent,
-    Width(u16),
-}
-
 // The origin stands in a byte that would else be padding, so that the struct does not grow by it. The byte order stands before the reference length. Behind
 // it, its load waited for bytes that were just stored in another width (seen in a profile of Integer columns).
-#[derive(Clone, Copy)]
+#[derive(Clone, Copy, PartialEq, Eq)]
 pub struct ColumnDescriptor {
     pub column_index: u8,
     pub drda_type: u8,
@@ -98,7 +82,8 @@ pub struct ColumnDescriptor {
     pub ccsid: u16,
     pub db2_type: Db2Type,
     pub byte_order: ByteOrder,
-    pub extdta_reference_length: ReferenceLength,
+    // The width of a reference to a LOB outside the row that the description declares. A width of 0 is declared.
+    pub extdta_reference_length: Option<u16>,
 }
 
 // The columns in order, and how many they are. The places after them are unused.
@@ -109,7 +94,7 @@ pub struct Columns {
 }
 
 // Where bytes lie, in the row or in the text buffer.
-#[derive(Clone, Copy)]
+#[derive(Clone, Copy, PartialEq, Eq)]
 pub struct Place {
     pub start: usize,
     pub len: usize,
@@ -117,7 +102,7 @@ pub struct Place {
 
 // A value. A text is a place in the text buffer; a Binary or a Blob is a place in the row. Real and Double hold every float that is no NaN,
 // RealNan and DoubleNan the bits of one that is.
-#[derive(Clone, Copy)]
+#[derive(Clone, Copy, PartialEq)]
 pub enum Db2Value {
     Null,
     SmallInt(i16),
@@ -142,16 +127,16 @@ pub enum Db2Value {
 }
 
 // A column's value, and whether the value refers to data outside the row.
-#[derive(Clone, Copy)]
+#[derive(Clone, Copy, PartialEq)]
 pub struct ValuePlace {
     pub value: Db2Value,
     pub external: bool,
 }
 
-// What the row call answers: a value place for each column, how many bytes of the input were used, and how many U+FFFD its texts' conversions put in.
+// What the row call answers, where it refuses nothing: a value place for each column, how many bytes of the input were used, and how many U+FFFD its texts'
+// conversions put in.
 #[derive(Clone, Copy)]
-pub struct RowAnswer {
-    pub outcome: Outcome,
+pub struct Row {
     pub places: [ValuePlace; MAX_COLUMNS],
     pub used: usize,
     pub replaced: usize,
@@ -293,13 +278,10 @@ const BASE_CODES: [BaseCode; BASE_CODE_COUNT] = [
 fn kind_in(table: [BaseCode; BASE_CODE_COUNT], base: u8) -> Kind
     ensures { result ≡ kind_in table base }
 {
-    let mut i: usize = 0;
-    while i < BASE_CODE_COUNT {
-        let entry = table[i];
+    for entry in &table {
         if entry.code == base {
             return entry.kind;
         }
-        i += 1;
     }
     Kind::VarChar
 }
@@ -356,41 +338,31 @@ impl Db2Type {
     }
 
     // The byte count of the type's values, where the type alone tells it. The row call goes by the column and not by this.
-    pub fn fixed_length(self) -> FixedLength
-        ensures { told_length result ≡ fixed_length self }
+    pub fn fixed_length(self) -> Option<usize>
+        ensures { result ≡ fixed_length self }
     {
         match self {
-            Db2Type::SmallInt => FixedLength::Bytes(2),
-            Db2Type::Integer => FixedLength::Bytes(4),
-            Db2Type::BigInt => FixedLength::Bytes(8),
-            Db2Type::Real => FixedLength::Bytes(4),
-            Db2Type::Double => FixedLength::Bytes(8),
+            Db2Type::SmallInt => Some(2),
+            Db2Type::Integer => Some(4),
+            Db2Type::BigInt => Some(8),
+            Db2Type::Real => Some(4),
+            Db2Type::Double => Some(8),
             Db2Type::Decimal {
                 precision,
                 scale: _,
-            } => FixedLength::Bytes((precision as usize + 2) / 2),
-            Db2Type::DecFloat(digits) => {
-                if digits == 34 {
-                    FixedLength::Bytes(16)
-                } else {
-                    FixedLength::Bytes(8)
-                }
-            }
-            Db2Type::Char(len) => FixedLength::Bytes(len as usize),
-            Db2Type::Date => FixedLength::Bytes(10),
-            Db2Type::Time => FixedLength::Bytes(8),
-            Db2Type::Timestamp => FixedLength::Bytes(26),
-            Db2Type::Boolean => FixedLength::Bytes(1),
-            Db2Type::BlobLocator | Db2Type::ClobLocator | Db2Type::DbClobLocator => {
-                FixedLength::Bytes(4)
-            }
-            Db2Type::Binary(len) => FixedLength::Bytes(len as usize),
-            Db2Type::Graphic(len) => FixedLength::Bytes(len as usize * 2),
-            Db2Type::LobBytes(len) | Db2Type::LobChar(len) => {
-                FixedLength::Bytes(len as usize % 0x8000)
-            }
-            Db2Type::RowId(len) => FixedLength::Bytes(len as usize),
-            _ => FixedLength::Varies,
+            } => Some((precision as usize + 2) / 2),
+            Db2Type::DecFloat(digits) => { if digits == 34 { Some(16) } else { Some(8) } }
+            Db2Type::Char(len) => Some(len as usize),
+            Db2Type::Date => Some(10),
+            Db2Type::Time => Some(8),
+            Db2Type::Timestamp => Some(26),
+            Db2Type::Boolean => Some(1),
+            Db2Type::BlobLocator | Db2Type::ClobLocator | Db2Type::DbClobLocator => { Some(4) }
+            Db2Type::Binary(len) => Some(len as usize),
+            Db2Type::Graphic(len) => Some(len as usize * 2),
+            Db2Type::LobBytes(len) | Db2Type::LobChar(len) => { Some(len as usize % 0x8000) }
+            Db2Type::RowId(len) => Some(len as usize),
+            _ => None,
         }
     }
 }

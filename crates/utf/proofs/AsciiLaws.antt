@@ -8,12 +8,12 @@ use native.Mathlib.Numerals.{add-one}
 use borrow.Author.Tests.{ltb-true, ltb-false, lt-ltb, le-leb, lt-leb, leb-false, not-true, not-false}
 use lib.Bits.{bit_or, or_add_and, and_le_l, and_le_r}
 use lib.Dec.{T, ltb, leb}
-use lib.ListN.{length, take, drop, get_or, length-drop}
-use lib.Seq.{take-suc, take-add, take_all}
+use lib.ListN.{length, take, drop, get_or, length-drop, length-append}
+use lib.Seq.{take-suc, take-add, take_all, drop-drop, take-append_seam, drop-append_seam}
 use Rattle.unicode_standard.specs.Ascii.{all_ascii}
 use Rattle.unicode_standard.proofs.Ranges.{never}
 use Rattle.utf.specs.Ascii.{AsciiRun}
-use Rattle.utf.specs.Utf16Code.{bit_of}
+use Rattle.std.specs.Int.{from_bool}
 
 -- ---- a whole list, read from its first byte on, with the largest byte so far
 
@@ -92,6 +92,15 @@ run_block i e s r h k q =
     let z : i + (e - i) ≡ e = omega arith in
     record { fits = k; ascii = rw (← z, take-add i (e - i) s) (ascii_append (take i s) (take (e - i) (drop i s)) r.ascii q) }
 
+-- a chunk more
+pub run_chunk : (n m : ℕ) (s : List ℕ) → AsciiRun n s → (block rest : List ℕ) → drop n s ≡ block ++ rest → length block ≡ m → all_ascii block ≡ true → (rest ≡ drop (n + m) s) × AsciiRun (n + m) s
+run_chunk n m s r block rest e k q =
+    let front : take m (drop n s) ≡ block = rw (e, ← k) (take-append_seam block rest) in
+    let back : drop m (drop n s) ≡ rest = rw (e, ← k) (drop-append_seam block rest) in (
+      sym back ∙ drop-drop m n s,
+      run_more n m s r (record { fits = omega (arith, ap length e, length-append block rest, k); ascii = rw front q }),
+    )
+
 -- a byte more
 pub run_byte : (i : ℕ) (s : List ℕ) → AsciiRun i s → i < length s → get_or s i 0 < 0x80 → AsciiRun (i + 1) s
 unfolding all_ascii
@@ -115,10 +124,10 @@ pub record Leading (s : List ℕ) (all : Bool) (n i : ℕ) : Type 0 where
   pub most : n ≤ i
 
 -- a byte more
-pub leading_more : (s : List ℕ) (all : Bool) (n i : ℕ) → Leading s all n i → i < length s → (m : ℕ) → m ≡ bit_of (all && ltb (get_or s i 0) 0x80) → Leading s (all && ltb (get_or s i 0) 0x80) (n + m) (i + 1)
+pub leading_more : (s : List ℕ) (all : Bool) (n i : ℕ) → Leading s all n i → i < length s → (m : ℕ) → m ≡ from_bool (all && ltb (get_or s i 0) 0x80) → Leading s (all && ltb (get_or s i 0) 0x80) (n + m) (i + 1)
 leading_more s all n i l h m q = go all (ltb (get_or s i 0) 0x80) refl refl q
   where
-    go : (x y : Bool) → all ≡ x → ltb (get_or s i 0) 0x80 ≡ y → m ≡ bit_of (x && y) → Leading s (x && y) (n + m) (i + 1)
+    go : (x y : Bool) → all ≡ x → ltb (get_or s i 0) 0x80 ≡ y → m ≡ from_bool (x && y) → Leading s (x && y) (n + m) (i + 1)
     go true true e f z =
         let k : n ≡ i = l.so_far e in
         let o : n + m ≡ n + 1 = omega arith in

@@ -13,7 +13,7 @@ use Rattle.unicode_standard.specs.Unicode.{scalar, within, range}
 use Rattle.unicode_standard.specs.Likely.{is_control, is_tab_or_line_end, likely_piece, likely_text}
 use Rattle.utf.specs.Utf8Code.{first_at, trail_at, is_scalar, PieceAt}
 use Rattle.utf.specs.Utf8Blocks.{Follows, Each, Ends, led}
-use Rattle.utf.specs.declared.likely.Character.TheVariants.{Likely}
+use Rattle.std.specs.Prelude.{Some}
 use Rattle.utf.specs.LikelyCode.{LikelyAt, LikelyRun, Shown, AllShown, LikelyAfter}
 use Rattle.utf.proofs.Utf8Laws.{step_ascii}
 use Rattle.utf.proofs.Utf8BlockLaws.{neither, unless, ByPieces, whole_pieces}
@@ -32,7 +32,7 @@ likely_more n m s r q = record {
 }
 
 -- a piece more
-pub likely_next_piece : (s : List ℕ) (e n : ℕ) → LikelyRun e s → LikelyAt s e (Likely n) → LikelyRun (e + n) s
+pub likely_next_piece : (s : List ℕ) (e n : ℕ) → LikelyRun e s → LikelyAt s e (Some n) → LikelyRun (e + n) s
 likely_next_piece s e n r a = record { same = r.same ∙ a.1.1; fits = a.1.0 }
 
 first_run : (s : List ℕ) (k : ℕ) → 0 < length s → PieceAt s 0 k true → likely_piece (first_at s 0).piece ≡ true → LikelyRun k s

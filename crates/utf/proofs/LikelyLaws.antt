@@ -1,17 +1,17 @@
 -- Likely text, piece by piece. Assumes nothing.
 use Prim.Native.Nat.{ℕ, zero, suc, ◌+◌, ◌-◌, ◌/◌, ◌%◌, ◌≤◌, ◌<◌}
-use mathlib.Core.Bool.{Bool, true, false, cond}
+use mathlib.Core.Bool.{Bool, true, false, cond, ◌||◌}
 use mathlib.Core.List.{List, [], ◌∷◌}
 use mathlib.Core.Path.{◌≡◌, refl, sym, ap, subst, ◌∙◌}
 use native.Mathlib.Omega.{arith}
-use borrow.Author.Tests.{lt-ltb, le-ltb, le-leb, lt-leb, eq-eqb, ne_eqb, ltb-true, ltb-false}
+use borrow.Author.Tests.{lt-ltb, le-ltb, le-leb, lt-leb, ne_eqb, ltb-true, ltb-false}
 use lib.Dec.{T, ltb, eqb}
 use lib.ListN.{length, take, drop, get_or, length-drop, drop_of_length-le}
 use lib.Seq.{drop-cons, drop-drop, get_or-drop}
 use Rattle.unicode_standard.specs.Unicode.{Piece, scalar, malformed, utf8, first_by, first_of, fit, scalar_from, table_3_7, within, range, read_from}
 use Rattle.utf.specs.Utf8Code.{first_at, trail_at, is_scalar}
 use Rattle.unicode_standard.specs.Likely.{is_control, is_tab_or_line_end, likely_piece, all_likely, likely_text}
-use Rattle.utf.specs.declared.likely.Character.TheVariants.{Likely, Unlikely}
+use Rattle.std.specs.Prelude.{Some, None}
 use Rattle.utf.specs.LikelyCode.{LikelyAt}
 use Rattle.unicode_standard.proofs.Reading.{read_cons}
 use Rattle.unicode_standard.proofs.ScalarBytes.{utf8_one, utf8_two, utf8_three, utf8_four}
@@ -29,10 +29,10 @@ likely_next s e h =
     rw (drop-cons s e 0 h, read_cons first_of (get_or s e 0) (drop (suc e) s), drop-drop m (suc e) s, q)
 
 module _ (s : List ℕ) (e : ℕ) (h : e < length s) where
-  pub unlikely : likely_piece (first_at s e).piece ≡ false → LikelyAt s e Unlikely
+  pub unlikely : likely_piece (first_at s e).piece ≡ false → LikelyAt s e None
   unlikely q = likely_next s e h ∙ rw q
 
-  pub likely : (n : ℕ) → n ≡ suc (first_at s e).more → likely_piece (first_at s e).piece ≡ true → LikelyAt s e (Likely n)
+  pub likely : (n : ℕ) → n ≡ suc (first_at s e).more → likely_piece (first_at s e).piece ≡ true → LikelyAt s e (Some n)
   unfolding first_at
   likely n k q = (omega arith, (omega (arith, more_length (get_or s e 0) (drop (suc e) s), length-drop (suc e) s), likely_next s e h ∙ rw (q, k)))
 
@@ -160,17 +160,14 @@ module _ (s : List ℕ) (e : ℕ) where
 -- ---- an ASCII character
 
 module _ (b : ℕ) where
-  pub tab : b < 0x20 → b ≡ 0x9 → true ≡ likely_piece (scalar b)
+  pub tab_or_line_end : b < 0x20 → (eqb b 0x9 || eqb b 0xA || eqb b 0xD) ≡ likely_piece (scalar b)
   unfolding likely_piece is_control is_tab_or_line_end
-  tab h k = rw (lt-ltb b 0x20 h, eq-eqb b 0x9 k)
-
-  pub line_feed : b < 0x20 → (b ≡ 0x9 → ⊥) → b ≡ 0xA → true ≡ likely_piece (scalar b)
-  unfolding likely_piece is_control is_tab_or_line_end
-  line_feed h k l = rw (lt-ltb b 0x20 h, ne_eqb b 0x9 k, eq-eqb b 0xA l)
-
-  pub return_only : b < 0x20 → (b ≡ 0x9 → ⊥) → (b ≡ 0xA → ⊥) → eqb b 0xD ≡ likely_piece (scalar b)
-  unfolding likely_piece is_control is_tab_or_line_end
-  return_only h k l = rw (lt-ltb b 0x20 h, ne_eqb b 0x9 k, ne_eqb b 0xA l)
+  tab_or_line_end h = rw (lt-ltb b 0x20 h) (go (eqb b 0x9) (eqb b 0xA))
+    where
+      go : (t u : Bool) → (t || u || eqb b 0xD) ≡ cond t true (cond u true (eqb b 0xD))
+      go true u = refl
+      go false true = refl
+      go false false = refl
 
   pub no_delete : 0x20 ≤ b → b < 0x80 → ltb b 0x7F ≡ likely_piece (scalar b)
   unfolding likely_piece is_control is_tab_or_line_end

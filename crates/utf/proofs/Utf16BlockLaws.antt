@@ -12,16 +12,17 @@ use lib.ListN.{length, drop, get_or, set, replicate}
 use lib.Seq.{set_at}
 use Rattle.unicode_standard.specs.Unicode.{range, within, utf16_text}
 use Rattle.unicode_standard.proofs.Ranges.{never, inside, is_inside, outside}
-use Rattle.utf.specs.Utf16Code.{unit_at, bit_of, single, extra_of, Extra, starts}
+use Rattle.std.specs.Int.{from_bool}
+use Rattle.utf.specs.Utf16Code.{unit_at, single, extra_of, Extra, starts}
 use Rattle.utf.proofs.Utf16Laws.{UnitLength, high_below, high_above, replaced_length, one_byte, two_bytes, three_bytes, low_or_above, pair_length}
 
-pub bit_most : (x : Bool) → bit_of x ≤ 1
+pub bit_most : (x : Bool) → from_bool x ≤ 1
 bit_most true = omega arith
 bit_most false = omega arith
 
 -- what the code of `extra` says
 pub extra : (on a b c : ℕ) (m n : Bool) → m ≡ within a (range 0xD8 0xDB) → n ≡ within c (range 0xDC 0xDF) → (x y : ℕ)
-    → x ≡ bit_of (not (eqb on 0) && not (m && n) && (not (eqb a 0) || leb 0x80 b)) → y ≡ bit_of (not (eqb on 0) && not (m && n) && leb 8 a) → Extra on a b c (x + y)
+    → x ≡ from_bool (not (eqb on 0) && not (m && n) && (not (eqb a 0) || leb 0x80 b)) → y ≡ from_bool (not (eqb on 0) && not (m && n) && leb 8 a) → Extra on a b c (x + y)
 unfolding extra_of
 extra on a b c m n em en x y ex ey = record {
   off = λ z. let e = eq-eqb on 0 z in let f : x ≡ 0 = rw e at ex in let g : y ≡ 0 = rw e at ey in omega arith;

@@ -14,7 +14,8 @@ use lib.Seq.{get_or-set_same, get_or-set_other, get_or-drop, drop-drop}
 use Rattle.unicode_standard.specs.Unicode.{range, within, utf8, replacements, utf16_pieces, utf16_text}
 use Rattle.unicode_standard.proofs.Ranges.{never, inside, is_inside, is_below, is_above, outside}
 use Rattle.unicode_standard.proofs.ScalarBytes.{utf8_one, utf8_two, utf8_three, utf8_four}
-use Rattle.utf.specs.Utf16Code.{unit_at, Utf16Next, bit_of, takes_three, unit_bytes, Counted, LaidAt, Laid, BlockEnd, AfterFirst}
+use Rattle.std.specs.Int.{from_bool}
+use Rattle.utf.specs.Utf16Code.{unit_at, Utf16Next, takes_three, unit_bytes, Counted, LaidAt, Laid, BlockEnd, AfterFirst}
 use Rattle.buffer.specs.Filling.{Filling}
 use Rattle.utf.proofs.AsciiLaws.{rest}
 use Rattle.utf.proofs.Utf16Laws.{below_surrogates, above_surrogates, pair}
@@ -71,13 +72,13 @@ third_byte y a b = go (takes_three a) (within a (range 0xD8 0xDB)) (within a (ra
 more : (a b : ℕ) → 0 < a → not (eqb a 0) || leb 0x80 b ≡ true
 more a b h = rw (ne_eqb a 0 (λ e. omega arith))
 
-size : (y a b : ℕ) → cond (takes_three a) 3 (1 + bit_of (not (eqb a 0) || leb 0x80 b)) ≡ length (unit_bytes y a b)
+size : (y a b : ℕ) → cond (takes_three a) 3 (1 + from_bool (not (eqb a 0) || leb 0x80 b)) ≡ length (unit_bytes y a b)
 unfolding unit_bytes
 size y a b =
     go (takes_three a) (within a (range 0xD8 0xDB)) (within a (range 0xDC 0xDF)) (not (eqb a 0) || leb 0x80 b)
     (λ e. let k = inside a (range 0xD8 0xDB) e in more a b (omega arith)) (λ e. let k = inside a (range 0xDC 0xDF) e in more a b (omega arith))
   where
-    go : (t h l w : Bool) → (h ≡ true → w ≡ true) → (l ≡ true → w ≡ true) → cond t 3 (1 + bit_of w)
+    go : (t h l w : Bool) → (h ≡ true → w ≡ true) → (l ≡ true → w ≡ true) → cond t 3 (1 + from_bool w)
         ≡ length (kinds y a b t h l w)
     go true h l w p q = refl
     go false true l true p q = refl
@@ -87,7 +88,7 @@ size y a b =
     go false false false true p q = refl
     go false false false false p q = refl
 
-three_most : (t w : Bool) → (0 < cond t 3 (1 + bit_of w)) × (cond t 3 (1 + bit_of w) ≤ 3)
+three_most : (t w : Bool) → (0 < cond t 3 (1 + from_bool w)) × (cond t 3 (1 + from_bool w) ≤ 3)
 three_most true w = (omega arith, omega arith)
 three_most false true = (omega arith, omega arith)
 three_most false false = (omega arith, omega arith)
@@ -103,10 +104,10 @@ none_alone false z true false n r e k = let x : ⊥ = omega arith in absurd x
 none_alone false z false c n r e k = (e, (λ p. never p, λ p. never p))
 
 pub counted : (z a b c : ℕ) (l m h n t : Bool) → l ≡ within a (range 0xDC 0xDF) → m ≡ within z (range 0xD8 0xDB) → h ≡ within a (range 0xD8 0xDB) → n ≡ within c (range 0xDC 0xDF)
-    → t ≡ takes_three a → (w k r : ℕ) → w ≡ bit_of (not (eqb a 0) || leb 0x80 b) → k ≡ cond t 3 (1 + w) → r ≡ cond (l && not m || h && not n) 0 k → Counted z a b c r
+    → t ≡ takes_three a → (w k r : ℕ) → w ≡ from_bool (not (eqb a 0) || leb 0x80 b) → k ≡ cond t 3 (1 + w) → r ≡ cond (l && not m || h && not n) 0 k → Counted z a b c r
 counted z a b c l m h n t el em eh en et w k r ew ek er =
     let x : r ≡ cond (within a (range 0xDC 0xDF) && not (within z (range 0xD8 0xDB)) || within a (range 0xD8 0xDB) && not (within c (range 0xDC 0xDF))) 0 k = rw (el, em, eh, en) at er in
-    let q : k ≡ cond (takes_three a) 3 (1 + bit_of (not (eqb a 0) || leb 0x80 b)) = rw (et, ew) at ek in
+    let q : k ≡ cond (takes_three a) 3 (1 + from_bool (not (eqb a 0) || leb 0x80 b)) = rw (et, ew) at ek in
     let few = three_most (takes_three a) (not (eqb a 0) || leb 0x80 b) in
     let all = none_alone (within a (range 0xDC 0xDF)) (within z (range 0xD8 0xDB)) (within a (range 0xD8 0xDB)) (within c (range 0xDC 0xDF)) k r x in
     record {

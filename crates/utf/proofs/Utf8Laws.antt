@@ -3,6 +3,7 @@ use Prim.Native.Nat.{ℕ, zero, suc, ◌+◌, ◌≤◌, ◌<◌}
 use mathlib.Core.Bool.{Bool, true, false, cond}
 use mathlib.Core.List.{List, [], ◌∷◌}
 use mathlib.Core.Option.{none, some}
+use Rattle.std.specs.Prelude.{Some}
 use mathlib.Core.Path.{◌≡◌, refl, sym, ap, ◌∙◌}
 use native.Mathlib.Omega.{arith}
 use native.Mathlib.Numerals.{add-one, add-two, add-three}
@@ -12,7 +13,6 @@ use lib.ListN.{replicate, length, drop, get_or, drop_of_length-le, length-replic
 use lib.Seq.{drop-cons}
 use Rattle.unicode_standard.specs.Unicode.{scalar, malformed, Range, Sequence, range, sequence, trail, within, table_3_7, sequence_in, fit, first_by, first_of}
 use Rattle.utf.specs.Utf8Code.{trail_at, first_at, is_scalar, ranges, PieceAt, fit_after, lowest_after, highest_after, with_first, Coded, Common}
-use Rattle.utf.specs.declared.utf8.Look.TheVariants.{Known}
 use Rattle.utf.specs.declared.utf8.Standing.TheVariants.{WellFormed, Malformed}
 
 -- ---- which row of the table a byte begins
@@ -233,11 +233,11 @@ unfolding trail_at
 there s j h e = rw (lt-ltb j (length s) h) e
 
 module _ (s : List ℕ) (i : ℕ) (e1 : trail_at s (i + 1) 0x80 0xBF ≡ true) where
-  pub common_2 : 0xC2 ≤ get_or s i 0 → get_or s i 0 < 0xE0 → Common s i (Known 2)
+  pub common_2 : 0xC2 ≤ get_or s i 0 → get_or s i 0 < 0xE0 → Common s i (Some 2)
   unfolding ranges
   common_2 h k = (omega arith, (omega arith, step_row s i 1 0x80 0xBF 0 1 (omega arith) refl (last_2 s i 0x80 0xBF 0 e1 refl)))
 
-  pub common_3 : trail_at s (i + 2) 0x80 0xBF ≡ true → 0xE1 ≤ get_or s i 0 → get_or s i 0 < 0xF0 → (get_or s i 0 ≡ 0xED → ⊥) → Common s i (Known 3)
+  pub common_3 : trail_at s (i + 2) 0x80 0xBF ≡ true → 0xE1 ≤ get_or s i 0 → get_or s i 0 < 0xF0 → (get_or s i 0 ≡ 0xED → ⊥) → Common s i (Some 3)
   unfolding ranges
   common_3 e2 h k l = (omega arith, (omega arith, go (ltb (get_or s i 0) 0xED) refl))
     where

@@ -1,11 +1,11 @@
 -- Runs of well-formed UTF-8, and the parts between them. Assumes nothing.
 use Prim.Native.Nat.{ℕ, zero, suc, ◌+◌, ◌-◌, ◌≤◌, ◌<◌}
-use mathlib.Core.Bool.{Bool, true, false, cond}
+use mathlib.Core.Bool.{Bool, true, false, cond, not}
 use mathlib.Core.List.{List, [], ◌∷◌, ◌++◌, append_assoc, append-nil}
-use mathlib.Core.Option.{Option, none, some}
+use mathlib.Core.Option.{Option as LogicOption, none, some}
+use Rattle.std.specs.Prelude.{Option, Some, None, is_some}
 use mathlib.Core.Path.{◌≡◌, refl, sym, ap, subst, ◌∙◌}
 use native.Mathlib.Omega.{arith}
-use native.Mathlib.Nat.{not-suc-le-zero}
 use lib.Dec.{T}
 use lib.ListN.{length, take, drop, get_or, length-drop, drop_of_length-le, length-append}
 use lib.Seq.{drop-cons, drop-drop, take-add, take_at, length-take-le}
@@ -17,6 +17,7 @@ use Rattle.utf.proofs.AsciiLaws.{run_first, rest}
 use Rattle.utf.proofs.Utf8Laws.{step_ascii}
 use Rattle.buffer.specs.Buffer.{overwritten}
 use Rattle.buffer.proofs.Writing.{Writing, next}
+use Rattle.unicode_standard.proofs.Ranges.{never}
 use Rattle.unicode_standard.proofs.Reading.{read_cons, text_append, replaced_append}
 use Rattle.unicode_standard.proofs.Utf8Bytes.{first_text}
 
@@ -48,7 +49,7 @@ fit_length (r ∷ rs) (b ∷ bs) = go (within b r) (fit_length rs bs)
     go true h = omega arith
     go false h = omega arith
 
-by_length : (o : Option Sequence) (b : ℕ) (bs : List ℕ) → (first_by o b bs).more ≤ length bs
+by_length : (o : LogicOption Sequence) (b : ℕ) (bs : List ℕ) → (first_by o b bs).more ≤ length bs
 unfolding first_by
 by_length none b bs = omega arith
 by_length (some r) b bs = fit_length r.trails bs
@@ -77,22 +78,23 @@ module _ (s : List ℕ) (i n : ℕ) (h : i < length s) (e : n ≡ suc (first_at 
   unfolding first_at
   good_at q = rw (e, drop-cons s i 0 h) (good_one (get_or s i 0) (drop (suc i) s) _ refl q)
 
-  pub stop_at : is_scalar (first_at s i).piece ≡ false → Stop i n s
+  pub stop_at : is_scalar (first_at s i).piece ≡ false → Stop i (Some n) s
   unfolding first_at
-  stop_at q = record {
-    done = λ z. omega arith;
-    part = λ z.
-        let k : suc i + (first_at s i).more ≡ i + n = omega (arith, e) in
-        rw (drop-cons s i 0 h) (stop_one (get_or s i 0) (drop (suc i) s) _ refl q ∙ rw (drop-drop (first_at s i).more (suc i) s, k));
-    fits = omega (arith, length-drop (suc i) s, more_length (get_or s i 0) (drop (suc i) s));
-  }
+  stop_at q =
+      let k : suc i + (first_at s i).more ≡ i + n = omega (arith, e) in (
+        omega (arith, e),
+        (
+          rw (drop-cons s i 0 h) (stop_one (get_or s i 0) (drop (suc i) s) _ refl q ∙ rw (drop-drop (first_at s i).more (suc i) s, k)),
+          omega (arith, length-drop (suc i) s, more_length (get_or s i 0) (drop (suc i) s)),
+        ),
+      )
 
-pub stop_end : (n : ℕ) (l : List ℕ) → Good n l → length l ≤ n → Stop n 0 l
-stop_end n l g h = record {
-  done = λ z. omega (arith, g.fits);
-  part = λ z. absurd (not-suc-le-zero z);
-  fits = omega (arith, g.fits);
-}
+pub stop_end : (n : ℕ) (l : List ℕ) → Good n l → length l ≤ n → Stop n None l
+stop_end n l g h = omega (arith, g.fits)
+
+pub stop_whole : (n : ℕ) (m : Option ℕ) (l : List ℕ) → Stop n m l → (x : Bool) → is_some m ≡ not x → x ≡ true → n ≡ length l
+stop_whole n None l s x q e = s
+stop_whole n (Some m) l s x q e = never (sym (rw e at q))
 
 -- ---- the text of a run and of what follows it
 

@@ -1,16 +1,14 @@
 -- What the functions of src/likely.rt and src/likely_blocks.rt say of a position in a slice: for inner functions; no public promise rests on it. Assumes
 -- nothing.
-use Rattle.std.specs.Prelude.{ℕ, ◌+◌, ◌≤◌, ◌<◌, true, false, List, ◌≡◌, length, drop, get_or}
+use Rattle.std.specs.Prelude.{ℕ, ◌+◌, ◌≤◌, ◌<◌, true, false, Option, Some, None, List, ◌≡◌, length, drop, get_or}
 use Rattle.unicode_standard.specs.Unicode.{scalar, within, range}
 use Rattle.unicode_standard.specs.Likely.{likely_piece, likely_text}
-use Rattle.utf.specs.declared.likely.Character.{Character}
-use Rattle.utf.specs.declared.likely.Character.TheVariants.{Likely, Unlikely}
 use Rattle.utf.specs.Utf8Blocks.{Follows}
 
 -- at e is a piece of n bytes that a likely text may have, so that what follows it decides; or one that it may not have
-abbrev pub LikelyAt : List ℕ → ℕ → Character → Type 0
-LikelyAt s e (Likely n) = (0 < n) × ((e + n ≤ length s) × (likely_text (drop e s) ≡ likely_text (drop (e + n) s)))
-LikelyAt s e Unlikely = likely_text (drop e s) ≡ false
+abbrev pub LikelyAt : List ℕ → ℕ → Option ℕ → Type 0
+LikelyAt s e (Some n) = (0 < n) × ((e + n ≤ length s) × (likely_text (drop e s) ≡ likely_text (drop (e + n) s)))
+LikelyAt s e None = likely_text (drop e s) ≡ false
 
 -- The first n bytes of s are pieces that a likely text may have: what follows them decides
 pub record LikelyRun (n : ℕ) (s : List ℕ) : Type 0 where

@@ -1,5 +1,6 @@
 -- What the UTF-16 functions of src/utf16.rt say of a position in a slice: for inner functions; no public promise rests on it. Assumes nothing.
 use Rattle.std.specs.Prelude.{ℕ, zero, suc, ◌+◌, ◌*◌, ◌/◌, ◌%◌, ◌≤◌, ◌<◌, Bool, true, false, cond, not, ◌&&◌, ◌||◌, List, [], ◌∷◌, ◌++◌, ◌⊎◌, ◌≡◌, leb, eqb, length, drop, get_or}
+use Rattle.std.specs.Int.{from_bool}
 use Rattle.buffer.specs.Filling.{Filling}
 use Rattle.unicode_standard.specs.Unicode.{range, within, utf8, replacements, utf16_pieces, utf16_text}
 
@@ -15,16 +16,13 @@ pub record Utf16Next (s : List ℕ) (i v n r : ℕ) : Type 0 where
   pub scalar : v < 0x110000
   pub part : replacements (utf16_pieces (drop i s)) ≡ r + replacements (utf16_pieces (drop (i + n) s))
 
-abbrev pub bit_of : Bool → ℕ
-bit_of x = cond x 1 0
-
 -- the unit of the bytes a and b is no high surrogate before a low one, whose first byte is c
 abbrev pub single : ℕ → ℕ → Bool
 single a c = not (within a (range 0xD8 0xDB) && within c (range 0xDC 0xDF))
 
 -- How many bytes of the text, beyond one, a unit of the bytes a and b stands for
 unfoldable pub extra_of : ℕ → ℕ → ℕ → ℕ
-extra_of a b c = bit_of (single a c && (not (eqb a 0) || leb 0x80 b)) + bit_of (single a c && leb 8 a)
+extra_of a b c = from_bool (single a c && (not (eqb a 0) || leb 0x80 b)) + from_bool (single a c && leb 8 a)
 
 -- the same, r, where `on` is 1, and nothing where it is 0
 pub record Extra (on a b c r : ℕ) : Type 0 where

@@ -1,5 +1,5 @@
 -- What the functions of src/blocks.rt say of a byte and the three before it: for inner functions; no public promise rests on it. Assumes nothing.
-use Rattle.std.specs.Prelude.{ℕ, suc, ◌<◌, Bool, true, false, ◌||◌, List, ◌∷◌, ◌≡◌, leb, get_or}
+use Rattle.std.specs.Prelude.{ℕ, suc, ◌≤◌, ◌<◌, Bool, true, false, ◌||◌, List, ◌∷◌, ◌≡◌, leb, length, get_or}
 use Rattle.unicode_standard.specs.Unicode.{within, range, trail}
 
 -- after the bytes a, b and c a sequence goes on: c begins one, or b one of three bytes or four, or a one of four
@@ -31,3 +31,10 @@ Ends l n = wanted (get_or l n 0) (get_or l (suc n) 0) (get_or l (suc (suc n)) 0)
 -- bytes, with three zeros for what is before the first
 abbrev pub led : List ℕ → List ℕ
 led s = 0 ∷ 0 ∷ 0 ∷ s
+
+-- R holds of each of the first i bytes of s, and the first n of these end whole
+pub record JoinedPart (R : ℕ → ℕ → ℕ → ℕ → Type 0) (s : List ℕ) (n : ℕ) : Type 0 where
+  pub i : ℕ
+  pub fits : i ≤ length s
+  pub each : Each R (led s) i
+  pub end : (n ≤ i) × Ends (led s) n

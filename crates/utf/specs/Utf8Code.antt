@@ -1,9 +1,7 @@
 -- What the UTF-8 functions of src/utf8.rt say of a position in a slice: for inner functions; no public promise rests on it. Assumes nothing.
-use Rattle.std.specs.Prelude.{ℕ, suc, ◌+◌, ◌≤◌, ◌<◌, Bool, true, false, cond, List, ◌∷◌, ◌++◌, ◌≡◌, ltb, eqb, length, take, drop, get_or, replicate}
+use Rattle.std.specs.Prelude.{ℕ, suc, ◌+◌, ◌≤◌, ◌<◌, Bool, true, false, cond, Option, Some, None, List, ◌∷◌, ◌++◌, ◌≡◌, ltb, eqb, length, take, drop, get_or, replicate}
 use Rattle.utf.specs.declared.utf8.Standing.{Standing}
 use Rattle.utf.specs.declared.utf8.Standing.TheVariants.{WellFormed, Malformed}
-use Rattle.utf.specs.declared.utf8.Look.{Look}
-use Rattle.utf.specs.declared.utf8.Look.TheVariants.{Known, Unknown}
 use Rattle.unicode_standard.specs.Unicode.{Piece, scalar, malformed, Range, range, trail, within, fit, First, first_of, utf8_pieces, pieces_text, replacements}
 
 -- the byte at j is there and lies in the range
@@ -23,9 +21,9 @@ abbrev pub PieceAt : List ℕ → ℕ → ℕ → Bool → Type 0
 PieceAt s i n ok = (n ≡ suc (first_at s i).more) × (ok ≡ is_scalar (first_at s i).piece)
 
 -- a quick look at i tells of a piece of n bytes, two or three, that is a scalar value; or nothing
-abbrev pub Common : List ℕ → ℕ → Look → Type 0
-Common s i (Known n) = (2 ≤ n) × ((n ≤ 3) × PieceAt s i n true)
-Common s i Unknown = Unit {0}
+abbrev pub Common : List ℕ → ℕ → Option ℕ → Type 0
+Common s i (Some n) = (2 ≤ n) × ((n ≤ 3) × PieceAt s i n true)
+Common s i None = Unit {0}
 
 -- the ranges of the bytes after a first byte: one of its own, and n as any trail byte
 unfoldable pub ranges : ℕ → ℕ → ℕ → List Range
@@ -59,8 +57,7 @@ pub record Good (n : ℕ) (l : List ℕ) : Type 0 where
   pub none : replacements ps ≡ 0
   pub fits : n ≤ length l
 
--- What follows the first n bytes of l: a malformed part of `bad` bytes, or, where that is 0, nothing
-pub record Stop (n bad : ℕ) (l : List ℕ) : Type 0 where
-  pub done : bad ≡ 0 → n ≡ length l
-  pub part : 0 < bad → utf8_pieces (drop n l) ≡ malformed ∷ utf8_pieces (drop (n + bad) l)
-  pub fits : n + bad ≤ length l
+-- What follows the first n bytes of l: a malformed part of m bytes, or nothing
+abbrev pub Stop : ℕ → Option ℕ → List ℕ → Type 0
+Stop n None l = n ≡ length l
+Stop n (Some m) l = (0 < m) × ((utf8_pieces (drop n l) ≡ malformed ∷ utf8_pieces (drop (n + m) l)) × (n + m ≤ length l))

@@ -5,7 +5,6 @@ ghost use Rattle.unicode_standard.specs.Unicode.{utf8_text};
 ghost use Rattle.unicode_standard.specs.Ascii.{all_ascii};
 ghost use Rattle.utf.specs.Ascii.{AsciiRun};
 ghost use Rattle.utf.specs.Lossy.{Wrote};
-ghost use Rattle.utf.specs.Utf16Code.{bit_of};
 
 use buffer::copy;
 
@@ -14,13 +13,10 @@ pub fn has_high(s: &[u8]) -> bool
     ensures { result ≡ not (all_ascii s.now) }
 {
     let mut largest: u8 = 0;
-    let mut i = 0;
-    while i < s.len() {
-        let b = s[i];
-        if largest < b {
-            largest = b;
+    for b in s {
+        if largest < *b {
+            largest = *b;
         }
-        i += 1;
     }
     largest >= 0x80
 }
@@ -30,10 +26,8 @@ fn any_high(s: &[u8]) -> bool
     ensures { result ≡ false → all_ascii s.now ≡ true }
 {
     let mut high = false;
-    let mut i = 0;
-    while i < s.len() {
-        high = (s[i] >= 0x7F) | high;
-        i += 1;
+    for b in s {
+        high = (*b >= 0x7F) | high;
     }
     high
 }
@@ -42,17 +36,14 @@ fn any_high(s: &[u8]) -> bool
 pub fn ascii_long_blocks(s: &[u8]) -> usize
     ensures { AsciiRun result s.now }
 {
-    let mut i = 0;
-    loop {
-        if s.len() - i < 1024 {
-            return i;
+    let mut n = 0;
+    for block in s.chunks_exact(1024) {
+        if has_high(block) {
+            return n;
         }
-        let e = i + 1024;
-        if has_high(&s[i..e]) {
-            return i;
-        }
-        i = e;
+        n += 1024;
     }
+    n
 }
 
 // The same in whole blocks of 32 bytes, for what is left, and for texts that are shorter.
@@ -60,16 +51,13 @@ pub fn ascii_short_blocks(s: &[u8]) -> usize
     ensures { AsciiRun result s.now }
 {
     let mut n = 0;
-    loop {
-        if s.len() - n < 32 {
+    for block in s.chunks_exact(32) {
+        if any_high(block) {
             return n;
         }
-        let e = n + 32;
-        if any_high(&s[n..e]) {
-            return n;
-        }
-        n = e;
+        n += 32;
     }
+    n
 }
 
 // The first eight bytes of s are ASCII, or nothing is said. Their bitwise or has no branch for each.
@@ -108,14 +96,12 @@ pub fn ascii_run(s: &[u8]) -> usize
     if s[0] >= 0x80 {
         return 0;
     }
-    let mut i = ascii_blocks(s);
-    while i < s.len() {
+    for i in ascii_blocks(s)..s.len() {
         if s[i] >= 0x80 {
             return i;
         }
-        i += 1;
     }
-    i
+    s.len()
 }
 
 // How many of the first eight bytes of s are ASCII before one that is not. It has no branch that goes by a byte.
@@ -125,40 +111,20 @@ fn ascii_in_8(s: &[u8]) -> usize
 {
     let mut all = true;
     let mut n = 0;
-    let mut i = 0;
-    while i < 8 {
-        all = all & (s[i] < 0x80);
-        n += one_if(all);
-        i += 1;
+    for b in &s[..8] {
+        all = all & (*b < 0x80);
+        n += usize::from(all);
     }
     n
 }
 
-fn one_if(x: bool) -> usize
-    ensures { result ≡ bit_of x }
+// Copies N bytes. They go through an array, so that all are read before one is written: one load and one store.
+fn copy_array<const N: usize>(s: &[u8], out: &mut [u8])
+    requires { (N ≤ length s.now) × (N ≤ length out.old) }
+    ensures { out.new ≡ overwritten (take N s.now) out.old }
 {
-    if x {
-        return 1;
-    }
-    0
-}
-
-// Copies eight bytes. They go through an array, so that all are read before one is written: one load and one store.
-fn copy_8(s: &[u8], out: &mut [u8])
-    requires { (8 ≤ length s.now) × (8 ≤ length out.old) }
-    ensures { out.new ≡ overwritten (take 8 s.now) out.old }
-{
-    let mut block = [0u8; 8];
-    copy(&s[0..8], &mut block);
-    copy(&block, out);
-}
-
-fn copy_32(s: &[u8], out: &mut [u8])
-    requires { (32 ≤ length s.now) × (32 ≤ length out.old) }
-    ensures { out.new ≡ overwritten (take 32 s.now) out.old }
-{
-    let mut block = [0u8; 32];
-    copy(&s[0..32], &mut block);
+    let mut block = [0u8; N];
+    copy(&s[0..N], &mut block);
     copy(&block, out);
 }
 
@@ -178,7 +144,7 @@ fn copy_ascii_32s(s: &[u8], out: &mut [u8]) -> usize
         if any_high(&s[i..e]) {
             return i;
         }
-        copy_32(&s[i..], &mut out[i..]);
+        copy_array::<32>(&s[i..], &mut out[i..]);
         i = e;
     }
 }
@@ -194,7 +160,7 @@ fn copy_ascii_8s(s: &[u8], out: &mut [u8]) -> usize
         if s.len() - i < 8 {
             return i;
         }
-        copy_8(&s[i..], &mut out[i..]);
+        copy_array::<8>(&s[i..], &mut out[i..]);
         if !ascii_8(&s[i..]) {
             return i + ascii_in_8(&s[i..]);
         }
@@ -208,16 +174,13 @@ fn copy_ascii_bytes(s: &[u8], out: &mut [u8]) -> usize
     ensures run { AsciiRun result s.now }
     ensures bytes { out.new ≡ overwritten (take result s.now) out.old }
 {
-    let mut i = 0;
-    while i < s.len() {
-        let b = s[i];
-        if b >= 0x80 {
+    for (i, b) in s.iter().enumerate() {
+        if *b >= 0x80 {
             return i;
         }
-        out[i] = b;
-        i += 1;
+        out[i] = *b;
     }
-    i
+    s.len()
 }
 
 // Up to the first byte that is not ASCII. Where one of the first eight is none, no larger block is looked at.
@@ -232,7 +195,7 @@ pub fn copy_ascii(s: &[u8], out: &mut [u8]) -> usize
         return 0;
     }
     if !ascii_8(s) {
-        copy_8(s, out);
+        copy_array::<8>(s, out);
         return ascii_in_8(s);
     }
     let n = copy_ascii_32s(s, out);

@@ -1,9 +1,9 @@
 // Well-formed UTF-8, block by block: for each byte a test of it and the three before it, in loops that have no way out but their end, so that they are
 // compiled to vector code.
-ghost use Rattle.std.specs.Prelude.{◌≡◌, false, ◌-◌, ◌≤◌, ◌<◌, length};
+ghost use Rattle.std.specs.Prelude.{◌≡◌, ℕ, false, ◌-◌, ◌≤◌, ◌<◌, length};
 ghost use Rattle.unicode_standard.specs.Unicode.{within, range};
 ghost use Rattle.utf.specs.Utf8Code.{Good};
-ghost use Rattle.utf.specs.Utf8Blocks.{wanted, Follows, Joined, Ends, led};
+ghost use Rattle.utf.specs.Utf8Blocks.{wanted, Follows, Each, Joined, JoinedPart, Ends, led};
 
 pub fn between(x: u8, low: u8, high: u8) -> bool
     ensures { result ≡ within x (range low high) }
@@ -31,17 +31,40 @@ pub fn breaks(a: u8, b: u8, c: u8, d: u8) -> bool
     place | none | three | four
 }
 
-// A byte of s, from the fourth on, does not follow the three before it.
-fn any_breaks(s: &[u8]) -> bool
+// A test of a byte by the three before it.
+pub trait Succession {
+    // d may follow a, b and c.
+    ghost After: { ℕ → ℕ → ℕ → ℕ → Type 0 };
+
+    fn broken(a: u8, b: u8, c: u8, d: u8) -> bool
+        ensures { result ≡ false → After a b c d };
+
+    // In well-formed UTF-8 it may.
+    ghost follows: { (a b c d : ℕ) → After a b c d → Follows a b c d };
+}
+
+// Well-formed UTF-8.
+pub struct WellFormed;
+
+impl Succession for WellFormed {
+    ghost After = { Follows };
+
+    fn broken(a: u8, b: u8, c: u8, d: u8) -> bool {
+        breaks(a, b, c, d)
+    }
+
+    ghost follows = { λ a b c d h. h };
+}
+
+// A byte of s, from the fourth on, may not follow the three before it.
+fn any_broken<T: Succession>(s: &[u8]) -> bool
     requires { 3 ≤ length s.now }
-    ensures { result ≡ false → Joined s.now (length s.now - 3) }
+    ensures { result ≡ false → Each T.After s.now (length s.now - 3) }
 {
     let n = s.len() - 3;
     let mut bad = false;
-    let mut i = 0;
-    while i < n {
-        bad = breaks(s[i], s[i + 1], s[i + 2], s[i + 3]) | bad;
-        i += 1;
+    for i in 0..n {
+        bad = T::broken(s[i], s[i + 1], s[i + 2], s[i + 3]) | bad;
     }
     bad
 }
@@ -84,20 +107,21 @@ pub fn longer(k: usize) -> usize
     k
 }
 
-// The length of a well-formed part at the beginning of s: nearly all of a text that is well-formed, and nothing of one that is short. The blocks grow,
-// so that little is read in vain where there is a malformed part; the first is so long.
-pub fn good_blocks(s: &[u8], first: usize) -> usize
-    requires { 0 < first }
-    ensures { Good result s.now }
+// The length of a part at the beginning of s whose bytes follow one another and which no sequence goes on after: nearly all of a text of such bytes, and nothing
+// of one that is shorter than least. The blocks grow, so that little is read in vain where it breaks off; the first is so long.
+pub fn joined_blocks<T: Succession>(s: &[u8], least: usize, first: usize) -> usize
+    requires { (3 ≤ least) × (0 < first) }
+    ensures { JoinedPart T.After s.now result }
 {
-    if s.len() < 64 {
+    if s.len() < least {
         return 0;
     }
-    if breaks(0, 0, 0, s[0]) | breaks(0, 0, s[0], s[1]) | breaks(0, s[0], s[1], s[2]) {
+    if T::broken(0, 0, 0, s[0]) | T::broken(0, 0, s[0], s[1]) | T::broken(0, s[0], s[1], s[2]) {
         return 0;
     }
     let mut i = 3;
     let mut k = first;
+    // The blocks grow.
     loop {
         let rest = s.len() - i;
         if rest < 32 {
@@ -105,10 +129,18 @@ pub fn good_blocks(s: &[u8], first: usize) -> usize
         }
         let a = i - 3;
         let e = i + block_len(rest, k);
-        if any_breaks(&s[a..e]) {
+        if any_broken::<T>(&s[a..e]) {
             return last_end(s, i);
         }
         i = e;
         k = longer(k);
     }
+}
+
+// The length of a well-formed part at the beginning of s.
+pub fn good_blocks(s: &[u8], first: usize) -> usize
+    requires { 0 < first }
+    ensures { Good result s.now }
+{
+    joined_blocks::<WellFormed>(s, 64, first)
 }

@@ -13,54 +13,43 @@ fn shown(b: u8) -> bool
     ensures { result ≡ likely_piece (scalar b) }
 {
     if b < 0x20 {
-        if b == 0x9 {
-            return true;
-        }
-        if b == 0xA {
-            return true;
-        }
-        return b == 0xD;
+        return (b == 0x9) | (b == 0xA) | (b == 0xD);
     }
     b < 0x7F
 }
 
-// The character at a place: one of so many bytes that a likely text may have, or what it may not have.
-#[derive(Clone, Copy)]
-enum Character {
-    Likely(usize),
-    Unlikely,
-}
-
-fn likely_at(s: &[u8], e: usize) -> Character
+// How many bytes the character at a place has, where a likely text may have it.
+fn likely_at(s: &[u8], e: usize) -> Option<usize>
     requires { e < length s.now }
     ensures { LikelyAt s.now e result }
 {
     let b = s[e];
     if b < 0x80 {
         if shown(b) {
-            return Character::Likely(1);
+            return Some(1);
         }
-        return Character::Unlikely;
+        return None;
     }
     let Standing::WellFormed(n) = step_at(s, e) else {
-        return Character::Unlikely;
+        return None;
     };
     if b != 0xC2 {
-        return Character::Likely(n);
+        return Some(n);
     }
     // U+0080 to U+009F
     if trail_at(s, e + 1, 0x80, 0x9F) {
-        return Character::Unlikely;
+        return None;
     }
-    Character::Likely(n)
+    Some(n)
 }
 
 pub fn bytes_are_likely_text(s: &[u8]) -> bool
     ensures { result ≡ likely_text s.now }
 {
     let mut e = likely_start(s);
+    // The step is the length of the character that is read.
     while e < s.len() {
-        let Character::Likely(n) = likely_at(s, e) else {
+        let Some(n) = likely_at(s, e) else {
             return false;
         };
         e += n;

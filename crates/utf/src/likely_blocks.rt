@@ -3,7 +3,7 @@ ghost use Rattle.std.specs.Prelude.{◌≡◌, false, ◌-◌, ◌≤◌, length
 ghost use Rattle.utf.specs.Utf8Blocks.{Each};
 ghost use Rattle.utf.specs.LikelyCode.{Shown, AllShown, LikelyAfter, LikelyRun};
 
-use super::blocks::{between, block_len, breaks, last_end, longer};
+use super::blocks::{Succession, between, block_len, breaks, joined_blocks, longer};
 
 // d is an ASCII control character, and neither tab nor line feed nor carriage return.
 fn is_control(d: u8) -> bool
@@ -18,11 +18,8 @@ fn any_unshown(s: &[u8]) -> bool
     ensures { result ≡ false → AllShown s.now (length s.now) }
 {
     let mut bad = false;
-    let mut i = 0;
-    while i < s.len() {
-        let d = s[i];
-        bad = (d >= 0x80) | is_control(d) | bad;
-        i += 1;
+    for d in s {
+        bad = (*d >= 0x80) | is_control(*d) | bad;
     }
     bad
 }
@@ -33,6 +30,7 @@ fn shown_blocks(s: &[u8]) -> usize
 {
     let mut i = 0;
     let mut k = 32;
+    // The blocks grow.
     loop {
         let rest = s.len() - i;
         if rest < 32 {
@@ -54,52 +52,23 @@ fn unlikely(a: u8, b: u8, c: u8, d: u8) -> bool
     breaks(a, b, c, d) | is_control(d) | (c == 0xC2) & between(d, 0x80, 0x9F)
 }
 
-// A byte of s, from the fourth on, does not follow the three before it in a likely text.
-fn any_unlikely(s: &[u8]) -> bool
-    requires { 3 ≤ length s.now }
-    ensures { result ≡ false → Each LikelyAfter s.now (length s.now - 3) }
-{
-    let n = s.len() - 3;
-    let mut bad = false;
-    let mut i = 0;
-    while i < n {
-        bad = unlikely(s[i], s[i + 1], s[i + 2], s[i + 3]) | bad;
-        i += 1;
+struct LikelyText;
+
+impl Succession for LikelyText {
+    ghost After = { LikelyAfter };
+
+    fn broken(a: u8, b: u8, c: u8, d: u8) -> bool {
+        unlikely(a, b, c, d)
     }
-    bad
+
+    ghost follows = { λ a b c d h. h.follows };
 }
 
 // The length of a likely part at the beginning of s, in blocks that grow.
 fn mixed_blocks(s: &[u8]) -> usize
     ensures { LikelyRun result s.now }
 {
-    if s.len() < 35 {
-        return 0;
-    }
-    if unlikely(0, 0, 0, s[0]) {
-        return 0;
-    }
-    if unlikely(0, 0, s[0], s[1]) {
-        return 0;
-    }
-    if unlikely(0, s[0], s[1], s[2]) {
-        return 0;
-    }
-    let mut i = 3;
-    let mut k = 32;
-    loop {
-        let rest = s.len() - i;
-        if rest < 32 {
-            return last_end(s, i);
-        }
-        let a = i - 3;
-        let e = i + block_len(rest, k);
-        if any_unlikely(&s[a..e]) {
-            return last_end(s, i);
-        }
-        i = e;
-        k = longer(k);
-    }
+    joined_blocks::<LikelyText>(s, 35, 32)
 }
 
 // The length of a likely part at the beginning of s: nearly all of a likely text, and nothing of one that is short. ASCII is quicker, and is tried first.

@@ -1,5 +1,6 @@
-// The text of UTF-8 bytes, where U+FFFD replaces what is malformed (T3): how long it is, and its writing.
-ghost use Rattle.std.specs.Prelude.{true, false, List, ◌≡◌, ℕ, ◌+◌, ◌<◌, ◌≤◌, length, take, drop, get_or};
+// The text of UTF-8 bytes, where U+FFFD replaces what is malformed (T3): how long it is, and its writing. Loops count an index where the step is read from the
+// data.
+ghost use Rattle.std.specs.Prelude.{true, false, IfSome, List, ◌≡◌, ℕ, ◌+◌, ◌<◌, ◌≤◌, length, take, drop, get_or};
 ghost use Rattle.buffer.specs.Buffer.{overwritten};
 ghost use Rattle.unicode_standard.specs.Unicode.{utf8, piece_text, replacements, utf8_pieces, utf8_text};
 ghost use Rattle.utf.specs.Utf8Code.{first_at, Coded, PieceAt};
@@ -7,27 +8,24 @@ ghost use Rattle.utf.specs.Lossy.{Lone, PartLength, Wrote};
 
 use super::ascii::{ascii_run, copy_ascii};
 use super::blocks::{between, good_blocks};
-use super::utf8::{Look, Standing, common_at, first_at, run_of, step_at};
+use super::utf8::{Standing, common_at, first_at, run_of, step_at};
 use buffer::{Written, copy};
 
-// How many bytes of s are C0 or above; 255 where one is a trail byte. The loop has no way out but its end, so that it is compiled to vector code.
-fn lone_leads(s: &[u8]) -> u8
+// How many bytes of s are C0 or above, where none is a trail byte. The loop has no way out but its end, so that it is compiled to vector code.
+fn lone_leads(s: &[u8]) -> Option<u8>
     requires { length s.now ≤ 64 }
-    ensures { result < 255 → Lone s.now result }
+    ensures { IfSome result (λ n. Lone s.now n) }
 {
     let mut trail = false;
     let mut k: u8 = 0;
-    let mut i = 0;
-    while i < s.len() {
-        let b = s[i];
-        trail = between(b, 0x80, 0xBF) | trail;
+    for b in s {
+        trail = between(*b, 0x80, 0xBF) | trail;
         k += b / 192;
-        i += 1;
     }
     if trail {
-        return 255;
+        return None;
     }
-    k
+    Some(k)
 }
 
 // So many bytes are read, and their text is so long.
@@ -49,14 +47,13 @@ fn lone_blocks(s: &[u8]) -> Part
             return Part { bytes: i, len: n };
         }
         let e = i + 64;
-        let k = lone_leads(&s[i..e]);
-        if 255 <= k {
+        let Some(k) = lone_leads(&s[i..e]) else {
             return Part { bytes: i, len: n };
-        }
+        };
         if between(s[e], 0x80, 0xBF) {
             return Part { bytes: i, len: n };
         }
-        n += 64 + 2 * (k as usize);
+        n += 64 + 2 * usize::from(k);
         i = e;
     }
 }
@@ -119,9 +116,7 @@ fn write_replacement(out: &mut [u8])
     requires { 3 ≤ length out.old }
     ensures { out.new ≡ overwritten (utf8 0xFFFD) out.old }
 {
-    out[0] = 0xEF;
-    out[1] = 0xBF;
-    out[2] = 0xBD;
+    copy(&[0xEF, 0xBF, 0xBD], out);
 }
 
 // Copies the two or three bytes of s from i on.
@@ -150,7 +145,7 @@ fn write_sequence(s: &[u8], i: usize, out: &mut [u8]) -> Standing
     ensures piece { Coded (PieceAt s.now i) result }
     ensures bytes { out.new ≡ overwritten (piece_text (first_at s.now i).piece) out.old }
 {
-    if let Look::Known(n) = common_at(s, i) {
+    if let Some(n) = common_at(s, i) {
         copy_common(s, i, n, out);
         return Standing::WellFormed(n);
     }
@@ -266,7 +261,7 @@ pub fn utf8_lossy_write(s: &[u8], out: &mut [u8]) -> Written
     let r = run_of(s);
     let e = r.end;
     copy(&s[0..e], out);
-    if r.bad == 0 {
+    if r.bad.is_none() {
         return Written {
             len: e,
             replaced: 0,

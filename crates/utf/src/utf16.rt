@@ -1,8 +1,9 @@
-// UTF-16, big-endian, read with one U+FFFD for each unpaired surrogate.
+// UTF-16, big-endian, read with one U+FFFD for each unpaired surrogate. Loops count an index where a unit or a block is looked at with the bytes behind it, or
+// the step is read from the data.
 ghost use Rattle.std.specs.Prelude.{◌≡◌, false, cond, ℕ, ◌+◌, ◌%◌, ◌<◌, ◌≤◌, length, drop, get_or, replicate};
 ghost use Rattle.buffer.specs.Buffer.{overwritten};
 ghost use Rattle.buffer.specs.Filling.{Filling};
-ghost use Rattle.utf.specs.Utf16Code.{unit_at, Utf16Next, bit_of, Extra, starts, takes_three, unit_bytes, Counted, Laid, BlockEnd, AfterFirst};
+ghost use Rattle.utf.specs.Utf16Code.{unit_at, Utf16Next, Extra, starts, takes_three, unit_bytes, Counted, Laid, BlockEnd, AfterFirst};
 ghost use Rattle.unicode_standard.specs.Unicode.{range, within, replacements, utf16_pieces, utf16_text};
 
 use super::blocks::between;
@@ -17,20 +18,12 @@ pub struct Next {
     pub replaced: usize,
 }
 
-fn wide(b: u8) -> u32
-    ensures { (result ≡ b) × (result < 256) }
-{
-    b as u32
-}
-
 // The code unit at i.
 fn unit_at(s: &[u8], i: usize) -> u32
     requires { i + 1 < length s.now }
     ensures { (result ≡ unit_at s.now i) × (result < 65536) }
 {
-    let a = wide(s[i]);
-    let b = wide(s[i + 1]);
-    a * 256 + b
+    u32::from(s[i]) * 256 + u32::from(s[i + 1])
 }
 
 // The scalar value at i, where the high surrogate u stands.
@@ -138,21 +131,10 @@ fn mark_starts(on: &mut [u8; 128])
     requires { on.old ≡ replicate 128 0 }
     ensures { on.new ≡ starts 64 }
 {
-    let mut k = 0;
-    while k < 64 {
+    for k in 0..64usize {
         let i = 2 * k;
         on[i] = 1;
-        k += 1;
     }
-}
-
-fn bit(x: bool) -> u8
-    ensures { result ≡ bit_of x }
-{
-    if x {
-        return 1;
-    }
-    0
 }
 
 // How many bytes of the text, beyond one, the unit of the bytes a and b stands for, where the next unit begins with c; nothing where on is 0.
@@ -160,7 +142,7 @@ fn extra(on: u8, a: u8, b: u8, c: u8) -> u8
     ensures { Extra on a b c result }
 {
     let here = (on != 0) & !(between(a, 0xD8, 0xDB) & between(c, 0xDC, 0xDF));
-    bit(here & ((a != 0) | (b >= 0x80))) + bit(here & (a >= 8))
+    u8::from(here & ((a != 0) | (b >= 0x80))) + u8::from(here & (a >= 8))
 }
 
 // How many bytes of the text, beyond 64, the first 64 units of s stand for. The loop goes over all bytes, and has no way out but its end, so that it is
@@ -170,10 +152,8 @@ fn block_extra(on: &[u8; 128], s: &[u8]) -> u8
     ensures { (result ≤ 128) × (length (utf16_text s.now) ≡ 64 + result + length (utf16_text (drop 128 s.now))) }
 {
     let mut k: u8 = 0;
-    let mut i = 0;
-    while i < 128 {
+    for i in 0..128usize {
         k += extra(on[i], s[i], s[i + 1], s[i + 2]);
-        i += 1;
     }
     k
 }
@@ -187,7 +167,7 @@ fn blocks_len(on: &[u8; 128], s: &[u8]) -> usize
     let mut i = 0;
     while s.len() - i >= 130 {
         let k = block_extra(on, &s[i..]);
-        n += 64 + k as usize;
+        n += 64 + usize::from(k);
         i += 128;
     }
     n + units_len(&s[i..])
@@ -260,7 +240,7 @@ fn count_of(z: u8, a: u8, b: u8, c: u8) -> u8
 {
     let low = between(a, 0xDC, 0xDF) & !between(z, 0xD8, 0xDB);
     let high = between(a, 0xD8, 0xDB) & !between(c, 0xDC, 0xDF);
-    let n = pick(takes_three(a), 3, 1 + bit((a != 0) | (b >= 0x80)));
+    let n = pick(takes_three(a), 3, 1 + u8::from((a != 0) | (b >= 0x80)));
     pick(low | high, 0, n)
 }
 
@@ -270,12 +250,10 @@ fn lay_out(s: &[u8], first: &mut [u8; 128], second: &mut [u8; 128], count: &mut 
     requires { (144 ≤ length s.now) × ((length first.old ≡ 128) × ((length second.old ≡ 128) × (length count.old ≡ 128))) }
     ensures { Laid s.now first.new second.new count.new 128 }
 {
-    let mut i = 0;
-    while i < 128 {
+    for i in 0..128usize {
         first[i] = first_of(s[i + 1], s[i + 2], s[i + 3]);
         second[i] = second_of(s[i + 2], s[i + 3]);
         count[i] = count_of(s[i], s[i + 2], s[i + 3], s[i + 4]);
-        i += 1;
     }
 }
 
@@ -336,8 +314,8 @@ fn write_laid(
         out[q] = third_of(s[i + 3]);
         out[p] = second[i];
         out[o] = first[i];
-        o += n as usize;
-        changes += bit(n != last) as usize;
+        o += usize::from(n);
+        changes += usize::from(n != last);
         last = n;
         i += 2;
     }

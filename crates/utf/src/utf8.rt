@@ -4,7 +4,7 @@ ghost use Rattle.unicode_standard.specs.Unicode.{within, trail};
 ghost use Rattle.utf.specs.Utf8Code.{trail_at, fit_after, with_first, lowest_after, highest_after, Coded, PieceAt, Common, Good, Stop};
 
 use super::ascii::{ascii_long_blocks, ascii_run, ascii_short_blocks};
-use super::blocks::good_blocks;
+use super::blocks::{between, good_blocks};
 
 // The byte at j is there, and lies from low to high.
 pub fn trail_at(s: &[u8], j: usize, low: u8, high: u8) -> bool
@@ -19,7 +19,8 @@ pub fn trail_at(s: &[u8], j: usize, low: u8, high: u8) -> bool
     false
 }
 
-// What stands at a place: a well-formed sequence of so many bytes, or a malformed part of so many.
+// What stands at a place: a well-formed sequence of so many bytes, or a malformed part of so many. It is no Result: a malformed part is no error, and the
+// reading goes on behind it.
 #[derive(Clone, Copy)]
 pub enum Standing {
     WellFormed(usize),
@@ -132,52 +133,43 @@ pub fn first_at(s: &[u8], i: usize) -> Standing
 fn is_trail(b: u8) -> bool
     ensures { result ≡ within b trail }
 {
-    if b < 0x80 {
-        return false;
-    }
-    b <= 0xBF
+    between(b, 0x80, 0xBF)
 }
 
-// What a quick look finds: a well-formed sequence of so many bytes; or nothing that it can tell.
-#[derive(Clone, Copy)]
-pub enum Look {
-    Known(usize),
-    Unknown,
-}
-
-// A look for the sequences that are common. It is small enough to be compiled into the loops that call it.
-pub fn common_at(s: &[u8], i: usize) -> Look
+// A quick look for the sequences that are common: how many bytes a well-formed one has, or nothing that it can tell. It is small enough to be compiled into
+// the loops that call it.
+pub fn common_at(s: &[u8], i: usize) -> Option<usize>
     requires { i < length s.now }
     ensures { Common s.now i result }
 {
     if s.len() - i < 3 {
-        return Look::Unknown;
+        return None;
     }
     let b = s[i];
     let second = s[i + 1];
     let third = s[i + 2];
     if !is_trail(second) {
-        return Look::Unknown;
+        return None;
     }
     if b < 0xE0 {
         if b < 0xC2 {
-            return Look::Unknown;
+            return None;
         }
-        return Look::Known(2);
+        return Some(2);
     }
     if b >= 0xF0 {
-        return Look::Unknown;
+        return None;
     }
     if b == 0xE0 {
-        return Look::Unknown;
+        return None;
     }
     if b == 0xED {
-        return Look::Unknown;
+        return None;
     }
     if is_trail(third) {
-        return Look::Known(3);
+        return Some(3);
     }
-    Look::Unknown
+    None
 }
 
 // What stands at i, by a quick look where that will do.
@@ -186,8 +178,8 @@ pub fn step_at(s: &[u8], i: usize) -> Standing
     ensures { Coded (PieceAt s.now i) result }
 {
     match common_at(s, i) {
-        Look::Known(n) => Standing::WellFormed(n),
-        Look::Unknown => first_at(s, i),
+        Some(n) => Standing::WellFormed(n),
+        None => first_at(s, i),
     }
 }
 
@@ -206,11 +198,11 @@ fn good_start(s: &[u8]) -> usize
     e + good_blocks(&s[e..], 128)
 }
 
-// The first end bytes are well-formed; after them is a malformed part of bad bytes, or nothing where bad is 0.
+// The first end bytes are well-formed; after them is a malformed part of so many bytes, or nothing.
 #[derive(Clone, Copy)]
 pub struct Run {
     pub end: usize,
-    pub bad: usize,
+    pub bad: Option<usize>,
 }
 
 pub fn run_of(s: &[u8]) -> Run
@@ -218,14 +210,20 @@ pub fn run_of(s: &[u8]) -> Run
     ensures stop { Stop result.end result.bad s.now }
 {
     let mut e = good_start(s);
+    // Each step is as long as what is read: a run of ASCII, a part in blocks, or a character.
     loop {
         e += ascii_run(&s[e..]);
         if s.len() <= e {
-            return Run { end: e, bad: 0 };
+            return Run { end: e, bad: None };
         }
         match step_at(s, e) {
             Standing::WellFormed(n) => e += n,
-            Standing::Malformed(bad) => return Run { end: e, bad },
+            Standing::Malformed(n) => {
+                return Run {
+                    end: e,
+                    bad: Some(n),
+                };
+            }
         }
     }
 }

@@ -8,7 +8,10 @@ use native.Mathlib.Omega.{arith}
 use lib.Dec.{ltb}
 use lib.ListN.{length}
 use borrow.Author.Tests.{lt-ltb, le-ltb, ltb-true, ltb-false}
-use Rattle.refusal.specs.Refusal.{accepted, told_number}
+use Rattle.std.specs.Prelude.{Result, Ok}
+use Rattle.refusal.specs.declared.Refusal.{Refusal}
+use Rattle.refusal.specs.declared.Refusal.TheVariants.{QrydscTooLong, TooManyColumns, CountTooLarge, InputTooLong, DecFloatColumn, DecimalEmpty, DecimalTooLong, BufferTooShort, TextBufferTooShort, DecimalDigit, DecimalSign, DecimalOutOfRange, QrydscBrokenOff, UnknownRelease}
+use Rattle.refusal.specs.Refusal.{accepted, refusal_number, told, told_number}
 use Rattle.buffer.specs.Buffer.{overwritten}
 use Rattle.types.specs.declared.ColumnDescriptor.{ColumnDescriptor}
 use Rattle.types.specs.declared.Columns.{Columns}
@@ -85,9 +88,9 @@ module _ (whole : Bool) (s : List ℕ) (short : length s ≤ max_qrydsc) (n end 
   abbrev number_of : DescriptionTold → ℕ
   number_of d = told_number d.outcome
 
-  pub counted_full : max_columns < n → (r : ℕ) → r ≡ number_of (full_answer whole (end_from s end) (length s)) → r ≡ number_of (entry_answer whole s)
+  pub counted_full : max_columns < n → {r : ℕ} → r ≡ number_of (full_answer whole (end_from s end) (length s)) → r ≡ number_of (entry_answer whole s)
   unfolding list_answer
-  counted_full h r e =
+  counted_full h e =
       e
       ∙ ap (λ (m : ℕ). number_of (full_answer whole m (length s))) c.ends
       ∙ ap number_of (full_entry whole s short (λ b. rw (lt-ltb max_columns (length (columns_of s)) (c.more h))))
@@ -123,6 +126,27 @@ module _ (whole : Bool) (s : List ℕ) (short : length s ≤ max_qrydsc) (n end 
         go : (x : Bool) → not x ≡ true → 0 ≡ number_of (answer_within x (breaks_off s) s)
         go true e = let z : ◌≡◌ {A = ℕ} 0 1 = cc in absurd (omega arith)
         go false e = none_refused (breaks_off s)
+
+-- a refusal's number is not 0
+pub refusal_some : (r : Refusal) → refusal_number r ≡ 0 → ⊥
+refusal_some QrydscTooLong h = omega arith
+refusal_some TooManyColumns h = omega arith
+refusal_some CountTooLarge h = omega arith
+refusal_some InputTooLong h = omega arith
+refusal_some DecFloatColumn h = omega arith
+refusal_some DecimalEmpty h = omega arith
+refusal_some DecimalTooLong h = omega arith
+refusal_some (BufferTooShort expected actual) h = omega arith
+refusal_some (TextBufferTooShort needed) h = omega arith
+refusal_some DecimalDigit h = omega arith
+refusal_some DecimalSign h = omega arith
+refusal_some DecimalOutOfRange h = omega arith
+refusal_some QrydscBrokenOff h = omega arith
+refusal_some UnknownRelease h = omega arith
+
+-- what is taken has the number 0
+pub taken_is : {r : Result (Unit {0}) Refusal} {n : ℕ} {u : Unit {0}} → r ≡ Ok u → told_number (told r) ≡ n → 0 ≡ n
+taken_is e h = rw e at h
 
 -- ---- the ways out
 

@@ -1,6 +1,4 @@
-mod Reported
 mod Described
-mod TypeLength
 mod RowCall
 pub mod ValueBytes
 pub mod ValueRanges

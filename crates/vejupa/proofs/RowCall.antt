@@ -3,7 +3,7 @@ use Prim.Native.Nat.{ℕ, ◌-◌, ◌*◌, ◌/◌, ◌≤◌, ◌<◌}
 use mathlib.Core.Path.{◌≡◌, refl, sym, ap, ◌∙◌}
 use mathlib.Core.Bool.{Bool, true, false}
 use mathlib.Core.List.{List}
-use mathlib.Core.Option.{Option, some, none}
+use Rattle.std.specs.Prelude.{Option, Some, None, Ok, Err}
 use native.Mathlib.Omega.{arith}
 use borrow.Author.Tests.{lt-ltb, le-ltb}
 use lib.ListN.{length, replicate}
@@ -16,8 +16,8 @@ use Rattle.rules.specs.Row.{any_dec_float, covered, body_decision, row_decision,
 use Rattle.rules.specs.Conversions.{conversions_of}
 use Rattle.conversion.specs.Conversion.{is_release}
 use Rattle.words.specs.Reading.{read_columns}
-use Rattle.row_words.specs.declared.Checked.TheVariants.{Columns, NoColumn}
-use Rattle.row_words.specs.declared.RowOutcome.TheVariants.{Accepted, TooShort, TextTooShort}
+use Rattle.row_words.specs.declared.Taken.{Taken}
+use Rattle.row_words.specs.declared.RowError.TheVariants.{TooShort, TextTooShort}
 use Rattle.row_words.specs.Rows.{values_after}
 use Rattle.row_words.specs.Passes.{checked_of, columns_named, Says}
 use Rattle.row_words.proofs.Named.{named_length, read_named}
@@ -32,18 +32,18 @@ covered_list cs = take_at cs (replicate (max_columns - length cs) blank_column) 
 
 -- ---- what was found of the words
 
-no_columns : (x : Option (List ColumnDescriptor)) → NoColumn ≡ checked_of x → x ≡ none
-no_columns (some cs) h = let z : ◌≡◌ {A = ℕ} 0 1 = cc in absurd (omega arith)
-no_columns none h = refl
+no_columns : (x : Option (List ColumnDescriptor)) → None ≡ checked_of x → x ≡ None
+no_columns (Some cs) h = let z : ◌≡◌ {A = ℕ} 0 1 = cc in absurd (omega arith)
+no_columns None h = refl
 
 pub record Found (x : Option (List ColumnDescriptor)) (k : Bool) : Type 0 where
   pub columns : List ColumnDescriptor
-  pub read : x ≡ some columns
+  pub read : x ≡ Some columns
   pub floats : k ≡ any_dec_float columns
 
-found : (x : Option (List ColumnDescriptor)) (k : Bool) → Columns k ≡ checked_of x → Found x k
-found (some cs) k h = record { columns = cs; read = refl; floats = cc }
-found none k h = let z : ◌≡◌ {A = ℕ} 0 1 = cc in absurd (omega arith)
+found : (x : Option (List ColumnDescriptor)) (k : Bool) → Some k ≡ checked_of x → Found x k
+found (Some cs) k h = record { columns = cs; read = refl; floats = cc }
+found None k h = let z : ◌≡◌ {A = ℕ} 0 1 = cc in absurd (omega arith)
 
 -- what the call hands out: its number, the bytes used, the texts' length, refusal 8's values, the words of values, the text buffer and how many U+FFFD were put in
 abbrev pub Handed : ℕ → OnWords → List ℕ → List ℕ → ℕ → ℕ → ℕ → ℕ → ℕ → List ℕ → List ℕ → ℕ → Type 0
@@ -69,11 +69,11 @@ module _ (release : ℕ) (w s v d : List ℕ) where
       unfolding words_decision
       by_columns = rw (known, le-ltb max_columns (length w / 2) few, le-ltb (length v) (3 * (length w / 2)) room)
 
-      pub no_column : NoColumn ≡ checked_of (read_columns w) → Handed release (words_decision release w s v d) v d no_column_number 0 0 0 0 v d 0
+      pub no_column : None ≡ checked_of (read_columns w) → Handed release (words_decision release w s v d) v d no_column_number 0 0 0 0 v d 0
       unfolding text_after
       no_column h = rw (by_columns, no_columns (read_columns w) h) (refl, (refl, (refl, (refl, (refl, (refl, (refl, refl)))))))
 
-      module _ (k : Bool) (h : Columns k ≡ checked_of (read_columns w)) where
+      module _ (k : Bool) (h : Some k ≡ checked_of (read_columns w)) where
         here : Found (read_columns w) k
         here = found (read_columns w) k h
 
@@ -112,13 +112,13 @@ module _ (release : ℕ) (w s v d : List ℕ) where
 
             -- what the row after these tests leaves
             module _ (words out : List ℕ) (vs : words ≡ values_after release (body_decision (conversions_of release) (columns_named w) (skip_of s) s d) v) (ts : out ≡ text_after (conversions_of release) (body_decision (conversions_of release) (columns_named w) (skip_of s) s d) d) where
-              pub accepted_row_lem : (used m replaced : ℕ) → Says release (Accepted used m replaced) (body_decision (conversions_of release) (columns_named w) (skip_of s) s d) → Handed release (words_decision release w s v d) v d 0 used m 0 0 words out replaced
-              accepted_row_lem used m replaced a =
+              pub accepted_row_lem : (t : Taken) → Says release (Ok t) (body_decision (conversions_of release) (columns_named w) (skip_of s) s d) → Handed release (words_decision release w s v d) v d 0 t.used t.written 0 0 words out t.replaced
+              accepted_row_lem t a =
                   let e = a.1.0 in
                   rw (as_body, e) (refl, (refl, (a.1.1.0, (refl, (refl, (rw e at vs, (rw e at ts, a.1.1.1)))))))
 
-              pub too_short_lem : (x y : ℕ) → Says release (TooShort x y) (body_decision (conversions_of release) (columns_named w) (skip_of s) s d) → Handed release (words_decision release w s v d) v d 8 0 0 x y words out 0
+              pub too_short_lem : (x y : ℕ) → Says release (Err (TooShort x y)) (body_decision (conversions_of release) (columns_named w) (skip_of s) s d) → Handed release (words_decision release w s v d) v d 8 0 0 x y words out 0
               too_short_lem x y e = rw (as_body, e) (refl, (refl, (refl, (refl, (refl, (rw e at vs, (rw e at ts, refl)))))))
 
-              pub text_short : (x : ℕ) → Says release (TextTooShort x) (body_decision (conversions_of release) (columns_named w) (skip_of s) s d) → Handed release (words_decision release w s v d) v d 9 0 x 0 0 words out 0
+              pub text_short : (x : ℕ) → Says release (Err (TextTooShort x)) (body_decision (conversions_of release) (columns_named w) (skip_of s) s d) → Handed release (words_decision release w s v d) v d 9 0 x 0 0 words out 0
               text_short x e = rw (as_body, e) (refl, (refl, (refl, (refl, (refl, (rw e at vs, (rw e at ts, refl)))))))

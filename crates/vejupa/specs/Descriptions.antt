@@ -1,6 +1,5 @@
 -- What the functions for C and Rust answer for descriptions and types, by what the two description calls and fixed_length answer. Assumes nothing.
-use Rattle.std.specs.Prelude.{ℕ, ◌*◌, Bool, cond, List, ltb, length}
-use Rattle.std.proofs.Math.Option.{Option, some, none}
+use Rattle.std.specs.Prelude.{ℕ, ◌*◌, Bool, cond, List, ltb, length, Option, Some, None}
 use Rattle.refusal.specs.Refusal.{Told, accepted, refused}
 use Rattle.buffer.specs.Buffer.{overwritten}
 use Rattle.types.specs.declared.Db2Type.{Db2Type}
@@ -37,17 +36,17 @@ broken_off_number d w = cond (too_few d.columns w) 0 (cond d.broken_off 1 0)
 
 -- of the type that a word is read as: 102 where it is none; whether its values have a fixed length, as 1 and 0; and the length, or 0
 abbrev pub type_number : Option Db2Type → ℕ
-type_number (some t) = 0
-type_number none = no_column_number
+type_number (Some t) = 0
+type_number None = no_column_number
 
 abbrev pub flag_of : Option ℕ → ℕ
-flag_of (some n) = 1
-flag_of none = 0
+flag_of (Some n) = 1
+flag_of None = 0
 
 abbrev pub bytes_of : Option ℕ → ℕ
-bytes_of (some n) = n
-bytes_of none = 0
+bytes_of (Some n) = n
+bytes_of None = 0
 
 abbrev pub length_of : Option Db2Type → Option ℕ
-length_of (some t) = fixed_length t
-length_of none = none
+length_of (Some t) = fixed_length t
+length_of None = None

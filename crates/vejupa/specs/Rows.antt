@@ -1,6 +1,5 @@
 -- What vejupa_raw_decode_row answers and leaves, by what decode_row decides for the columns that the words say, and what vejupa_raw_value_bytes shows. Assumes nothing.
-use Rattle.std.specs.Prelude.{ℕ, ◌*◌, ◌/◌, cond, not, List, [], ltb, length, get_or}
-use Rattle.std.proofs.Math.Option.{Option, some, none}
+use Rattle.std.specs.Prelude.{ℕ, ◌*◌, ◌/◌, cond, not, List, [], ltb, length, get_or, Option, Some, None}
 use Rattle.types.specs.declared.ColumnDescriptor.{ColumnDescriptor}
 use Rattle.types.specs.Places.{max_columns, column_list}
 use Rattle.rules.specs.Row.{Decision, refuse, accept, row_texts, row_replaced, row_decision, text_after}
@@ -18,8 +17,8 @@ pub data OnWords : Type 0 where
   decided : Decision → OnWords
 
 abbrev pub decision_for : ℕ → Option (List ColumnDescriptor) → List ℕ → List ℕ → OnWords
-decision_for release none s d = of_words no_column_number
-decision_for release (some cs) s d = decided (row_decision (conversions_of release) (column_list cs) s d)
+decision_for release None s d = of_words no_column_number
+decision_for release (Some cs) s d = decided (row_decision (conversions_of release) (column_list cs) s d)
 
 -- for a release, the words w of columns, the row s, the lent words v of values and the text buffer d: refusals 22 and 3, then 101, then 102, then the other refusals
 unfoldable pub words_decision : ℕ → List ℕ → List ℕ → List ℕ → List ℕ → OnWords

@@ -5,7 +5,7 @@
 #![tactic(auto)]
 
 ghost use Rattle.std.specs.Prelude.{◌≡◌, cond, ◌≤◌, length};
-ghost use Rattle.refusal.specs.Refusal.{told_number};
+ghost use Rattle.refusal.specs.Refusal.{refusal_number, told, told_number};
 ghost use Rattle.buffer.specs.Buffer.{unreplaced, told_text};
 ghost use Rattle.unicode_standard.specs.Likely.{likely_text};
 ghost use Rattle.conversion.specs.Conversion.{characters_by, graphics_by, locator_text, row_id_text};
@@ -21,17 +21,17 @@ ghost use Rattle.vejupa.specs.Answers.{length_told};
 ghost use Rattle.vejupa.specs.Rows.{words_decision, row_numbers, words_left, text_left, words_bytes};
 ghost use Rattle.vejupa.specs.Descriptions.{description_number, description_words, broken_off_number, type_number, length_of, flag_of, bytes_of};
 
-use buffer::TextAnswer;
+use buffer::Written;
 use conversion::is_release;
 use qrydsc::MAX_QRYDSC;
 use refusal::{
-    BUFFER_TOO_SHORT, COUNT_TOO_LARGE, DEC_FLOAT_COLUMN, INPUT_LIMIT, INPUT_TOO_LONG, Outcome,
-    QRYDSC_BROKEN_OFF, QRYDSC_TOO_LONG, TEXT_BUFFER_TOO_SHORT, TOO_MANY_COLUMNS, UNKNOWN_RELEASE,
+    BUFFER_TOO_SHORT, COUNT_TOO_LARGE, DEC_FLOAT_COLUMN, INPUT_LIMIT, INPUT_TOO_LONG,
+    QRYDSC_TOO_LONG, Refusal, TEXT_BUFFER_TOO_SHORT, UNKNOWN_RELEASE,
 };
 use row::value_bytes;
-use row_words::{Checked, RowOutcome};
-use types::{FixedLength, MAX_COLUMNS};
-use words::{TypeRead, value_named};
+use row_words::RowError;
+use types::MAX_COLUMNS;
+use words::value_named;
 
 // What a function answers beside the refusals (D1): the lent words are too few; a word is no type's; words are no column's.
 const TOO_FEW_WORDS: u32 = 101;
@@ -52,34 +52,40 @@ pub fn vejupa_version_0_6_0() -> u32
 fn flag(b: bool) -> u32
     ensures { result ≡ cond b 1 0 }
 {
-    if b { 1 } else { 0 }
+    u32::from(b)
 }
 
 // Hands out an answer: its number returned, in text_length how long the text is, written or needed.
-fn report(a: TextAnswer, text_length: &mut usize) -> u32
+fn report(a: Result<Written, Refusal>, text_length: &mut usize) -> u32
     ensures number { result ≡ told_number (told_text a).outcome }
     ensures length { text_length.new ≡ length_told (told_text a) }
 {
-    let outcome = a.outcome;
-    match outcome {
-        Outcome::Accepted => {
-            *text_length = a.written;
+    match a {
+        Ok(w) => {
+            *text_length = w.len;
             0
         }
-        Outcome::Refused(_) => {
-            *text_length = outcome.first_value();
-            outcome.number()
+        Err(r) => {
+            *text_length = r.first_value();
+            r.number()
         }
     }
 }
 
 // The same with a third number: in replaced how many U+FFFD were put in for what was malformed.
-fn report_replaced(a: TextAnswer, text_length: &mut usize, replaced: &mut usize) -> u32
+fn report_replaced(
+    a: Result<Written, Refusal>,
+    text_length: &mut usize,
+    replaced: &mut usize,
+) -> u32
     ensures number { result ≡ told_number (told_text a).outcome }
     ensures length { text_length.new ≡ length_told (told_text a) }
     ensures replaced { replaced.new ≡ (told_text a).replaced }
 {
-    *replaced = a.replaced;
+    *replaced = match a {
+        Ok(w) => w.replaced,
+        Err(_) => 0,
+    };
     report(a, text_length)
 }
 
@@ -166,12 +172,18 @@ pub fn vejupa_raw_decode_packed_whole(
     ensures whole { whole.new ≡ (whole_answer scale «data».now).number }
     ensures scale { whole_scale.new ≡ (whole_answer scale «data».now).scale }
 {
-    let a = decimal::decode_packed_whole(data, scale);
-    let n = a.number;
-    *whole = n;
-    *whole_scale = a.scale;
-    let outcome = a.outcome;
-    outcome.number()
+    match decimal::decode_packed_whole(data, scale) {
+        Ok(w) => {
+            *whole = w.number;
+            *whole_scale = w.scale;
+            0
+        }
+        Err(r) => {
+            *whole = 0;
+            *whole_scale = 0;
+            r.number()
+        }
+    }
 }
 
 // 1 where bytes are likely text, else 0.
@@ -181,39 +193,39 @@ pub fn vejupa_raw_bytes_are_likely_text(bytes: &[u8]) -> u32
     flag(text::bytes_are_likely_text(bytes))
 }
 
-// The number of the refusal of more columns than a list holds, where the triplets before `end` are read. Where only
+// The refusal of more columns than a list holds, where the triplets before `end` are read. Where only
 // whole descriptions are taken, they are read on to their end first.
-fn too_many(data: &[u8], end: usize, whole: bool) -> u32
+fn too_many(data: &[u8], end: usize, whole: bool) -> Refusal
     requires { end ≤ length «data».now }
-    ensures { result ≡ told_number (full_answer whole (end_from «data».now end) (length «data».now)).outcome }
+    ensures { refusal_number result ≡ told_number (full_answer whole (end_from «data».now end) (length «data».now)).outcome }
 {
     if !whole {
-        return TOO_MANY_COLUMNS;
+        return Refusal::TooManyColumns;
     }
     if triplets::outer_end(data, end) < data.len() {
-        return QRYDSC_BROKEN_OFF;
+        return Refusal::QrydscBrokenOff;
     }
-    TOO_MANY_COLUMNS
+    Refusal::TooManyColumns
 }
 
-// The refusal's number, or 0, of a description within the length limit whose columns are counted.
-fn refusal_of(data: &[u8], columns: usize, end: usize, whole: bool) -> u32
+// Whether a description within the length limit is taken, whose columns are counted.
+fn refusal_of(data: &[u8], columns: usize, end: usize, whole: bool) -> Result<(), Refusal>
     requires { (length «data».now ≤ max_qrydsc) × Counted «data».now columns end }
-    ensures { result ≡ told_number (entry_answer whole «data».now).outcome }
+    ensures { told_number (told result) ≡ told_number (entry_answer whole «data».now).outcome }
 {
     if MAX_COLUMNS < columns {
-        return too_many(data, end, whole);
+        return Err(too_many(data, end, whole));
     }
     if !whole {
-        return 0;
+        return Ok(());
     }
     if end < data.len() {
-        return QRYDSC_BROKEN_OFF;
+        return Err(Refusal::QrydscBrokenOff);
     }
-    0
+    Ok(())
 }
 
-// Both description calls in one. It reads the description twice, to count and to write (once where it has no columns), and makes no column list.
+// Both description calls in one, with the places of C. It reads the description twice, to count and to write (once where it has no columns), and makes no column list.
 fn parse(
     data: &[u8],
     column_words: &mut [u64],
@@ -234,9 +246,8 @@ fn parse(
     let counted = description_words::count_columns(data);
     let n = counted.columns;
     let end = counted.end;
-    let number = refusal_of(data, n, end, whole);
-    if number != 0 {
-        return number;
+    if let Err(r) = refusal_of(data, n, end, whole) {
+        return r.number();
     }
     *count = n;
     if column_words.len() < 2 * n {
@@ -284,17 +295,14 @@ pub fn vejupa_raw_fixed_length(type_word: u64, fixed: &mut u32, length: &mut usi
 {
     *fixed = 0;
     *length = 0;
-    let TypeRead::Known(t) = words::read_type_word(type_word) else {
+    let Some(t) = words::read_type_word(type_word) else {
         return NO_TYPE_WORD;
     };
-    match t.fixed_length() {
-        FixedLength::Bytes(n) => {
-            *fixed = 1;
-            *length = n;
-            0
-        }
-        FixedLength::Varies => 0,
+    if let Some(n) = t.fixed_length() {
+        *fixed = 1;
+        *length = n;
     }
+    0
 }
 
 // A row's values by columns that stand in words, two words a column, and the host's release: three words a value, texts in the text buffer. used are the bytes used,
@@ -336,7 +344,7 @@ pub fn vejupa_raw_decode_row(
     if value_words.len() < 3 * count {
         return TOO_FEW_WORDS;
     }
-    let Checked::Columns { dec_float } = row_words::check_columns(column_words) else {
+    let Some(dec_float) = row_words::check_columns(column_words) else {
         return NO_COLUMN;
     };
     if INPUT_LIMIT < data.len() {
@@ -346,25 +354,23 @@ pub fn vejupa_raw_decode_row(
         return DEC_FLOAT_COLUMN;
     }
     match row_words::decode_row(column_words, data, release, value_words, text) {
-        RowOutcome::Accepted {
-            used: taken,
-            written,
-            replaced: put_in,
-        } => {
-            *used = taken;
-            *text_length = written;
-            *replaced = put_in;
+        Ok(t) => {
+            *used = t.used;
+            *text_length = t.written;
+            *replaced = t.replaced;
             0
         }
-        RowOutcome::TooShort {
-            expected: wanted,
-            actual: there,
-        } => {
+        Err(
+            RowError::TooShort {
+                expected: wanted,
+                actual: there,
+            },
+        ) => {
             *expected = wanted;
             *actual = there;
             BUFFER_TOO_SHORT
         }
-        RowOutcome::TextTooShort { needed } => {
+        Err(RowError::TextTooShort { needed }) => {
             *text_length = needed;
             TEXT_BUFFER_TOO_SHORT
         }
@@ -381,11 +387,9 @@ pub fn vejupa_raw_value_bytes<'a>(
 )
     ensures { bytes.new.now ≡ words_bytes value_words.now «data».now text.now }
 {
-    if value_words.len() < 3 {
-        *bytes = &data[0..0];
+    let &[kind, number, len, ..] = value_words else {
+        *bytes = &[];
         return;
-    }
-    let named = value_named(value_words[0], value_words[1], value_words[2]);
-    let held = named.value;
-    *bytes = value_bytes(held, data, text);
+    };
+    *bytes = value_bytes(value_named(kind, number, len).value, data, text);
 }

@@ -1,9 +1,9 @@
 -- The words of columns are read as those columns. Assumes nothing.
+use Rattle.std.specs.Prelude.{None, Option, Some}
 use Prim.Native.Nat.{ℕ, suc, ◌+◌, ◌*◌, ◌/◌, ◌%◌, ◌≤◌, ◌<◌, ◌^◌}
 use mathlib.Core.Path.{◌≡◌, refl, ap, ◌∙◌}
 use mathlib.Core.Bool.{Bool, true, false, cond}
 use mathlib.Core.List.{List, [], ◌∷◌}
-use mathlib.Core.Option.{some, none}
 use native.Mathlib.Omega.{arith}
 use borrow.Author.Tests.{eq-eqb}
 use Rattle.types.specs.Names.{name_of, own_numbers}
@@ -11,8 +11,6 @@ use Rattle.types.specs.declared.ByteOrder.{ByteOrder}
 use Rattle.types.specs.declared.ByteOrder.TheVariants.{BigEndian, LittleEndian}
 use Rattle.types.specs.declared.Origin.{Origin}
 use Rattle.types.specs.declared.Origin.TheVariants.{Sda, UndeclaredLid, DeclaredLid}
-use Rattle.types.specs.declared.ReferenceLength.{ReferenceLength}
-use Rattle.types.specs.declared.ReferenceLength.TheVariants.{Absent, Width}
 use Rattle.types.specs.declared.ColumnDescriptor.{ColumnDescriptor}
 use lib.Dec.{eqb}
 use lib.ListN.{length, drop, get_or, drop_of_length-le}
@@ -26,9 +24,9 @@ order_named_lem : (o : ByteOrder) → order_named (little_endian_bit o) ≡ o
 order_named_lem BigEndian = refl
 order_named_lem LittleEndian = refl
 
-reference_named_lem : (r : ReferenceLength) → WidthFits r → reference_named (reference_bit r) (reference_width r % 2 ^ 16) ≡ r
-reference_named_lem Absent h = refl
-reference_named_lem (Width n) h = let e : n % 2 ^ 16 ≡ n = omega arith in rw e
+reference_named_lem : (r : Option ℕ) → WidthFits r → reference_named (reference_bit r) (reference_width r % 2 ^ 16) ≡ r
+reference_named_lem None h = refl
+reference_named_lem (Some n) h = let e : n % 2 ^ 16 ≡ n = omega arith in rw e
 
 flag_named : (b : Bool) → eqb (cond b 1 0) 1 ≡ b
 flag_named true = refl
@@ -72,7 +70,7 @@ module _ (c : ColumnDescriptor) (f : Fits c) where
       here.reference (two_bits (first_word c / 2 ^ 51) (origin_number c.origin) (origin_small c.origin) here.origin)
       here.long here.digits here.point here.page here.width
 
-  pub read_back : read_column (first_word c) (second_word c) ≡ some c
+  pub read_back : read_column (first_word c) (second_word c) ≡ Some c
   unfolding read_column is_column
   read_back = rw (named_back, eq-eqb (first_word c) (first_word c) refl, eq-eqb (second_word c) (second_word c) refl)
 
@@ -80,7 +78,7 @@ abbrev pub AllFit : List ColumnDescriptor → Type 0
 AllFit [] = Unit {0}
 AllFit (c ∷ cs) = Fits c × AllFit cs
 
-pub reads_columns : (cs : List ColumnDescriptor) → AllFit cs → read_columns (pack_columns cs) ≡ some cs
+pub reads_columns : (cs : List ColumnDescriptor) → AllFit cs → read_columns (pack_columns cs) ≡ Some cs
 unfolding read_columns pack_columns
 reads_columns [] h = refl
 reads_columns (c ∷ cs) h = rw (read_back c h.0, reads_columns cs h.1)
@@ -104,13 +102,13 @@ module _ (ws : List ℕ) (p : ℕ) where
   unfolding read_columns
   read_at h = rw (pair_at h)
 
-  pub read_odd : p + 1 ≡ length ws → read_columns (drop p ws) ≡ none
+  pub read_odd : p + 1 ≡ length ws → read_columns (drop p ws) ≡ None
   unfolding read_columns
   read_odd h =
       let a : p < length ws = omega arith in
       let b : length ws ≤ suc p = omega arith in
       rw (drop-cons ws p 0 a, drop_of_length-le ws b)
 
-  pub read_end_lem : p ≡ length ws → read_columns (drop p ws) ≡ some []
+  pub read_end_lem : p ≡ length ws → read_columns (drop p ws) ≡ Some []
   unfolding read_columns
   read_end_lem h = let b : length ws ≤ p = omega arith in rw (drop_of_length-le ws b)

@@ -1,5 +1,6 @@
 -- A step to the law of reading (proofs/Columns.antt): each field of a column's two words is the column's own, since no field runs into the next. Assumes nothing.
-use Prim.Native.Nat.{◌/◌, ◌%◌, ◌≤◌, ◌<◌, ◌^◌}
+use Rattle.std.specs.Prelude.{None, Option, Some}
+use Prim.Native.Nat.{ℕ, ◌/◌, ◌%◌, ◌≤◌, ◌<◌, ◌^◌}
 use mathlib.Core.Path.{◌≡◌}
 use mathlib.Core.Bool.{Bool, true, false, cond}
 use native.Mathlib.Omega.{arith}
@@ -7,16 +8,14 @@ use Rattle.types.specs.declared.ByteOrder.{ByteOrder}
 use Rattle.types.specs.declared.ByteOrder.TheVariants.{BigEndian, LittleEndian}
 use Rattle.types.specs.declared.Origin.{Origin}
 use Rattle.types.specs.declared.Origin.TheVariants.{Sda, UndeclaredLid, DeclaredLid}
-use Rattle.types.specs.declared.ReferenceLength.{ReferenceLength}
-use Rattle.types.specs.declared.ReferenceLength.TheVariants.{Absent, Width}
 use Rattle.types.specs.declared.ColumnDescriptor.{ColumnDescriptor}
 use Rattle.words.specs.Words.{pack_type, little_endian_bit, reference_bit, reference_width, origin_number, first_word, second_word}
 use Rattle.words.proofs.TypeWords.{Fitting, named}
 
 -- a reference length has 16 bits
-abbrev pub WidthFits : ReferenceLength → Type 0
-WidthFits Absent = Unit {0}
-WidthFits (Width n) = n < 2 ^ 16
+abbrev pub WidthFits : Option ℕ → Type 0
+WidthFits None = Unit {0}
+WidthFits (Some n) = n < 2 ^ 16
 
 -- every number of a column has its bits, as those of the code have: the column's own number has 8
 pub record Fits (c : ColumnDescriptor) : Type 0 where
@@ -51,9 +50,9 @@ order_bit : (o : ByteOrder) → little_endian_bit o ≤ 1
 order_bit BigEndian = omega arith
 order_bit LittleEndian = omega arith
 
-reference_bit_lem : (r : ReferenceLength) → reference_bit r ≤ 1
-reference_bit_lem Absent = omega arith
-reference_bit_lem (Width n) = omega arith
+reference_bit_lem : (r : Option ℕ) → reference_bit r ≤ 1
+reference_bit_lem None = omega arith
+reference_bit_lem (Some n) = omega arith
 
 pub origin_small : (o : Origin) → origin_number o ≤ 2
 origin_small Sda = omega arith

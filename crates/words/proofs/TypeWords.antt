@@ -1,11 +1,12 @@
 -- A type's word is read as that type, and a word that is read as a type is that type's word. Assumes nothing.
+use Rattle.std.specs.Bool.{then_some}
+use Rattle.std.specs.Prelude.{None, Some}
 use Prim.Native.Nat.{ℕ, zero, suc, ◌+◌, ◌*◌, ◌/◌, ◌%◌, ◌≤◌, ◌<◌}
 use mathlib.Core.Path.{◌≡◌, refl, sym, ◌∙◌}
 use mathlib.Core.Bool.{Bool, true, false, cond, ◌&&◌}
-use mathlib.Core.Option.{some, none}
 use native.Mathlib.Omega.{arith}
 use lib.Dec.{ltb, eqb}
-use borrow.Author.Tests.{lt-ltb, le-ltb, eq-eqb, ne_eqb, eqb-true}
+use borrow.Author.Tests.{lt-ltb, le-ltb, eq-eqb, eqb-true}
 use Rattle.types.specs.Names.{name_of, own_numbers}
 use Rattle.types.specs.declared.Db2Type.{Db2Type}
 use Rattle.types.specs.declared.Db2Type.TheVariants as type
@@ -20,19 +21,18 @@ pub none_below : (x n : ℕ) → NoneBelow x n → n ≤ x
 none_below x zero h = omega arith
 none_below x (suc n) h = let k = none_below x n h.0 in omega (arith, h.1)
 
-pub read_large : (w : ℕ) → 16777216 ≤ w → none ≡ read_type w
+pub read_large : (w : ℕ) → 16777216 ≤ w → None ≡ read_type w
 unfolding read_type
 read_large w h = rw (le-ltb w 16777216 h)
 
--- a word below 2^24, and the type that its bits name, of which r is the word
-module _ (w : ℕ) (t : Db2Type) (r : ℕ) (h : w < 16777216) (e : t ≡ type_named (w % 256) (w / 256)) (p : r ≡ pack_type t) where
-  pub read_same : r ≡ w → some t ≡ read_type w
-  unfolding read_type
-  read_same q = rw (lt-ltb w 16777216 h, ← e, eq-eqb (pack_type t) w (sym p ∙ q))
+pub then_some_is : {A : Type 0} (b : Bool) (x : A) → then_some b x ≡ cond b (Some x) None
+then_some_is true x = refl
+then_some_is false x = refl
 
-  pub read_other : (r ≡ w → ⊥) → none ≡ read_type w
-  unfolding read_type
-  read_other q = rw (lt-ltb w 16777216 h, ← e, ne_eqb (pack_type t) w (λ k. q (p ∙ k)))
+-- a word below 2^24, and the type t that its bits name, of which r is the word
+pub read_small : (w r : ℕ) (t : Db2Type) → w < 16777216 → t ≡ type_named (w % 256) (w / 256) → r ≡ pack_type t → then_some (eqb r w) t ≡ read_type w
+unfolding read_type
+read_small w r t h e p = rw (lt-ltb w 16777216 h, ← e, p) (then_some_is (eqb (pack_type t) w) t)
 
 -- the numbers that a type holds have their widths
 abbrev pub Fitting : Db2Type → Type 0
@@ -107,23 +107,23 @@ named type.Boolean h = record { place = omega arith; numbers = omega arith; back
 named type.Xml h = record { place = omega arith; numbers = omega arith; back = refl }
 named type.Null h = record { place = omega arith; numbers = omega arith; back = refl }
 
-pub reads_back : (t : Db2Type) → Fitting t → read_type (pack_type t) ≡ some t
+pub reads_back : (t : Db2Type) → Fitting t → read_type (pack_type t) ≡ Some t
 reads_back t f =
     let n = named t f in
     let a : ℕ = name_of t in
     let b : ℕ = own_numbers t in
     let x : (a + b * 256) % 256 ≡ a = omega (arith, n.place) in
     let y : (a + b * 256) / 256 ≡ b = omega (arith, n.place) in
-    sym (read_same (a + b * 256) t (a + b * 256) (omega (arith, n.place, n.numbers)) (rw (x, y) (sym n.back)) refl refl)
+    sym (read_small (a + b * 256) (a + b * 256) t (omega (arith, n.place, n.numbers)) (rw (x, y) (sym n.back)) refl) ∙ rw (eq-eqb (a + b * 256) (a + b * 256) refl)
 
-pub packs_back : (w : ℕ) (t : Db2Type) → read_type w ≡ some t → pack_type t ≡ w
+pub packs_back : (w : ℕ) (t : Db2Type) → read_type w ≡ Some t → pack_type t ≡ w
 unfolding read_type
 packs_back w t = go (ltb w 16777216) (eqb (pack_type u) w) refl
   where
     u : Db2Type
     u = type_named (w % 256) (w / 256)
 
-    go : (a b : Bool) → eqb (pack_type u) w ≡ b → cond (a && b) (some u) none ≡ some t → pack_type t ≡ w
+    go : (a b : Bool) → eqb (pack_type u) w ≡ b → cond (a && b) (Some u) None ≡ Some t → pack_type t ≡ w
     go true true q e = let k : u ≡ t = cc in rw (← k) (eqb-true (pack_type u) w q)
     go true false q e = let z : ◌≡◌ {A = ℕ} 0 1 = cc in omega arith
     go false b q e = let z : ◌≡◌ {A = ℕ} 0 1 = cc in omega arith

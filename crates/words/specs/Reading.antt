@@ -1,12 +1,9 @@
 -- The column that two words say, and the columns that words say: what specs/Words.antt packs, unpacked. Assumes nothing.
-use Rattle.std.specs.Prelude.{ℕ, ◌/◌, ◌%◌, ◌^◌, Bool, cond, ◌&&◌, List, [], ◌∷◌, eqb}
-use Rattle.std.proofs.Math.Option.{Option, some, none}
+use Rattle.std.specs.Prelude.{ℕ, ◌/◌, ◌%◌, ◌^◌, Bool, cond, ◌&&◌, List, [], ◌∷◌, eqb, None, Option, Some}
 use Rattle.types.specs.declared.ByteOrder.{ByteOrder}
 use Rattle.types.specs.declared.ByteOrder.TheVariants.{BigEndian, LittleEndian}
 use Rattle.types.specs.declared.Origin.{Origin}
 use Rattle.types.specs.declared.Origin.TheVariants.{Sda, UndeclaredLid, DeclaredLid}
-use Rattle.types.specs.declared.ReferenceLength.{ReferenceLength}
-use Rattle.types.specs.declared.ReferenceLength.TheVariants.{Absent, Width}
 use Rattle.types.specs.declared.ColumnDescriptor.{ColumnDescriptor}
 use Rattle.words.specs.Words.{first_word, second_word, type_named}
 
@@ -14,8 +11,8 @@ use Rattle.words.specs.Words.{first_word, second_word, type_named}
 abbrev pub order_named : ℕ → ByteOrder
 order_named bit = cond (eqb bit 1) LittleEndian BigEndian
 
-abbrev pub reference_named : ℕ → ℕ → ReferenceLength
-reference_named bit n = cond (eqb bit 1) (Width n) Absent
+abbrev pub reference_named : ℕ → ℕ → Option ℕ
+reference_named bit n = cond (eqb bit 1) (Some n) None
 
 -- there is no origin of the number 3: it names that of 0, so that the words are no column's
 abbrev pub origin_named : ℕ → Origin
@@ -44,15 +41,15 @@ is_column first second = eqb (first_word (column_named first second)) first && e
 
 -- the column whose words these are, where there is one
 unfoldable pub read_column : ℕ → ℕ → Option ColumnDescriptor
-read_column first second = cond (is_column first second) (some (column_named first second)) none
+read_column first second = cond (is_column first second) (Some (column_named first second)) None
 
 abbrev pub joined : Option ColumnDescriptor → Option (List ColumnDescriptor) → Option (List ColumnDescriptor)
-joined (some c) (some cs) = some (c ∷ cs)
-joined (some c) none = none
-joined none cs = none
+joined (Some c) (Some cs) = Some (c ∷ cs)
+joined (Some c) None = None
+joined None cs = None
 
 -- the columns whose words these are, two words for each, where every two are a column's and none is left over
 unfoldable pub read_columns : List ℕ → Option (List ColumnDescriptor)
-read_columns [] = some []
-read_columns (first ∷ []) = none
+read_columns [] = Some []
+read_columns (first ∷ []) = None
 read_columns (first ∷ second ∷ words) = joined (read_column first second) (read_columns words)

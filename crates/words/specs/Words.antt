@@ -1,14 +1,11 @@
 -- A column as two words of 64 bits, and a type as the low 24 bits of the first: the layout of the calls for C and Rust. Assumes nothing.
-use Rattle.std.specs.Prelude.{ℕ, ◌+◌, ◌*◌, ◌/◌, ◌%◌, ◌^◌, cond, ◌&&◌, List, [], ◌∷◌, ltb, eqb, get_or}
-use Rattle.std.proofs.Math.Option.{Option, some, none}
+use Rattle.std.specs.Prelude.{ℕ, ◌+◌, ◌*◌, ◌/◌, ◌%◌, ◌^◌, cond, ◌&&◌, List, [], ◌∷◌, ltb, eqb, get_or, None, Option, Some}
 use Rattle.types.specs.Names.{name_of, own_numbers, is_absent, is_little_endian}
 use Rattle.types.specs.declared.Db2Type.{Db2Type}
 use Rattle.types.specs.declared.Db2Type.TheVariants as type
 use Rattle.types.specs.declared.ByteOrder.{ByteOrder}
 use Rattle.types.specs.declared.Origin.{Origin}
 use Rattle.types.specs.declared.Origin.TheVariants.{Sda, UndeclaredLid, DeclaredLid}
-use Rattle.types.specs.declared.ReferenceLength.{ReferenceLength}
-use Rattle.types.specs.declared.ReferenceLength.TheVariants.{Absent, Width}
 use Rattle.types.specs.declared.ColumnDescriptor.{ColumnDescriptor}
 
 -- a type word: bits 0 to 7 the place of the type's name, bits 8 to 23 the numbers that it holds
@@ -20,13 +17,13 @@ abbrev pub little_endian_bit : ByteOrder → ℕ
 little_endian_bit o = cond (is_little_endian o) 1 0
 
 -- 1 where a reference length is there
-abbrev pub reference_bit : ReferenceLength → ℕ
+abbrev pub reference_bit : Option ℕ → ℕ
 reference_bit r = cond (is_absent r) 0 1
 
 -- the reference length, and 0 where there is none
-abbrev pub reference_width : ReferenceLength → ℕ
-reference_width Absent = 0
-reference_width (Width n) = n
+abbrev pub reference_width : Option ℕ → ℕ
+reference_width None = 0
+reference_width (Some n) = n
 
 abbrev pub origin_number : Origin → ℕ
 origin_number Sda = 0
@@ -75,4 +72,4 @@ type_named tag n = get_or (types_with n) tag type.Null
 unfoldable pub read_type : ℕ → Option Db2Type
 read_type w =
     let t = type_named (w % 2 ^ 8) (w / 2 ^ 8) in
-    cond (ltb w (2 ^ 24) && eqb (pack_type t) w) (some t) none
+    cond (ltb w (2 ^ 24) && eqb (pack_type t) w) (Some t) None

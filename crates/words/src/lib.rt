@@ -9,15 +9,12 @@ ghost use Rattle.std.proofs.Common.{of_z};
 ghost use Rattle.types.specs.Names.{name_of, own_numbers};
 ghost use Rattle.types.specs.Held.{float_bits};
 ghost use Rattle.words.specs.Words.{pack_type, little_endian_bit, reference_bit, reference_width, origin_number, first_word, second_word, type_named, read_type};
-ghost use Rattle.words.specs.Told.{told_type};
 ghost use Rattle.words.specs.Reading.{order_named, reference_named, origin_named, column_named, is_column};
 ghost use Rattle.words.specs.Values.{sort_word, number_word, length_word, kind_word};
 ghost use Rattle.words.specs.ValueReading.{variant_named, value_named};
 
 use numbers::{double_of, real_of, signed16, signed32, signed64};
-use types::{
-    ByteOrder, ColumnDescriptor, Db2Type, Db2Value, Origin, Place, ReferenceLength, ValuePlace,
-};
+use types::{ByteOrder, ColumnDescriptor, Db2Type, Db2Value, Origin, Place, ValuePlace};
 
 // The two words of a column.
 #[derive(Clone, Copy)]
@@ -34,14 +31,7 @@ pub struct ValueWords {
     pub len: u64,
 }
 
-// What a word says of a type.
-#[derive(Clone, Copy)]
-pub enum TypeRead {
-    Known(Db2Type),
-    NoType,
-}
-
-// The place of a type's name in the enum.
+// The place of a type's name in the enum: an enum whose variants hold numbers has no `as`.
 fn tag(t: Db2Type) -> u8
     ensures { result ≡ name_of t }
 {
@@ -86,110 +76,50 @@ fn own_numbers(t: Db2Type) -> u16
     ensures { result ≡ own_numbers t }
 {
     match t {
-        Db2Type::SmallInt => 0,
-        Db2Type::Integer => 0,
-        Db2Type::BigInt => 0,
-        Db2Type::Real => 0,
-        Db2Type::Double => 0,
         Db2Type::Decimal { precision, scale } => (precision as u16) + (scale as u16) * 256,
         Db2Type::DecFloat(digits) => digits as u16,
-        Db2Type::Char(n) => n,
-        Db2Type::VarChar(n) => n,
-        Db2Type::LongVarChar => 0,
-        Db2Type::Clob => 0,
-        Db2Type::Binary(n) => n,
-        Db2Type::VarBinary(n) => n,
-        Db2Type::Blob => 0,
-        Db2Type::BlobLocator => 0,
-        Db2Type::Date => 0,
-        Db2Type::Time => 0,
-        Db2Type::Timestamp => 0,
-        Db2Type::Graphic(n) => n,
-        Db2Type::VarGraphic(n) => n,
-        Db2Type::DbClob => 0,
-        Db2Type::ClobLocator => 0,
-        Db2Type::DbClobLocator => 0,
-        Db2Type::LobBytes(n) => n,
-        Db2Type::LobChar(n) => n,
-        Db2Type::RowId(n) => n,
-        Db2Type::Boolean => 0,
-        Db2Type::Xml => 0,
-        Db2Type::Null => 0,
+        Db2Type::Char(n)
+        | Db2Type::VarChar(n)
+        | Db2Type::Binary(n)
+        | Db2Type::VarBinary(n)
+        | Db2Type::Graphic(n)
+        | Db2Type::VarGraphic(n)
+        | Db2Type::LobBytes(n)
+        | Db2Type::LobChar(n)
+        | Db2Type::RowId(n) => n,
+        _ => 0,
     }
 }
 
+// No From here, nor a TryFrom at read_type_word: both types are other crates'.
 pub fn type_word(t: Db2Type) -> u64
     ensures { (result ≡ pack_type t) × (result < 2 ^ 24) }
 {
     (tag(t) as u64) + (own_numbers(t) as u64) * 0x100
 }
 
-fn flag_bit(flag: bool) -> u64
-    ensures { (result ≡ cond flag 1 0) × (result ≤ 1) }
-{
-    if flag { 1 } else { 0 }
-}
-
-fn little_endian_bit(order: ByteOrder) -> u64
-    ensures { (result ≡ little_endian_bit order) × (result ≤ 1) }
-{
-    match order {
-        ByteOrder::BigEndian => 0,
-        ByteOrder::LittleEndian => 1,
-    }
-}
-
-fn reference_bit(reference: ReferenceLength) -> u64
-    ensures { (result ≡ reference_bit reference) × (result ≤ 1) }
-{
-    match reference {
-        ReferenceLength::Absent => 0,
-        ReferenceLength::Width(_) => 1,
-    }
-}
-
-fn reference_width(reference: ReferenceLength) -> u16
-    ensures { result ≡ reference_width reference }
-{
-    match reference {
-        ReferenceLength::Absent => 0,
-        ReferenceLength::Width(n) => n,
-    }
-}
-
-fn origin_number(origin: Origin) -> u64
-    ensures { (result ≡ origin_number origin) × (result ≤ 2) }
-{
-    match origin {
-        Origin::Sda => 0,
-        Origin::UndeclaredLid => 1,
-        Origin::DeclaredLid => 2,
-    }
-}
-
+// A function, as value_words is: by a From the clauses would say the same behind from_gives.
 pub fn column_words(c: ColumnDescriptor) -> ColumnWords
     ensures { (result.first ≡ first_word c) × (result.second ≡ second_word c) }
 {
-    let db2_type = c.db2_type;
-    let order = c.byte_order;
-    let origin = c.origin;
     let reference = c.extdta_reference_length;
-    let first = type_word(db2_type)
+    let first = type_word(c.db2_type)
         + (c.drda_type as u64) * 0x100_0000
         + (c.column_index as u64) * 0x1_0000_0000
-        + flag_bit(c.nullable) * 0x1_0000_0000_0000
-        + little_endian_bit(order) * 0x2_0000_0000_0000
-        + reference_bit(reference) * 0x4_0000_0000_0000
-        + origin_number(origin) * 0x8_0000_0000_0000;
+        + u64::from(c.nullable) * 0x1_0000_0000_0000
+        + u64::from(c.byte_order == ByteOrder::LittleEndian) * 0x2_0000_0000_0000
+        + u64::from(reference.is_some()) * 0x4_0000_0000_0000
+        + (c.origin as u64) * 0x8_0000_0000_0000;
     let second = (c.length as u64)
         + (c.precision as u64) * 0x1_0000
         + (c.scale as u64) * 0x100_0000
         + (c.ccsid as u64) * 0x1_0000_0000
-        + (reference_width(reference) as u64) * 0x1_0000_0000_0000;
+        + (reference.unwrap_or(0) as u64) * 0x1_0000_0000_0000;
     ColumnWords { first, second }
 }
 
 // The type of this name, with these numbers.
+#[tactic(auto, unfolding(crate::specs::Words::type_named))]
 fn type_named(tag: u8, n: u16) -> Db2Type
     ensures { result ≡ type_named tag n }
 {
@@ -230,95 +160,39 @@ fn type_named(tag: u8, n: u16) -> Db2Type
 }
 
 // The type whose word this is.
-pub fn read_type_word(word: u64) -> TypeRead
-    ensures { told_type result ≡ read_type word }
+pub fn read_type_word(word: u64) -> Option<Db2Type>
+    ensures { result ≡ read_type word }
 {
     if 0x100_0000 <= word {
-        return TypeRead::NoType;
+        return None;
     }
     let t = type_named((word % 0x100) as u8, (word / 0x100) as u16);
-    if type_word(t) == word {
-        TypeRead::Known(t)
-    } else {
-        TypeRead::NoType
-    }
+    (type_word(t) == word).then_some(t)
 }
 
 fn order_named(bit: u64) -> ByteOrder
     ensures { result ≡ order_named bit }
 {
     if bit == 1 {
-        return ByteOrder::LittleEndian;
+        ByteOrder::LittleEndian
+    } else {
+        ByteOrder::BigEndian
     }
-    ByteOrder::BigEndian
-}
-
-fn reference_named(bit: u64, n: u16) -> ReferenceLength
-    ensures { result ≡ reference_named bit n }
-{
-    if bit == 1 {
-        return ReferenceLength::Width(n);
-    }
-    ReferenceLength::Absent
 }
 
 fn origin_named(n: u64) -> Origin
     ensures { result ≡ origin_named n }
 {
-    if n == 1 {
-        return Origin::UndeclaredLid;
-    }
-    if n == 2 {
-        return Origin::DeclaredLid;
-    }
-    Origin::Sda
-}
-
-// The type that the bits of a column's first word name.
-pub fn type_of(first: u64) -> Db2Type
-    ensures { result ≡ type_named (first % 2 ^ 8) (first / 2 ^ 8 % 2 ^ 16) }
-{
-    type_named((first % 0x100) as u8, (first / 0x100 % 0x1_0000) as u16)
-}
-
-// The byte order that they name.
-pub fn order_of(first: u64) -> ByteOrder
-    ensures { result ≡ order_named (first / 2 ^ 49 % 2) }
-{
-    order_named(first / 0x2_0000_0000_0000 % 2)
-}
-
-// The column that the bits of two words name. They are its words where is_column says so.
-pub fn column_named(first: u64, second: u64) -> ColumnDescriptor
-    ensures { result ≡ column_named first second }
-{
-    let db2_type = type_named((first % 0x100) as u8, (first / 0x100 % 0x1_0000) as u16);
-    let width = (second / 0x1_0000_0000_0000 % 0x1_0000) as u16;
-    let extdta_reference_length = reference_named(first / 0x4_0000_0000_0000 % 2, width);
-    let byte_order = order_named(first / 0x2_0000_0000_0000 % 2);
-    let origin = origin_named(first / 0x8_0000_0000_0000 % 4);
-    let column_index = (first / 0x1_0000_0000 % 0x100) as u8;
-    let drda_type = (first / 0x100_0000 % 0x100) as u8;
-    let length = (second % 0x1_0000) as u16;
-    let precision = (second / 0x1_0000 % 0x100) as u8;
-    let scale = (second / 0x100_0000 % 0x100) as u8;
-    let ccsid = (second / 0x1_0000_0000 % 0x1_0000) as u16;
-    ColumnDescriptor {
-        column_index,
-        drda_type,
-        length,
-        precision,
-        scale,
-        nullable: first / 0x1_0000_0000_0000 % 2 == 1,
-        origin,
-        ccsid,
-        db2_type,
-        byte_order,
-        extdta_reference_length,
+    match n {
+        1 => Origin::UndeclaredLid,
+        2 => Origin::DeclaredLid,
+        _ => Origin::Sda,
     }
 }
 
 // Whether the type of this name holds these numbers, and there is such a type.
+// One arm for each name: by groups the check of a column took 19 instructions more.
+#[tactic(auto, using(crate::proofs::Holding::no_numbers, crate::proofs::Holding::all_numbers, crate::proofs::Holding::two_numbers, crate::proofs::Holding::small_number), unfolding(crate::specs::Words::type_named))]
 fn holds(tag: u8, n: u16) -> bool
     ensures { result ≡ eqb (pack_type (type_named tag n)) (tag + n * 2 ^ 8) }
 {
@@ -356,51 +230,91 @@ fn holds(tag: u8, n: u16) -> bool
     }
 }
 
-// Whether two words are a column's. A column's number has 8 bits of its 16, there are three origins and nothing stands above them, and a reference length
-// is 0 where there is none.
-pub fn is_column(first: u64, second: u64) -> bool
-    ensures { result ≡ is_column first second }
-{
-    if first / 0x100_0000_0000 % 0x100 != 0 {
-        return false;
+impl ColumnWords {
+    // The type that the bits of the first word name.
+    pub fn db2_type(self) -> Db2Type
+        ensures { result ≡ type_named (self.first % 2 ^ 8) (self.first / 2 ^ 8 % 2 ^ 16) }
+    {
+        type_named(
+            (self.first % 0x100) as u8,
+            (self.first / 0x100 % 0x1_0000) as u16,
+        )
     }
-    if 0x18_0000_0000_0000 <= first {
-        return false;
+
+    // The byte order that they name.
+    pub fn byte_order(self) -> ByteOrder
+        ensures { result ≡ order_named (self.first / 2 ^ 49 % 2) }
+    {
+        order_named(self.first / 0x2_0000_0000_0000 % 2)
     }
-    if first / 0x4_0000_0000_0000 % 2 * 0xFFFF < second / 0x1_0000_0000_0000 {
-        return false;
+
+    // The column that the bits of the two words name. They are its words where is_column says so.
+    #[tactic(auto, using(crate::proofs::TypeWords::then_some_is), unfolding(crate::specs::Reading::column_named))]
+    pub fn column(self) -> ColumnDescriptor
+        ensures { result ≡ column_named self.first self.second }
+    {
+        let db2_type = self.db2_type();
+        let width = (self.second / 0x1_0000_0000_0000 % 0x1_0000) as u16;
+        let extdta_reference_length = (self.first / 0x4_0000_0000_0000 % 2 == 1).then_some(width);
+        let byte_order = self.byte_order();
+        let origin = origin_named(self.first / 0x8_0000_0000_0000 % 4);
+        let column_index = (self.first / 0x1_0000_0000 % 0x100) as u8;
+        let drda_type = (self.first / 0x100_0000 % 0x100) as u8;
+        let length = (self.second % 0x1_0000) as u16;
+        let precision = (self.second / 0x1_0000 % 0x100) as u8;
+        let scale = (self.second / 0x100_0000 % 0x100) as u8;
+        let ccsid = (self.second / 0x1_0000_0000 % 0x1_0000) as u16;
+        ColumnDescriptor {
+            column_index,
+            drda_type,
+            length,
+            precision,
+            scale,
+            nullable: self.first / 0x1_0000_0000_0000 % 2 == 1,
+            origin,
+            ccsid,
+            db2_type,
+            byte_order,
+            extdta_reference_length,
+        }
     }
-    holds((first % 0x100) as u8, (first / 0x100 % 0x1_0000) as u16)
+
+    // Whether the two words are a column's. A column's number has 8 bits of its 16, there are three origins and nothing stands above them, and a reference length
+    // is 0 where there is none.
+    pub fn is_column(self) -> bool
+        ensures { result ≡ is_column self.first self.second }
+    {
+        if self.first / 0x100_0000_0000 % 0x100 != 0 {
+            return false;
+        }
+        if 0x18_0000_0000_0000 <= self.first {
+            return false;
+        }
+        if self.first / 0x4_0000_0000_0000 % 2 * 0xFFFF < self.second / 0x1_0000_0000_0000 {
+            return false;
+        }
+        holds(
+            (self.first % 0x100) as u8,
+            (self.first / 0x100 % 0x1_0000) as u16,
+        )
+    }
 }
 
-// The bits of a signed number.
-fn signed_bits(z: i64) -> u64
-    ensures { result ≡ of_z w64 z }
-{
-    if z < 0 {
-        return 0xFFFF_FFFF_FFFF_FFFF - ((-1 - z) as u64);
-    }
-    z as u64
-}
-
+#[tactic(auto, unfolding(types::specs::Held::float_bits))]
 fn real_bits(x: f32) -> u32
     ensures { result ≡ float_bits binary32 x }
 {
-    if x == x {
-        return f32::to_bits(x);
-    }
-    0
+    if x.is_nan() { 0 } else { x.to_bits() }
 }
 
+#[tactic(auto, unfolding(types::specs::Held::float_bits))]
 fn double_bits(x: f64) -> u64
     ensures { result ≡ float_bits binary64 x }
 {
-    if x == x {
-        return f64::to_bits(x);
-    }
-    0
+    if x.is_nan() { 0 } else { x.to_bits() }
 }
 
+// The place of the variant, as tag has a type's.
 fn sort_word(value: Db2Value) -> u64
     ensures { (result ≡ sort_word value) × (result < 2 ^ 8) }
 {
@@ -433,25 +347,25 @@ fn number_word(value: Db2Value) -> u64
 {
     match value {
         Db2Value::Null => 0,
-        Db2Value::SmallInt(z) => signed_bits(z as i64),
-        Db2Value::Integer(z) => signed_bits(z as i64),
-        Db2Value::BigInt(z) => signed_bits(z),
+        Db2Value::SmallInt(z) => (z as i64).cast_unsigned(),
+        Db2Value::Integer(z) => (z as i64).cast_unsigned(),
+        Db2Value::BigInt(z) => z.cast_unsigned(),
         Db2Value::Real(x) => real_bits(x) as u64,
         Db2Value::RealNan(n) => n as u64,
         Db2Value::Double(x) => double_bits(x),
         Db2Value::DoubleNan(n) => n,
-        Db2Value::Decimal(p) => p.start as u64,
-        Db2Value::Char(p) => p.start as u64,
-        Db2Value::VarChar(p) => p.start as u64,
-        Db2Value::Binary(p) => p.start as u64,
-        Db2Value::Blob(p) => p.start as u64,
-        Db2Value::Clob(p) => p.start as u64,
-        Db2Value::RowId(p) => p.start as u64,
-        Db2Value::Date(p) => p.start as u64,
-        Db2Value::Time(p) => p.start as u64,
-        Db2Value::Timestamp(p) => p.start as u64,
-        Db2Value::Boolean(b) => flag_bit(b),
-        Db2Value::Xml(p) => p.start as u64,
+        Db2Value::Boolean(b) => u64::from(b),
+        Db2Value::Decimal(p)
+        | Db2Value::Char(p)
+        | Db2Value::VarChar(p)
+        | Db2Value::Binary(p)
+        | Db2Value::Blob(p)
+        | Db2Value::Clob(p)
+        | Db2Value::RowId(p)
+        | Db2Value::Date(p)
+        | Db2Value::Time(p)
+        | Db2Value::Timestamp(p)
+        | Db2Value::Xml(p) => p.start as u64,
     }
 }
 
@@ -459,26 +373,18 @@ fn length_word(value: Db2Value) -> u64
     ensures { result ≡ length_word value }
 {
     match value {
-        Db2Value::Null => 0,
-        Db2Value::SmallInt(_) => 0,
-        Db2Value::Integer(_) => 0,
-        Db2Value::BigInt(_) => 0,
-        Db2Value::Real(_) => 0,
-        Db2Value::RealNan(_) => 0,
-        Db2Value::Double(_) => 0,
-        Db2Value::DoubleNan(_) => 0,
-        Db2Value::Decimal(p) => p.len as u64,
-        Db2Value::Char(p) => p.len as u64,
-        Db2Value::VarChar(p) => p.len as u64,
-        Db2Value::Binary(p) => p.len as u64,
-        Db2Value::Blob(p) => p.len as u64,
-        Db2Value::Clob(p) => p.len as u64,
-        Db2Value::RowId(p) => p.len as u64,
-        Db2Value::Date(p) => p.len as u64,
-        Db2Value::Time(p) => p.len as u64,
-        Db2Value::Timestamp(p) => p.len as u64,
-        Db2Value::Boolean(_) => 0,
-        Db2Value::Xml(p) => p.len as u64,
+        Db2Value::Decimal(p)
+        | Db2Value::Char(p)
+        | Db2Value::VarChar(p)
+        | Db2Value::Binary(p)
+        | Db2Value::Blob(p)
+        | Db2Value::Clob(p)
+        | Db2Value::RowId(p)
+        | Db2Value::Date(p)
+        | Db2Value::Time(p)
+        | Db2Value::Timestamp(p)
+        | Db2Value::Xml(p) => p.len as u64,
+        _ => 0,
     }
 }
 
@@ -487,13 +393,15 @@ pub fn value_words(place: ValuePlace) -> ValueWords
     ensures { (result.kind ≡ kind_word place) × ((result.number ≡ number_word place.value) × (result.len ≡ length_word place.value)) }
 {
     let value = place.value;
-    let kind = sort_word(value) + flag_bit(place.external) * 0x100;
-    let number = number_word(value);
-    let len = length_word(value);
-    ValueWords { kind, number, len }
+    ValueWords {
+        kind: sort_word(value) + u64::from(place.external) * 0x100,
+        number: number_word(value),
+        len: length_word(value),
+    }
 }
 
 // The value of the variant that has this place in the enum, by the second and the third of its words; Null where there is none.
+#[tactic(auto, unfolding(crate::specs::ValueReading::variant_named))]
 fn variant_named(sort: u8, number: u64, len: u64) -> Db2Value
     ensures { result ≡ variant_named sort number len }
 {
@@ -527,12 +435,12 @@ fn variant_named(sort: u8, number: u64, len: u64) -> Db2Value
 }
 
 // The value that three words name, and whether it is external.
+#[tactic(auto, unfolding(crate::specs::ValueReading::value_named))]
 pub fn value_named(kind: u64, number: u64, len: u64) -> ValuePlace
     ensures { result ≡ value_named kind number len }
 {
-    let value = variant_named((kind % 0x100) as u8, number, len);
     ValuePlace {
-        value,
+        value: variant_named((kind % 0x100) as u8, number, len),
         external: kind / 0x100 % 2 == 1,
     }
 }

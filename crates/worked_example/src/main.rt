@@ -2,10 +2,11 @@
 // the host's release, and says a refusal by its number. The bytes are those of samples/, whose README.md says what each column is.
 #![tactic(auto)]
 
-use printing::Line;
-use refusal::Outcome;
+use refusal::Refusal;
+use std::io;
 use std::io::Stdout;
-use types::{Columns, Db2Value, RowAnswer, ValuePlace};
+use std::str::from_utf8;
+use types::{Columns, Db2Value, ValuePlace};
 
 // What a host sends once: here three triplets, the last of them with ten columns of three bytes each.
 const DESCRIPTION: [u8; 44] = *b"\x03\x78\x33\
@@ -31,80 +32,88 @@ const ROW: [u8; 67] = *b"\xFF\x00\
 // their bytes, 3 takes them for code page 037. The texts here are of CCSID 37 and 1208, so that 3 would print the same.
 const RELEASE: u32 = 2;
 
-// The bytes of a text lie in the text buffer; value_bytes shows them. A number's bits are the second of its words.
-fn print_value<'a>(out: Stdout, name: &[u8], v: ValuePlace, row: &'a [u8], text: &'a [u8]) {
-    let value = v.value;
-    let words = words::value_words(v);
-    let line = Line::new(out).text(name);
-    let shown = match value {
-        Db2Value::Null => line.text(b"null"),
-        Db2Value::SmallInt(_) => line.signed(words.number),
-        Db2Value::Integer(_) => line.signed(words.number),
-        _ => line.text(row::value_bytes(value, row, text)),
-    };
-    shown.end().flush();
+// Why an order could not be printed.
+#[derive(Drop)]
+enum Failure {
+    Refused(Refusal),
+    Unwritten(io::Error),
 }
 
-// A name may be another than the host's where part of its bytes was malformed: let someone look at it.
-fn print_replaced(out: Stdout, replaced: usize) {
-    if replaced == 0 {
-        return;
+impl From<Refusal> for Failure {
+    fn from(refusal: Refusal) -> Self {
+        Failure::Refused(refusal)
     }
-    Line::new(out)
-        .text(b"beware: ")
-        .decimal(replaced as u64)
-        .text(b" malformed in its texts, shown as U+FFFD")
-        .end()
-        .flush();
 }
 
-fn print_order<'a>(out: Stdout, answer: &RowAnswer, row: &'a [u8], text: &'a [u8]) {
-    print_replaced(out, answer.replaced);
-    print_value(out, b"order    ", answer.places[0], row, text);
-    print_value(out, b"pattern  ", answer.places[1], row, text);
-    print_value(out, b"width    ", answer.places[3], row, text);
-    print_value(out, b"picks    ", answer.places[5], row, text);
-    print_value(out, b"note     ", answer.places[8], row, text);
+impl From<io::Error> for Failure {
+    fn from(e: io::Error) -> Self {
+        Failure::Unwritten(e)
+    }
 }
 
-fn print_refusal(out: Stdout, outcome: Outcome) {
-    Line::new(out)
-        .text(b"refusal ")
-        .decimal(outcome.number() as u64)
-        .text(b", ")
-        .decimal(outcome.first_value() as u64)
-        .text(b", ")
-        .decimal(outcome.second_value() as u64)
-        .end()
-        .flush();
+// A number is in the value itself; the bytes of a text lie in the text buffer, and value_bytes shows them. They are UTF-8.
+fn print_value(
+    out: Stdout,
+    name: &str,
+    place: ValuePlace,
+    row: &[u8],
+    text: &[u8],
+) -> io::Result<()> {
+    match place.value {
+        Db2Value::Null => println!(out; "{name:<9}null"),
+        Db2Value::SmallInt(n) => println!(out; "{name:<9}{n}"),
+        Db2Value::Integer(n) => println!(out; "{name:<9}{n}"),
+        value => {
+            let shown = from_utf8(row::value_bytes(value, row, text)).unwrap_or_default();
+            println!(out; "{name:<9}{shown}")
+        }
+    }
 }
 
-// Where the texts need more than 256 bytes, refusal 9 says how many.
-fn print_row(out: Stdout, columns: &Columns, row: &[u8]) {
+// Where the texts need more than 256 bytes, the refusal says how many.
+fn print_order(out: Stdout, columns: &Columns, row: &[u8]) -> Result<(), Failure> {
     let mut text = [0u8; 256];
-    let answer = row::decode_row(row, *columns, RELEASE, &mut text);
-    let outcome = answer.outcome;
-    match outcome {
-        Outcome::Accepted => print_order(out, &answer, row, &text),
-        Outcome::Refused(_) => print_refusal(out, outcome),
+    let order = row::decode_row(row, *columns, RELEASE, &mut text)?;
+    // A name may be another than the host's where part of its bytes was malformed: let someone look at it.
+    if order.replaced != 0 {
+        let replaced = order.replaced;
+        println!(out; "beware: {replaced} malformed in its texts, shown as U+FFFD")?;
     }
+    print_value(out, "order", order.places[0], row, &text)?;
+    print_value(out, "pattern", order.places[1], row, &text)?;
+    print_value(out, "width", order.places[3], row, &text)?;
+    print_value(out, "picks", order.places[5], row, &text)?;
+    print_value(out, "note", order.places[8], row, &text)?;
+    Ok(())
 }
 
-fn main(rt: HostRuntime) {
-    let out = rt.stdout();
+fn print_orders(out: Stdout) -> Result<(), Failure> {
     // The entry for what comes from a host: a description that was cut short is refused, and does not pass for one of fewer columns.
-    let description = qrydsc::parse_whole_qrydsc(&DESCRIPTION);
-    let outcome = description.outcome;
-    let columns = &description.columns;
-    if outcome.number() != 0 {
-        print_refusal(out, outcome);
-        return;
-    }
-    print_row(out, columns, &ROW);
+    let description = qrydsc::parse_whole_qrydsc(&DESCRIPTION)?;
+    print_order(out, &description.columns, &ROW)?;
     // A byte of the note was changed on its way: C3 begins a character, and none goes on behind it.
     let mut damaged = ROW;
     damaged[47] = 0xC3;
-    print_row(out, columns, &damaged);
+    print_order(out, &description.columns, &damaged)?;
     // Cut off within a text, the row is too short: refusal 8, with the bytes expected and those that are there.
-    print_row(out, columns, &ROW[0..57]);
+    print_order(out, &description.columns, &ROW[..57])
+}
+
+// The orders, or in their place the refusal.
+fn run(out: Stdout) -> io::Result<()> {
+    match print_orders(out) {
+        Ok(()) => Ok(()),
+        Err(Failure::Refused(refusal)) => {
+            let number = refusal.number();
+            let first = refusal.first_value();
+            let second = refusal.second_value();
+            println!(out; "refusal {number}, {first}, {second}")
+        }
+        Err(Failure::Unwritten(e)) => Err(e),
+    }
+}
+
+// Where standard output takes nothing, there is nobody to tell.
+fn main(rt: HostRuntime) {
+    let _ = run(rt.stdout());
 }

@@ -6,7 +6,8 @@ use mathlib.Core.Bool.{Bool, true, false}
 use mathlib.Core.List.{List, [], ◌∷◌}
 use mathlib.Core.Path.{◌≡◌, refl, sym, ap, ◌∙◌, subst}
 use native.Mathlib.Omega.{arith}
-use borrow.Author.Tests.{eq-eqb, ltb-true, ltb-false}
+use borrow.Author.Tests.{eq-eqb, lt-ltb, le-ltb, ltb-true, ltb-false}
+use Rattle.std.proofs.lemmas.List.Recursion.{and_at, and_from_places, and_fails_at}
 use lib.Dec.{T, ltb}
 use lib.ListN.{length, get_or}
 use Rattle.zdecimal.specs.ZDecimal.{z_digits, are_digits, base10}
@@ -69,16 +70,6 @@ by_place s = record { digit_count = digits_count s; digit = digit_at_lem s; tota
 no : {A : Type 0} → ◌≡◌ {A = Bool} false true → A
 no h = absurd (subst T (sym h) tt)
 
-list_holds : (ds : List ℕ) → are_digits ds ≡ true → (k : ℕ) → k < length ds → get_or ds k 0 ≤ 9
-unfolding are_digits
-list_holds [] h k q = let z : ⊥ = omega arith in absurd z
-list_holds (d ∷ ds) h k q = go (λ r. list_holds ds r) (ltb d 10) refl k q
-  where
-    go : (are_digits ds ≡ true → (k : ℕ) → k < length ds → get_or ds k 0 ≤ 9) → (t : Bool) → ltb d 10 ≡ t → (k : ℕ) → k < length (d ∷ ds) → get_or (d ∷ ds) k 0 ≤ 9
-    go r true p zero q = omega (arith, ltb-true d 10 p)
-    go r true p (suc k) q = r (rw p at h) k (omega arith)
-    go r false p k q = no (rw p at h)
-
 list_fails : (ds : List ℕ) → are_digits ds ≡ false → (k : ℕ) × ((k < length ds) × (9 < get_or ds k 0))
 unfolding are_digits
 list_fails [] h = no (sym h)
@@ -90,7 +81,10 @@ list_fails (d ∷ ds) h = go (λ r. list_fails ds r) (ltb d 10) refl
 
 module _ (s : List ℕ) where
   pub digits_hold : are_digits (z_digits s) ≡ true → (k : ℕ) → k < 2 * length s - 1 → digit_at s k ≤ 9
-  digits_hold h k q = omega (arith, digit_at_lem s k q, list_holds (z_digits s) h k (omega (arith, digits_count s)))
+  unfolding are_digits
+  digits_hold h k q =
+      let d : ltb (get_or (z_digits s) k 0) 10 ≡ true = and_at are_digits (λ (d : ℕ). ltb d 10) refl (λ _ _. refl) (z_digits s) k 0 (omega (arith, digits_count s)) h in
+      omega (arith, digit_at_lem s k q, ltb-true _ 10 d)
 
   pub digits_fail : are_digits (z_digits s) ≡ false → (k : ℕ) × ((k < 2 * length s - 1) × (9 < digit_at s k))
   digits_fail h =
@@ -99,18 +93,17 @@ module _ (s : List ℕ) where
       (w.0, (q, omega (arith, digit_at_lem s w.0 q, w.1.1)))
 
   pub hold : ((k : ℕ) → k < 2 * length s - 1 → digit_at s k ≤ 9) → are_digits (z_digits s) ≡ true
-  hold h = go (are_digits (z_digits s)) refl
-    where
-      go : (t : Bool) → are_digits (z_digits s) ≡ t → t ≡ true
-      go true p = refl
-      go false p = let w = digits_fail p in let z : ⊥ = omega (arith, h w.0 w.1.0, w.1.1) in absurd z
+  unfolding are_digits
+  hold h =
+      and_from_places are_digits (λ (d : ℕ). ltb d 10) refl (λ _ _. refl) (z_digits s) 0 (λ k q.
+      let i : k < 2 * length s - 1 = omega (arith, digits_count s) in
+      lt-ltb _ 10 (omega (arith, digit_at_lem s k i, h k i)))
 
   pub fail : (k : ℕ) → k < 2 * length s - 1 → 9 < digit_at s k → are_digits (z_digits s) ≡ false
-  fail k q h = go (are_digits (z_digits s)) refl
-    where
-      go : (t : Bool) → are_digits (z_digits s) ≡ t → t ≡ false
-      go true p = let z : ⊥ = omega (arith, digits_hold p k q) in absurd z
-      go false p = refl
+  unfolding are_digits
+  fail k q h =
+      let i : k < length (z_digits s) = omega (arith, digits_count s) in
+      and_fails_at are_digits (λ (d : ℕ). ltb d 10) refl (λ _ _. refl) (z_digits s) k 0 i (le-ltb _ 10 (omega (arith, digit_at_lem s k q)))
 
 -- the last byte's digit
 pub last_digit : (s : List ℕ) (k : ℕ) → are_digits (z_digits s) ≡ true → k + 1 ≡ length s → get_or s k 0 / 16 < 10

@@ -1,13 +1,15 @@
 -- The digits of bytes, from a byte on: what the loops over bytes go by. Assumes nothing.
-use Prim.Native.Nat.{ℕ, suc, ◌+◌, ◌*◌, ◌/◌, ◌%◌, ◌^◌, ◌<◌, ◌≤◌}
-use mathlib.Core.Bool.{Bool, true, false, ◌&&◌}
+use Prim.Native.Nat.{ℕ, suc, ◌+◌, ◌-◌, ◌*◌, ◌/◌, ◌%◌, ◌^◌, ◌<◌, ◌≤◌}
+use mathlib.Core.Bool.{Bool, ◌&&◌}
 use mathlib.Core.List.{List, [], ◌∷◌}
-use mathlib.Core.Path.{◌≡◌, refl, sym, ap, ◌∙◌}
+use mathlib.Core.Path.{◌≡◌, sym, ap, ◌∙◌}
 use native.Mathlib.Omega.{arith}
 use native.Mathlib.Numerals.{add-one}
 use borrow.Author.Tests.{lt-ltb, le-ltb}
 use lib.Dec.{ltb}
-use lib.ListN.{length, drop, get_or, drop_of_length-le}
+use Rattle.std.proofs.Math.Bool.{and-true, and_assoc}
+use Rattle.std.specs.List.{list_all}
+use lib.ListN.{length, take, drop, get_or, drop_of_length-le}
 use lib.Seq.{drop-cons}
 use Rattle.zdecimal.specs.ZDecimal.{z_digits, are_digits, base10}
 use Rattle.zdecimal.specs.Inner.{capped}
@@ -32,31 +34,19 @@ module _ (s : List ℕ) (k : ℕ) where
 
 -- ---- whether they are digits
 
--- all are digits exactly where those of the bytes from k on are
-abbrev pub Left : List ℕ → ℕ → Type 0
-Left s k = are_digits (z_digits s) ≡ are_digits (z_digits (drop k s))
+-- both digits of a byte that is not the last
+abbrev pub both_digits : ℕ → Bool
+both_digits b = ltb (b / 16) 10 && ltb (b % 16) 10
 
-module _ (s : List ℕ) (k : ℕ) (e : Left s k) where
-  module _ (h : k + 1 < length s) where
-    pub high_fails : 9 < get_or s k 0 / 16 → false ≡ are_digits (z_digits s)
-    unfolding are_digits
-    high_fails a = sym (e ∙ rw (digits_next s k h, le-ltb (get_or s k 0 / 16) 10 (omega arith)))
-
-    pub low_fails : get_or s k 0 / 16 ≤ 9 → 9 < get_or s k 0 % 16 → false ≡ are_digits (z_digits s)
-    unfolding are_digits
-    low_fails a b = sym (e ∙ rw (digits_next s k h, lt-ltb (get_or s k 0 / 16) 10 (omega arith), le-ltb (get_or s k 0 % 16) 10 (omega arith)))
-
-    pub both_pass : get_or s k 0 / 16 ≤ 9 → get_or s k 0 % 16 ≤ 9 → Left s (k + 1)
-    unfolding are_digits
-    both_pass a b = e ∙ rw (digits_next s k h, lt-ltb (get_or s k 0 / 16) 10 (omega arith), lt-ltb (get_or s k 0 % 16) 10 (omega arith))
-
-  pub last_decides : k + 1 ≡ length s → ltb (get_or s k 0 / 16) 10 ≡ are_digits (z_digits s)
-  unfolding are_digits
-  last_decides h = sym (e ∙ rw (digits_last s k h) (and_true (ltb (get_or s k 0 / 16) 10)))
-    where
-      and_true : (t : Bool) → (t && true) ≡ t
-      and_true true = refl
-      and_true false = refl
+-- those of the bytes before the last, and the last byte's
+pub all_digits : (s : List ℕ) → 0 < length s
+    → (list_all both_digits (take (length s - 1) s) && ltb (get_or s (length s - 1) 0 / 16) 10) ≡ are_digits (z_digits s)
+unfolding z_digits are_digits
+all_digits [] h = let z : ⊥ = omega arith in absurd z
+all_digits (b ∷ []) h = sym (and-true (ltb (b / 16) 10))
+all_digits (b ∷ c ∷ s) h =
+    let e : suc (suc (length s)) - 1 ≡ suc (suc (length s) - 1) = omega arith in
+    rw (e, ← all_digits (c ∷ s) (omega arith)) (simp and_assoc)
 
 -- ---- the number that they make
 

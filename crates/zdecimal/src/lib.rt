@@ -13,30 +13,13 @@ const TEN_18: u64 = 1_000_000_000_000_000_000;
 
 const TEN_17: u64 = 100_000_000_000_000_000;
 
-fn wide(x: u8) -> u64
-    ensures { result ≡ x }
-{
-    x as u64
-}
-
 // Whether every digit is 0 to 9.
 pub fn digits_valid(data: &[u8]) -> bool
     requires { 0 < length «data».now }
     ensures { result ≡ are_digits (z_digits «data».now) }
 {
     let last = data.len() - 1;
-    let mut k = 0;
-    while k < last {
-        let b = data[k];
-        if 9 < b / 16 {
-            return false;
-        }
-        if 9 < b % 16 {
-            return false;
-        }
-        k += 1;
-    }
-    data[last] / 16 < 10
+    data[..last].iter().all(|b| *b / 16 < 10 && *b % 16 < 10) && data[last] / 16 < 10
 }
 
 // What says the sign.
@@ -55,18 +38,14 @@ pub fn magnitude(data: &[u8]) -> u64
 {
     let last = data.len() - 1;
     let mut n: u64 = 0;
-    let mut k = 0;
-    while k < last {
+    for b in &data[..last] {
         if TEN_17 <= n {
             return TEN_19;
         }
-        let b = data[k];
-        n = 100 * n + wide(10 * (b / 16) + b % 16);
-        k += 1;
+        n = 100 * n + u64::from(10 * (*b / 16) + *b % 16);
     }
     if TEN_18 <= n {
         return TEN_19;
     }
-    let b = data[last];
-    10 * n + wide(b / 16)
+    10 * n + u64::from(data[last] / 16)
 }

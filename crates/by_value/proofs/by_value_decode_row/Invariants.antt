@@ -1,12 +1,8 @@
-use Prim.Native.Nat.{◌-◌}
 use mathlib.Core.Path.{◌≡◌}
 use Rattle.rules.specs.Conversions.{row_answer}
 use Rattle.by_value.specs.ByValue.{number_at}
 use Rattle.by_value.proofs.by_value_decode_row.Given as goal
 
-abbrev pub invariant-loop-i : goal.invariant-loop-i
-invariant-loop-i l =
+abbrev pub invariant-loop : goal.invariant-loop
+invariant-loop l =
     (l.number ≡ number_at (row_answer l.release l.columns l.row l.text) l.place) × (l.text ≡ l.initial.text)
-
-abbrev pub decreases-loop-i : goal.decreases-loop-i
-decreases-loop-i l = l.rounds - l.i

@@ -15,8 +15,8 @@ use Rattle.cell.proofs.item_of.Goals as goal
 pub decimal_item-requires : goal.decimal_item-requires
 decimal_item-requires c = packed_there c.in-Decimal.precision c.args.bytes.now c.in-Decimal.known_told-1-own.given.0.1 (need_by c.args.column c.args.bytes.now c.in-Decimal.is c.requires.there)
 
-pub var_char_item-requires : goal.var_char_item-requires
-var_char_item-requires c = counted_there 1 c.args.bytes.now (rw (lt-leb 0x8000 _ c.if-n-ge32768.false) at (need_by c.args.column c.args.bytes.now c.in-VarChar.is c.requires.there))
+pub characters-requires-else-n-ge32768 : goal.characters-requires-else-n-ge32768
+characters-requires-else-n-ge32768 c = counted_there 1 c.args.bytes.now (rw (lt-leb 0x8000 _ c.if-n-ge32768.false) at (need_by c.args.column c.args.bytes.now c.in-VarChar.is c.requires.there))
 
 pub text_from-requires : goal.text_from-requires
 text_from-requires c = counted_there 1 _ (need_by c.args.column c.args.bytes.now c.in-LongVarChar.is c.requires.there)
@@ -43,14 +43,14 @@ pub returns-in-Decimal : goal.returns-in-Decimal
 returns-in-Decimal c = λ release. holds_by release c.args.column c.args.bytes.now c.in-Decimal.is c.decimal_item.result (c.decimal_item.ensures c.in-Decimal.precision release c.args.column c.args.bytes.now refl)
 
 pub returns-in-Char : goal.returns-in-Char
-returns-in-Char c = λ release. holds_by release c.args.column c.args.bytes.now c.in-Char.is c.char_item.result (c.char_item.ensures c.in-Char.field-0 release c.args.column c.args.bytes.now refl refl)
+returns-in-Char c = λ release. holds_by release c.args.column c.args.bytes.now c.in-Char.is c.characters.result (c.characters.ensures.char c.in-Char.field-0 refl refl release c.args.column c.args.bytes.now refl refl)
 
 pub returns-then-n-ge32768 : goal.returns-then-n-ge32768
 unfolding varying_item
 returns-then-n-ge32768 c = λ release. holds_by release c.args.column c.args.bytes.now c.in-VarChar.is c.header_item.result (rw (le-leb 0x8000 _ c.if-n-ge32768.true) (c.header_item.ensures release))
 
 pub returns-else-n-ge32768 : goal.returns-else-n-ge32768
-returns-else-n-ge32768 c = λ release. holds_by release c.args.column c.args.bytes.now c.in-VarChar.is c.var_char_item.result (c.var_char_item.ensures c.in-VarChar.n (lt-leb 0x8000 _ c.if-n-ge32768.false) release c.args.column c.args.bytes.now refl refl)
+returns-else-n-ge32768 c = λ release. holds_by release c.args.column c.args.bytes.now c.in-VarChar.is c.characters-else-n-ge32768.result (c.characters-else-n-ge32768.ensures.var_char c.in-VarChar.n (lt-leb 0x8000 _ c.if-n-ge32768.false) refl refl release c.args.column c.args.bytes.now refl refl)
 
 pub returns-in-LongVarChar : goal.returns-in-LongVarChar
 returns-in-LongVarChar c = λ release. holds_by release c.args.column c.args.bytes.now c.in-LongVarChar.is c.text_from.result (c.text_from.ensures release)
@@ -71,13 +71,13 @@ pub returns-in-BlobLocator : goal.returns-in-BlobLocator
 returns-in-BlobLocator c = λ release. holds_by release c.args.column c.args.bytes.now c.in-BlobLocator.is c.lob_reference.result (c.lob_reference.ensures release)
 
 pub returns-in-Date : goal.returns-in-Date
-returns-in-Date c = λ release. holds_by release c.args.column c.args.bytes.now c.in-Date.is c.date_item.result (c.date_item.ensures release c.args.column c.args.bytes.now refl refl)
+returns-in-Date c = λ release. holds_by release c.args.column c.args.bytes.now c.in-Date.is c.characters-in-Date.result (c.characters-in-Date.ensures.date refl refl release c.args.column c.args.bytes.now refl refl)
 
 pub returns-in-Time : goal.returns-in-Time
-returns-in-Time c = λ release. holds_by release c.args.column c.args.bytes.now c.in-Time.is c.time_item.result (c.time_item.ensures release c.args.column c.args.bytes.now refl refl)
+returns-in-Time c = λ release. holds_by release c.args.column c.args.bytes.now c.in-Time.is c.characters-in-Time.result (c.characters-in-Time.ensures.time refl refl release c.args.column c.args.bytes.now refl refl)
 
 pub returns-in-Timestamp : goal.returns-in-Timestamp
-returns-in-Timestamp c = λ release. holds_by release c.args.column c.args.bytes.now c.in-Timestamp.is c.timestamp_item.result (c.timestamp_item.ensures release c.args.column c.args.bytes.now refl refl)
+returns-in-Timestamp c = λ release. holds_by release c.args.column c.args.bytes.now c.in-Timestamp.is c.characters-in-Timestamp.result (c.characters-in-Timestamp.ensures.timestamp refl refl release c.args.column c.args.bytes.now refl refl)
 
 pub returns-in-Graphic : goal.returns-in-Graphic
 returns-in-Graphic c = λ release. holds_by release c.args.column c.args.bytes.now c.in-Graphic.is c.text_from-in-Graphic.result (c.text_from-in-Graphic.ensures release)

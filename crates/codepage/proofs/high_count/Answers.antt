@@ -5,10 +5,10 @@ use Rattle.codepage.specs.Blocks.{highs}
 use Rattle.codepage.proofs.Blocks.{highs_next}
 use Rattle.codepage.proofs.high_count.Goals as goal
 
-pub loop-i-preserved : goal.loop-i-preserved
-loop-i-preserved c =
-    omega (arith, c.shared_slice_known-1.given c.loop-i.i, highs_next c.args.s.now c.loop-i.i c.loop-i-test.true, c.loop-i.invariant)
+pub loop-b-preserved : goal.loop-b-preserved
+loop-b-preserved c =
+    omega (arith, c.type_inv.s c.loop-b.b-index, highs_next c.args.s.now c.loop-b.b-index c.loop-b-test.true, c.loop-b.invariant)
 
 pub returns : goal.returns
 unfolding highs
-returns c = omega (arith, ap highs (drop_of_length-le c.args.s.now c.loop-i-test.false), c.loop-i.invariant)
+returns c = omega (arith, ap highs (drop_of_length-le c.args.s.now c.loop-b-test.false), c.loop-b.invariant)

@@ -15,8 +15,8 @@ returns-then-k-eq0 c =
     let plain : byte_text code_point819 c.args.s.now ≡ c.args.s.now = plain_text _ (sym c.high_count-k.ensures ∙ c.if-k-eq0.true) in
     rw plain c.copy.ensures
 
-pub latin1_dense-requires : goal.latin1_dense-requires
-latin1_dense-requires c =
+pub dense_write-requires : goal.dense_write-requires
+dense_write-requires c =
     let s = c.args.s.now in (
       omega (arith, c.if-s-k.true, c.high_count-k.ensures, highs_most s (λ j. omega (arith, c.shared_slice_known-1.given j))),
       c.requires.1,

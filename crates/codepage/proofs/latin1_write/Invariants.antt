@@ -1,11 +1,9 @@
-use Prim.Native.Nat.{◌-◌, ◌≤◌}
-use lib.ListN.{length, drop}
+use mathlib.Core.Path.{◌≡◌}
+use Rattle.std.specs.Slice.Iter.{chunks_rest, chunks_size}
+use Rattle.codepage.specs.Blocks.{block_size}
 use Rattle.codepage.specs.CodePage.{byte_text, code_point819}
 use Rattle.buffer.proofs.Writing.{Writing}
 use Rattle.codepage.proofs.latin1_write.Given as goal
 
-abbrev pub invariant-loop-i : goal.invariant-loop-i
-invariant-loop-i l = (l.i ≤ length l.s) × Writing (byte_text code_point819 l.s) l.initial.out (byte_text code_point819 (drop l.i l.s)) l.out l.o
-
-abbrev pub decreases-loop-i : goal.decreases-loop-i
-decreases-loop-i l = length l.s - l.i
+abbrev pub invariant-loop-block : goal.invariant-loop-block
+invariant-loop-block l = (chunks_size l.block-iterator ≡ block_size) × Writing (byte_text code_point819 l.s) l.initial.out (byte_text code_point819 (chunks_rest l.block-iterator)) l.out l.o

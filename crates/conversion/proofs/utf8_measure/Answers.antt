@@ -6,13 +6,15 @@ use lib.ListN.{length}
 use Rattle.unicode_standard.specs.Unicode.{utf8_text}
 use Rattle.utf.proofs.AsciiLaws.{rest}
 use Rattle.utf.proofs.Bound.{utf8_bound}
-use Rattle.utf.proofs.Utf8Runs.{good_length}
+use Rattle.utf.proofs.Utf8Runs.{good_length, stop_whole}
 use Rattle.conversion.specs.Picked.{text_in}
 use Rattle.conversion.proofs.PlainText.{utf8_plain, as_it_is}
 use Rattle.conversion.proofs.utf8_measure.Goals as goal
 
-pub returns-then-r-eq0 : goal.returns-then-r-eq0
-returns-then-r-eq0 c = utf8_plain _ _ _ c.run_of-r.ensures.good c.run_of-r.ensures.stop c.if-r-eq0.true
+pub returns-then-is_none : goal.returns-then-is_none
+returns-then-is_none c =
+    let run = c.run_of-r.result in
+    utf8_plain _ _ c.run_of-r.ensures.good (stop_whole run.end run.bad c.args.s.now c.run_of-r.ensures.stop c.is_none.result c.is_none.ensures c.if-is_none.true)
 
 pub overflow_add-n : goal.overflow_add-n
 overflow_add-n c =

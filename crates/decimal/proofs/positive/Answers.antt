@@ -6,8 +6,7 @@ use Rattle.decimal.proofs.Whole.{above, within}
 use Rattle.decimal.proofs.positive.Goals as goal
 
 pub returns-then-n-ge-TWO_63 : goal.returns-then-n-ge-TWO_63
-returns-then-n-ge-TWO_63 c = c.refused.ensures ∙ sym (above _ _ c.if-n-ge-TWO_63.true)
+returns-then-n-ge-TWO_63 c = sym (above _ _ c.if-n-ge-TWO_63.true)
 
 pub returns : goal.returns
-returns c =
-    c.accepted.ensures ∙ ap (accepted_whole c.args.scale) (to_z_pos w64 c.args.n c.if-n-ge-TWO_63.false) ∙ sym (within _ _ c.if-n-ge-TWO_63.false)
+returns c = ap (accepted_whole c.args.scale) (to_z_pos w64 c.args.n c.if-n-ge-TWO_63.false) ∙ sym (within _ _ c.if-n-ge-TWO_63.false)

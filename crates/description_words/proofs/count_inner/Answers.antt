@@ -1,34 +1,51 @@
 use native.Mathlib.Omega.{arith}
+use Prim.Native.Nat.{◌+◌}
+use lib.ListN.{length}
+use Rattle.triplets.proofs.Slices.{part_slice}
 use Rattle.triplets.proofs.ReadingLaws.{next_none, next_some}
-use Rattle.description_words.proofs.Counting.{inner_end, inner_more}
+use Rattle.description_words.proofs.Counting.{inner_start, inner_end, inner_more}
 use Rattle.description_words.proofs.count_inner.Goals as goal
 
-pub returns-in_default : goal.returns-in_default
-returns-in_default c =
-    let a = c.args in
-    let l = c.loop-kind in
-    inner_end l.invariant (next_none 3 a.«data».now l.at a.end c.next_triplet.ensures c.in_default.is)
+pub loop-kind-init : goal.loop-kind-init
+loop-kind-init c = inner_start c.args.body.now
 
-pub count_sda-columns-requires : goal.count_sda-columns-requires
-count_sda-columns-requires c =
-    let a = c.args in
-    let p = c.requires in
+pub slice_bounds-count_sda-count : goal.slice_bounds-count_sda-count
+slice_bounds-count_sda-count c =
+    let s = c.args.body.now in
     let l = c.loop-kind in
-    let f = next_some 3 a.«data».now l.at a.end c.next_triplet.ensures _ _ l.invariant.high p.1 c.in-Triplet.is in
-    f.low
+    let f = next_some 3 s l.at (length s) c.next_triplet.ensures l.invariant.high (omega arith) c.in-Some.is in
+    omega (arith, f.low, f.high)
+
+pub slice_bounds-count_sda-start : goal.slice_bounds-count_sda-start
+slice_bounds-count_sda-start c =
+    let s = c.args.body.now in
+    let l = c.loop-kind in
+    let f = next_some 3 s l.at (length s) c.next_triplet.ensures l.invariant.high (omega arith) c.in-Some.is in
+    omega (arith, f.low, f.high)
+
+pub slice_bounds-count_sda-end : goal.slice_bounds-count_sda-end
+slice_bounds-count_sda-end c =
+    let s = c.args.body.now in
+    let l = c.loop-kind in
+    let f = next_some 3 s l.at (length s) c.next_triplet.ensures l.invariant.high (omega arith) c.in-Some.is in
+    omega (arith, f.low, f.high)
 
 pub loop-kind-smaller : goal.loop-kind-smaller
 loop-kind-smaller c =
-    let a = c.args in
-    let p = c.requires in
+    let s = c.args.body.now in
     let l = c.loop-kind in
-    let f = next_some 3 a.«data».now l.at a.end c.next_triplet.ensures _ _ l.invariant.high p.1 c.in-Triplet.is in
+    let f = next_some 3 s l.at (length s) c.next_triplet.ensures l.invariant.high (omega arith) c.in-Some.is in
     omega (arith, f.low, f.high)
 
 pub loop-kind-preserved : goal.loop-kind-preserved
 loop-kind-preserved c =
-    let a = c.args in
-    let p = c.requires in
+    let s = c.args.body.now in
     let l = c.loop-kind in
-    let f = next_some 3 a.«data».now l.at a.end c.next_triplet.ensures _ _ l.invariant.high p.1 c.in-Triplet.is in
-    inner_more l.invariant _ _ _ f c.count_sda-columns.ensures.0 c.count_sda-columns.ensures.1
+    let f = next_some 3 s l.at (length s) c.next_triplet.ensures l.invariant.high (omega arith) c.in-Some.is in
+    inner_more l.invariant _ _ _ f _ (part_slice (l.at + 2) _ s f.low f.high) c.count_sda-count.ensures
+
+pub returns : goal.returns
+returns c =
+    let s = c.args.body.now in
+    let l = c.loop-kind in
+    inner_end l.invariant (next_none 3 s l.at (length s) c.next_triplet.ensures c.in_default.is)

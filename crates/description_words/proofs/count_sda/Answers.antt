@@ -1,17 +1,15 @@
 use native.Mathlib.Omega.{arith}
-use borrow.Author.Tests.{eq-eqb, ne_eqb, lt-ltb, le-ltb}
-use Rattle.description_words.specs.Counted.{sda_count}
+use mathlib.Core.Path.{sym, ◌∙◌}
+use borrow.Author.Tests.{eqb-true, eqb-false}
+use Rattle.description_words.proofs.Counting.{sda_one, sda_empty, sda_other}
 use Rattle.description_words.proofs.count_sda.Goals as goal
 
--- `description_words::count_sda` meets its contract: each way out rewrites with its tests. Assumes nothing.
-pub returns-then-start-end : goal.returns-then-start-end
-unfolding sda_count
-returns-then-start-end c = (rw (eq-eqb _ _ c.if-kind-eq-TRIPLET_TYPE_SDA.true, lt-ltb _ _ c.if-start-end.true), omega (arith, c.if-start-end.true))
+-- `description_words::count_sda` meets its contract: a law for each way out. Assumes nothing.
+pub returns-in-112 : goal.returns-in-112
+returns-in-112 c = sda_one c.args.body.now _ c.in-112.is (eqb-false _ _ (sym c.is_empty.ensures ∙ c.if-not-is_empty.true))
 
-pub returns-else-start-end : goal.returns-else-start-end
-unfolding sda_count
-returns-else-start-end c = (rw (eq-eqb _ _ c.if-kind-eq-TRIPLET_TYPE_SDA.true, le-ltb _ _ c.if-start-end.false), omega arith)
+pub returns-in_default : goal.returns-in_default
+returns-in_default c = sda_empty c.args.body.now _ (eqb-true _ _ (sym c.is_empty.ensures ∙ c.if-not-is_empty.false))
 
-pub returns-else-kind-eq-TRIPLET_TYPE_SDA : goal.returns-else-kind-eq-TRIPLET_TYPE_SDA
-unfolding sda_count
-returns-else-kind-eq-TRIPLET_TYPE_SDA c = (rw (ne_eqb _ _ c.if-kind-eq-TRIPLET_TYPE_SDA.false), omega arith)
+pub returns-in_default-2 : goal.returns-in_default-2
+returns-in_default-2 c = sda_other c.args.body.now _ (λ h. omega arith)

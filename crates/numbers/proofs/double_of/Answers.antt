@@ -1,22 +1,15 @@
 use lib.Ieee.{binary64}
 use Rattle.numbers.specs.Number.{double_of}
-use Rattle.numbers.proofs.Laws.{is_nan, no_nan_digits, no_nan_field}
+use Rattle.numbers.proofs.Laws.{a_nan, no_nan}
 use Rattle.numbers.proofs.double_of.Goals as goal
 
-pub returns-then-n-ne0 : goal.returns-then-n-ne0
-unfolding double_of
-returns-then-n-ne0 c = rw (is_nan binary64 _ c.if-n-eq2047.true c.if-n-ne0.true)
-
 pub float_from_bits-result : goal.float_from_bits-result
-float_from_bits-result c = rw (no_nan_digits binary64 _ c.if-n-ne0.false) tt
+float_from_bits-result c = rw (no_nan binary64 _ c.if-n-gt9218868437227405312.false) tt
 
-pub returns-then-n-eq2047 : goal.returns-then-n-eq2047
+pub returns-then-n-gt9218868437227405312 : goal.returns-then-n-gt9218868437227405312
 unfolding double_of
-returns-then-n-eq2047 c = rw (no_nan_digits binary64 _ c.if-n-ne0.false)
+returns-then-n-gt9218868437227405312 c = rw (a_nan binary64 _ c.if-n-gt9218868437227405312.true)
 
-pub float_from_bits-result-2 : goal.float_from_bits-result-2
-float_from_bits-result-2 c = rw (no_nan_field binary64 _ c.if-n-eq2047.false) tt
-
-pub returns : goal.returns
+pub returns-else-n-gt9218868437227405312 : goal.returns-else-n-gt9218868437227405312
 unfolding double_of
-returns c = rw (no_nan_field binary64 _ c.if-n-eq2047.false)
+returns-else-n-gt9218868437227405312 c = rw (no_nan binary64 _ c.if-n-gt9218868437227405312.false)

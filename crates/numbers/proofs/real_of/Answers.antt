@@ -1,22 +1,15 @@
 use lib.Ieee.{binary32}
 use Rattle.numbers.specs.Number.{real_of}
-use Rattle.numbers.proofs.Laws.{is_nan, no_nan_digits, no_nan_field}
+use Rattle.numbers.proofs.Laws.{a_nan, no_nan}
 use Rattle.numbers.proofs.real_of.Goals as goal
 
-pub returns-then-n-ne0 : goal.returns-then-n-ne0
-unfolding real_of
-returns-then-n-ne0 c = rw (is_nan binary32 _ c.if-n-eq255.true c.if-n-ne0.true)
-
 pub float_from_bits-result : goal.float_from_bits-result
-float_from_bits-result c = rw (no_nan_digits binary32 _ c.if-n-ne0.false) tt
+float_from_bits-result c = rw (no_nan binary32 _ c.if-n-gt2139095040.false) tt
 
-pub returns-then-n-eq255 : goal.returns-then-n-eq255
+pub returns-then-n-gt2139095040 : goal.returns-then-n-gt2139095040
 unfolding real_of
-returns-then-n-eq255 c = rw (no_nan_digits binary32 _ c.if-n-ne0.false)
+returns-then-n-gt2139095040 c = rw (a_nan binary32 _ c.if-n-gt2139095040.true)
 
-pub float_from_bits-result-2 : goal.float_from_bits-result-2
-float_from_bits-result-2 c = rw (no_nan_field binary32 _ c.if-n-eq255.false) tt
-
-pub returns : goal.returns
+pub returns-else-n-gt2139095040 : goal.returns-else-n-gt2139095040
 unfolding real_of
-returns c = rw (no_nan_field binary32 _ c.if-n-eq255.false)
+returns-else-n-gt2139095040 c = rw (no_nan binary32 _ c.if-n-gt2139095040.false)

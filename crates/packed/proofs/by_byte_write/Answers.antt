@@ -1,40 +1,31 @@
-use Prim.Native.Nat.{ℕ, ◌+◌, ◌*◌, ◌/◌, ◌%◌}
-use mathlib.Core.List.{List, ◌∷◌}
-use mathlib.Core.Path.{◌≡◌, refl, ap}
+use Prim.Native.Nat.{ℕ, ◌+◌, ◌-◌, ◌*◌, ◌<◌}
+use mathlib.Core.List.{List}
+use mathlib.Core.Path.{◌≡◌, refl, ◌∙◌}
 use native.Mathlib.Omega.{arith}
-use lib.ListN.{length, get_or, length-set}
-use lib.Seq.{slice}
-use Rattle.buffer.proofs.Writing.{stored, fits, all, end}
-use Rattle.packed.specs.Packed.{character, digit_text}
-use Rattle.packed.proofs.Nibbles.{bytes_next, slice_done}
+use lib.ListN.{take, drop, get_or, length-take, length-set}
+use lib.Seq.{get_or-take, get_or-drop}
+use Rattle.buffer.proofs.Writing.{stored}
+use Rattle.packed.proofs.Nibbles.{run_length, bytes_next}
 use Rattle.packed.proofs.by_byte_write.Goals as goal
 
-pub bounds-out-o : goal.bounds-out-o
-bounds-out-o c =
-    let S : List ℕ = c.args.«data».now in
-    let k : ℕ = c.loop-k.k in
-    let j : ℕ = c.args.j in
-    let next : slice (2 * k) (2 * j) (digit_text S) ≡ character (get_or S k 0 / 16) ∷ character (get_or S k 0 % 16) ∷ slice (2 * (k + 1)) (2 * j) (digit_text S) = bytes_next S k j c.loop-k-test.true c.requires.1.0 in
-    omega (arith, fits c.loop-k.invariant.1, ap length (next))
-
-pub bounds-out-p : goal.bounds-out-p
-bounds-out-p c =
-    let S : List ℕ = c.args.«data».now in
-    let k : ℕ = c.loop-k.k in
-    let j : ℕ = c.args.j in
-    let next : slice (2 * k) (2 * j) (digit_text S) ≡ character (get_or S k 0 / 16) ∷ character (get_or S k 0 % 16) ∷ slice (2 * (k + 1)) (2 * j) (digit_text S) = bytes_next S k j c.loop-k-test.true c.requires.1.0 in
-    simp length-set (omega (arith, fits c.loop-k.invariant.1, ap length (next)))
-
-pub loop-k-preserved : goal.loop-k-preserved
-loop-k-preserved c =
-    let S : List ℕ = c.args.«data».now in
-    let k : ℕ = c.loop-k.k in
-    let j : ℕ = c.args.j in
-    let next : slice (2 * k) (2 * j) (digit_text S) ≡ character (get_or S k 0 / 16) ∷ character (get_or S k 0 % 16) ∷ slice (2 * (k + 1)) (2 * j) (digit_text S) = bytes_next S k j c.loop-k-test.true c.requires.1.0 in
-    (omega arith, stored (stored c.loop-k.invariant.1 _ _ (next)) _ _ refl)
-
-pub returns : goal.returns
-returns c =
-    let l = c.loop-k in
+pub bounds-out-n : goal.bounds-out-n
+bounds-out-n c =
     let a = c.args in
-    let done = slice_done (digit_text a.«data».now) (2 * l.k) (2 * a.j) (omega arith) (omega arith) in record { count = all l.invariant.1 done; bytes = end l.invariant.1 done }
+    omega (arith, length-take {A = ℕ}, run_length a.«data».now (2 * a.i) (2 * a.j) (omega arith), c.requires)
+
+pub bounds-out-n-in-loop-n : goal.bounds-out-n-in-loop-n
+bounds-out-n-in-loop-n c =
+    let a = c.args in
+    simp length-set (omega (arith, length-take {A = ℕ}, run_length a.«data».now (2 * a.i) (2 * a.j) (omega arith), c.requires))
+
+pub loop-n-preserved : goal.loop-n-preserved
+loop-n-preserved c =
+    let s : List ℕ = c.args.«data».now in
+    let i : ℕ = c.args.i in
+    let j : ℕ = c.args.j in
+    let n : ℕ = c.loop-n.n in
+    let within : n < j - i = omega (arith, length-take {A = ℕ}) in
+    let byte : get_or (take (j - i) (drop i s)) n 0 ≡ get_or s (i + n) 0 = get_or-take (j - i) (drop i s) n 0 within ∙ get_or-drop i s n 0 in
+    let place : 2 * (n + 1) ≡ 2 * n + 1 + 1 = omega arith in
+    let next : i + (n + 1) ≡ i + n + 1 = omega arith in
+    rw (byte, place, next) (stored (stored c.loop-n.invariant _ _ (bytes_next s (i + n) j (omega arith) c.requires.1.0)) _ _ refl)

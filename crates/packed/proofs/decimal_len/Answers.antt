@@ -10,13 +10,13 @@ pub returns : goal.returns
 returns c =
     let args = c.args in
     let s = args.«data».now in
-    let wide = c.wide-f in
-    let w = trimmed (take c.above-w.result (digit_text s)) in
-    let f = fraction wide.result (digit_text s) in
+    let f = c.from-f in
+    let w = trimmed (take c.saturating_sub-w.result (digit_text s)) in
+    let fr = fraction f.result (digit_text s) in
     omega (
       arith,
-      ap length (parts args.scale s c.above-w.result wide.result wide.ensures.0 c.above-w.ensures),
-      length-append (sign_text s) (w ++ f),
-      length-append w f,
+      ap length (parts args.scale s c.saturating_sub-w.result f.result f.ensures c.saturating_sub-w.ensures),
+      length-append (sign_text s) (w ++ fr),
+      length-append w fr,
       c.fraction_len.ensures.0 (digit_text s),
     )

@@ -4,5 +4,5 @@ use Rattle.packed.proofs.digit_at.Goals as goal
 pub returns-then-k-eq0 : goal.returns-then-k-eq0
 returns-then-k-eq0 c = even _ _ c.requires c.if-k-eq0.true
 
-pub returns : goal.returns
-returns c = odd _ _ c.requires c.if-k-eq0.false
+pub returns-else-k-eq0 : goal.returns-else-k-eq0
+returns-else-k-eq0 c = odd _ _ c.requires c.if-k-eq0.false

@@ -12,8 +12,8 @@ returns-then-is_null c = record { used = sym (null_takes c.args.column c.args.re
 pub value_length-v-requires : goal.value_length-v-requires
 value_length-v-requires c = rw (all_after c.lead-from.result c.args.rest.now, c.lead-from.ensures.0) (record { there = omega (arith, value_takes c.args.column c.args.rest.now (sym c.is_null.ensures ∙ c.if-is_null.false), length-drop (lead_of c.args.column) c.args.rest.now, c.requires.there); limit = omega (arith, length-drop (lead_of c.args.column) c.args.rest.now, c.requires.limit) })
 
-pub overflow_add-used : goal.overflow_add-used
-overflow_add-used c = let u = rw (all_after c.lead-from.result c.args.rest.now, c.lead-from.ensures.0) at c.value_length-v.ensures.used in record { fits = omega (arith, u, c.lead-from.ensures.0, value_takes c.args.column c.args.rest.now (sym c.is_null.ensures ∙ c.if-is_null.false), c.requires.there, c.requires.limit) }
+pub overflow_add-result : goal.overflow_add-result
+overflow_add-result c = let u = rw (all_after c.lead-from.result c.args.rest.now, c.lead-from.ensures.0) at c.value_length-v.ensures.used in record { fits = omega (arith, u, c.lead-from.ensures.0, value_takes c.args.column c.args.rest.now (sym c.is_null.ensures ∙ c.if-is_null.false), c.requires.there, c.requires.limit) }
 
 pub returns : goal.returns
 returns c = let w = rw (all_after c.lead-from.result c.args.rest.now, c.lead-from.ensures.0) at c.value_length-v.ensures in record { used = omega (arith, w.used, c.lead-from.ensures.0, value_takes c.args.column c.args.rest.now (sym c.is_null.ensures ∙ c.if-is_null.false)); len = w.len ∙ ap length (sym (value_reads c.args.column c.args.rest.now (sym c.is_null.ensures ∙ c.if-is_null.false) c.args.release)); plain = λ at h. subst (PlainCell c.args.release) (sym (value_stands c.args.column c.args.rest.now (sym c.is_null.ensures ∙ c.if-is_null.false) at)) (w.plain h) }

@@ -16,7 +16,7 @@ other_write-requires c =
 pub returns-in-Number : goal.returns-in-Number
 returns-in-Number c =
     let o = subst (λ (x : ColumnValue). ValueIs c.args.release x c.args.column c.args.rest.now) c.in-Number.is (c.decode_column_value.ensures c.args.release) in
-    let text = number_text c.args.release c.in-Number.value c.args.column c.args.rest.now o.0 in record { place = c.number_piece.ensures.0 ∙ number_place_lem c.args.release c.in-Number.value c.args.column c.args.rest.now o.0 c.args.at c.args.next; used = c.number_piece.ensures.1.0 ∙ o.1; count = c.number_piece.ensures.1.1.0 ∙ sym (ap length text); bytes = ap (λ (t : List ℕ). overwritten t c.args.out.now) (sym text); replaced = c.number_piece.ensures.1.1.1 ∙ sym (number_replaced c.args.release c.in-Number.value c.args.column c.args.rest.now o.0) }
+    let text = number_text c.args.release c.in-Number.value c.args.column c.args.rest.now o.0 in record { place = c.bare_piece.ensures.0 ∙ number_place_lem c.args.release c.in-Number.value c.args.column c.args.rest.now o.0 c.args.at c.args.next; used = c.bare_piece.ensures.1.0 ∙ o.1; count = c.bare_piece.ensures.1.1.0 ∙ sym (ap length text); bytes = ap (λ (t : List ℕ). overwritten t c.args.out.now) (sym text); replaced = c.bare_piece.ensures.1.1.1 ∙ sym (number_replaced c.args.release c.in-Number.value c.args.column c.args.rest.now o.0) }
 
 pub returns-in-Other : goal.returns-in-Other
 returns-in-Other c =

@@ -1,4 +1,3 @@
-use Prim.Native.Nat.{◌≤◌, ◌-◌}
 use Rattle.rules.specs.Walk.{walk_body}
 use Rattle.rules.specs.Row.{covered}
 use Rattle.rules.specs.Conversions.{conversions_of}
@@ -10,7 +9,4 @@ use Rattle.row.proofs.text_needed.Given as goal
 
 abbrev pub invariant-loop-i : goal.invariant-loop-i
 invariant-loop-i l =
-    (l.i ≤ l.columns.count) × (Measuring (conversions_of l.release) (covered l.columns) l.start l.«data» (pieces_of (walk_body (covered l.columns) l.start l.«data»)) (end_of (walk_body (covered l.columns) l.start l.«data»)) l.i l.at l.total × PlainMarks l.release l.marks (walk_body (covered l.columns) l.start l.«data»))
-
-abbrev pub decreases-loop-i : goal.decreases-loop-i
-decreases-loop-i l = l.count - l.i
+    Measuring (conversions_of l.release) (covered l.columns) l.start l.«data» (pieces_of (walk_body (covered l.columns) l.start l.«data»)) (end_of (walk_body (covered l.columns) l.start l.«data»)) l.i l.at l.total × PlainMarks l.release l.marks (walk_body (covered l.columns) l.start l.«data»)

@@ -1,5 +1,3 @@
-use Prim.Native.Nat.{◌-◌, ◌/◌, ◌≤◌}
-use lib.ListN.{length}
 use Rattle.rules.specs.Walk.{walk_body}
 use Rattle.rules.specs.Conversions.{conversions_of}
 use Rattle.rules.proofs.Walks.{pieces_of}
@@ -10,7 +8,4 @@ use Rattle.row_words.proofs.text_needed.Given as goal
 
 abbrev pub invariant-loop-i : goal.invariant-loop-i
 invariant-loop-i l =
-    (l.i ≤ length l.columns / 2) × (Measuring (conversions_of l.release) (columns_named l.columns) l.start l.«data» (pieces_of (walk_body (columns_named l.columns) l.start l.«data»)) l.end l.i l.at l.total × PlainMarks l.release l.marks (walk_body (columns_named l.columns) l.start l.«data»))
-
-abbrev pub decreases-loop-i : goal.decreases-loop-i
-decreases-loop-i l = length l.columns / 2 - l.i
+    Measuring (conversions_of l.release) (columns_named l.columns) l.start l.«data» (pieces_of (walk_body (columns_named l.columns) l.start l.«data»)) l.end l.i l.at l.total × PlainMarks l.release l.marks (walk_body (columns_named l.columns) l.start l.«data»)

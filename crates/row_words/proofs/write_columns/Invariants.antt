@@ -1,5 +1,3 @@
-use Prim.Native.Nat.{◌-◌, ◌/◌, ◌≤◌}
-use lib.ListN.{length}
 use Rattle.rules.specs.Walk.{walk_body}
 use Rattle.rules.proofs.Walks.{pieces_of}
 use Rattle.row_words.specs.Passes.{columns_named}
@@ -9,7 +7,4 @@ use Rattle.row_words.proofs.write_columns.Given as goal
 
 abbrev pub invariant-loop-i : goal.invariant-loop-i
 invariant-loop-i l =
-    (l.i ≤ length l.columns / 2) × Putting l.release (columns_named l.columns) l.start l.«data» (pieces_of (walk_body (columns_named l.columns) l.start l.«data»)) (end_of (walk_body (columns_named l.columns) l.start l.«data»)) l.initial.text l.initial.values l.i l.at l.next l.replaced l.text l.values
-
-abbrev pub decreases-loop-i : goal.decreases-loop-i
-decreases-loop-i l = length l.columns / 2 - l.i
+    Putting l.release (columns_named l.columns) l.start l.«data» (pieces_of (walk_body (columns_named l.columns) l.start l.«data»)) (end_of (walk_body (columns_named l.columns) l.start l.«data»)) l.initial.text l.initial.values l.i l.at l.next l.replaced l.text l.values

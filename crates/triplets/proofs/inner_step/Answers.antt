@@ -4,29 +4,29 @@ use Rattle.triplets.proofs.StepLaws.{inner_none, inner_column, inner_empty, inne
 use Rattle.triplets.proofs.inner_step.Goals as goal
 
 pub returns-in_default : goal.returns-in_default
-returns-in_default c = inner_none c.args.«data».now _ _ c.requires.0 c.requires.1 (next_none 3 c.args.«data».now c.args.at c.args.end c.next_triplet.ensures c.in_default.is)
-
-pub returns-then-start-after : goal.returns-then-start-after
-returns-then-start-after c =
+returns-in_default c =
     let a = c.args in
     let s = a.«data».now in
-    let p = c.requires in
-    let f = next_some 3 s a.at a.end c.next_triplet.ensures _ _ p.0 p.1 c.in-Triplet.is in
-    ((c.if-start-after.true, ends f), inner_column s a.at a.end _ _ f c.if-kind-eq-TRIPLET_TYPE_SDA.true c.if-start-after.true)
+    inner_none s a.at a.end c.requires.0 c.requires.1 (next_none 3 s a.at a.end c.next_triplet.ensures c.in_default.is)
 
-pub returns-else-start-after : goal.returns-else-start-after
-returns-else-start-after c =
+pub returns-in-112 : goal.returns-in-112
+returns-in-112 c =
     let a = c.args in
     let s = a.«data».now in
-    let p = c.requires in
-    let f = next_some 3 s a.at a.end c.next_triplet.ensures _ _ p.0 p.1 c.in-Triplet.is in
-    let l = f.low in
-    inner_empty s a.at a.end _ _ f (omega (arith, c.if-start-after.false))
+    let f = next_some 3 s a.at a.end c.next_triplet.ensures c.requires.0 c.requires.1 c.in-Some.is in
+    let h = c.if-start-after.true in
+    ((h, ends f), inner_column s a.at a.end _ _ f c.in-112.is h)
 
-pub returns-else-kind-eq-TRIPLET_TYPE_SDA : goal.returns-else-kind-eq-TRIPLET_TYPE_SDA
-returns-else-kind-eq-TRIPLET_TYPE_SDA c =
+pub returns-in_default-kind : goal.returns-in_default-kind
+returns-in_default-kind c =
     let a = c.args in
     let s = a.«data».now in
-    let p = c.requires in
-    let f = next_some 3 s a.at a.end c.next_triplet.ensures _ _ p.0 p.1 c.in-Triplet.is in
-    inner_other s a.at a.end _ _ f c.if-kind-eq-TRIPLET_TYPE_SDA.false
+    let f = next_some 3 s a.at a.end c.next_triplet.ensures c.requires.0 c.requires.1 c.in-Some.is in
+    inner_empty s a.at a.end _ _ f (omega (arith, f.low, c.if-start-after.false))
+
+pub returns-in_default-kind-2 : goal.returns-in_default-kind-2
+returns-in_default-kind-2 c =
+    let a = c.args in
+    let s = a.«data».now in
+    let f = next_some 3 s a.at a.end c.next_triplet.ensures c.requires.0 c.requires.1 c.in-Some.is in
+    inner_other s a.at a.end _ _ f (λ h. omega arith)

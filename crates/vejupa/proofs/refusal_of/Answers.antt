@@ -8,7 +8,7 @@ pub returns-then-columns-gt-MAX_COLUMNS : goal.returns-then-columns-gt-MAX_COLUM
 returns-then-columns-gt-MAX_COLUMNS c =
     let a = c.args in
     let p = c.requires in
-    counted_full a.whole a.«data».now p.0 a.columns a.end p.1 c.if-columns-gt-MAX_COLUMNS.true _ c.too_many.ensures
+    counted_full a.whole a.«data».now p.0 a.columns a.end p.1 c.if-columns-gt-MAX_COLUMNS.true c.too_many.ensures
 
 pub returns-then-not-whole : goal.returns-then-not-whole
 returns-then-not-whole c =

@@ -1,27 +1,24 @@
-use Prim.Native.Nat.{ℕ, ◌-◌, ◌/◌}
+use Prim.Native.Nat.{ℕ, ◌-◌}
 use mathlib.Core.List.{List}
-use mathlib.Core.Path.{◌≡◌, subst}
-use native.Mathlib.Omega.{arith}
-use lib.Dec.{ltb}
-use lib.ListN.{length, get_or}
-use Rattle.zdecimal.specs.ZDecimal.{z_digits, are_digits}
-use Rattle.zdecimal.proofs.Digits.{high_fails, low_fails, both_pass, last_decides}
+use mathlib.Core.Path.{◌≡◌, sym, ◌∙◌}
+use lib.ListN.{length, take}
+use Rattle.std.proofs.Common.{rules, tests}
+use Rattle.std.specs.List.{list_all}
+use Rattle.std.proofs.lemmas.Iterator.{YieldsList-from_slice}
+use Rattle.std.proofs.lemmas.Iterator.Search.{all_from_yields_List}
+use Rattle.zdecimal.proofs.Digits.{both_digits, all_digits}
 use Rattle.zdecimal.proofs.digits_valid.Goals as goal
 
-pub returns-then-b-gt9 : goal.returns-then-b-gt9
-returns-then-b-gt9 c = high_fails _ _ c.loop-k.invariant.1.1 (omega arith) c.if-b-gt9.true
-
-pub returns-then-b-gt9-2 : goal.returns-then-b-gt9-2
-returns-then-b-gt9-2 c = low_fails _ _ c.loop-k.invariant.1.1 (omega arith) (omega arith) c.if-b-gt9-2.true
-
-pub loop-k-preserved : goal.loop-k-preserved
-loop-k-preserved c =
-    let l = c.loop-k in
-    (omega arith, (omega arith, both_pass _ l.k l.invariant.1.1 (omega arith) (omega arith) (omega arith)))
-
-pub returns : goal.returns
-returns c =
+pub returns-then-all : goal.returns-then-all
+returns-then-all c =
     let s : List ℕ = c.args.«data».now in
-    let l = c.loop-k in
-    let e : l.k ≡ length s - 1 = omega arith in
-    subst (λ (j : ℕ). ltb (get_or s j 0 / 16) 10 ≡ are_digits (z_digits s)) e (last_decides s l.k l.invariant.1.1 (omega arith))
+    let all : c.all.result ≡ list_all both_digits (take (length s - 1) s) =
+    all_from_yields_List both_digits _ _ c.all.result c.all.ensures.ran (YieldsList-from_slice (take (length s - 1) s) cc) (λ x b q k. search (rules, tests)) in
+    rw (sym all ∙ c.if-all.true) at (all_digits s c.requires)
+
+pub returns-else-all : goal.returns-else-all
+returns-else-all c =
+    let s : List ℕ = c.args.«data».now in
+    let all : c.all.result ≡ list_all both_digits (take (length s - 1) s) =
+    all_from_yields_List both_digits _ _ c.all.result c.all.ensures.ran (YieldsList-from_slice (take (length s - 1) s) cc) (λ x b q k. search (rules, tests)) in
+    c.if-all.false ∙ rw (sym all ∙ c.if-all.false) at (all_digits s c.requires)

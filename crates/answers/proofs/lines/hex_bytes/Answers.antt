@@ -8,12 +8,11 @@ use Rattle.answers.proofs.lines.hex_bytes.Goals as goal
 
 pub loop-i-init : goal.loop-i-init
 unfolding hex_text
-loop-i-init c = (omega arith, refl, search rules)
+loop-i-init c = (refl, refl)
 
 pub loop-i-preserved : goal.loop-i-preserved
 loop-i-preserved c =
     let s = c.args.s.now in (
-      omega arith,
-      simp length-set c.loop-i.invariant.1,
-      read_next s c.loop-i.out c.loop-i.i c.hex_pair-b.result (omega arith) (omega arith) c.loop-i.invariant.2 (c.hex_pair-b.ensures (omega arith)),
+      simp length-set c.loop-i.invariant.0,
+      read_next s c.loop-i.out c.loop-i.i c.in_ok-out.field-0 (omega arith) (omega arith) c.loop-i.invariant.1 (search rules),
     )

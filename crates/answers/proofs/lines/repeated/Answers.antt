@@ -1,9 +1,7 @@
 use native.Mathlib.Omega.{arith}
-use Rattle.answers.proofs.Hex.{read_pair, first_bytes}
 use borrow.Author.Rules.{rules}
+use Rattle.answers.proofs.Hex.{read_pair, first_bytes}
 use Rattle.answers.proofs.lines.repeated.Goals as goal
 
-pub returns : goal.returns
-returns c =
-    let n = c.number-r.result.value in
-    let byte = c.hex_pair-b in record { fits = search rules; bytes = λ e. (byte.result, n, read_pair _ byte.result (omega arith) (byte.ensures (omega arith)), c.number-r.ensures.number e, first_bytes n byte.result _ _ _ (omega arith) c.fill.ensures) }
+pub returns-clause-bytes : goal.returns-clause-bytes
+returns-clause-bytes c = (c.in_ok-b.b, c.in_ok-n.n, read_pair _ c.in_ok-b.b (omega arith) (search rules), search rules, first_bytes c.in_ok-n.n c.in_ok-b.b _ _ _ (omega arith) (c.fill.ensures.after (λ y e. e)))

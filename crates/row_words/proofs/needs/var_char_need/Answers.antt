@@ -7,7 +7,7 @@ use Rattle.row_words.proofs.Typed.{no_number_lem, var_char_is, counted_is, typed
 use Rattle.row_words.proofs.needs.var_char_need.Goals as goal
 
 pub other_named-requires : goal.other_named-requires
-other_named-requires c = no_number_lem c.args.first (omega (arith, c.requires))
+other_named-requires c = no_number_lem c.args.words.first (omega (arith, c.requires))
 
 pub returns : goal.returns
-returns c = (c.counted_need.ensures.0 ∙ typed_need (column_named c.args.first c.args.second) (var_char_is c.args.first c.args.second c.requires) (Counted 1) (counted_is (column_named c.args.first c.args.second) (type_numbers c.args.first) (sym c.is_header.ensures ∙ c.if-is_header.false)) c.args.rest.now, omega (arith, c.counted_need.ensures.1.1))
+returns c = (c.counted_need.ensures.0 ∙ typed_need (column_named c.args.words.first c.args.words.second) (var_char_is c.args.words.first c.args.words.second c.requires) (Counted 1) (counted_is (column_named c.args.words.first c.args.words.second) (type_numbers c.args.words.first) (sym c.is_header.ensures ∙ c.if-is_header.false)) c.args.rest.now, omega (arith, c.counted_need.ensures.1.1))

@@ -15,24 +15,24 @@ use Rattle.row_words.proofs.Indicators.{at_most, absent_words, null_named, lead_
 use Rattle.row_words.proofs.puts.put_column.Goals as goal
 
 pub returns-then-is_null : goal.returns-then-is_null
-returns-then-is_null c = let h = null_named c.args.first c.args.second _ c.is_nullable-nullable.ensures c.args.rest.now _ _ c.is_null.ensures c.if-is_null.true in
-    let one = null_takes (column_named c.args.first c.args.second) c.args.rest.now h in
+returns-then-is_null c = let h = null_named c.args.words.first c.args.words.second _ c.is_nullable-nullable.ensures c.args.rest.now _ _ c.is_null.ensures c.if-is_null.true in
+    let one = null_takes (column_named c.args.words.first c.args.words.second) c.args.rest.now h in
     let some = at_most (sym one) c.requires.there in
-    let text = sym (absent_text (column_named c.args.first c.args.second) c.args.rest.now h c.args.release some) in record { used = sym one; count = ap length text; bytes = rw (← text); values = c.put_words.ensures ∙ absent_words c.args.release c.args.values.now c.args.place c.args.next ∙ ap (λ (p : Cell). three_set c.args.values.now c.args.place (cell_value (conversions_of c.args.release) p c.args.next)) (sym (null_absent (column_named c.args.first c.args.second) c.args.rest.now h some c.args.at)); replaced = sym (absent_replaced (column_named c.args.first c.args.second) c.args.rest.now h c.args.release some) }
+    let text = sym (absent_text (column_named c.args.words.first c.args.words.second) c.args.rest.now h c.args.release some) in record { used = sym one; count = ap length text; bytes = rw (← text); values = c.put_words.ensures ∙ absent_words c.args.release c.args.values.now c.args.place c.args.next ∙ ap (λ (p : Cell). three_set c.args.values.now c.args.place (cell_value (conversions_of c.args.release) p c.args.next)) (sym (null_absent (column_named c.args.words.first c.args.words.second) c.args.rest.now h some c.args.at)); replaced = sym (absent_replaced (column_named c.args.words.first c.args.words.second) c.args.rest.now h c.args.release some) }
 
 pub put_there-t-requires : goal.put_there-t-requires
-put_there-t-requires c = let h = null_named c.args.first c.args.second _ c.is_nullable-nullable.ensures c.args.rest.now _ _ c.is_null.ensures c.if-is_null.false in
-    let n = lead_named c.args.first c.args.second _ c.is_nullable-nullable.ensures _ c.lead-from.ensures.0 in
-    let d = column_named c.args.first c.args.second in rw (all_after c.lead-from.result c.args.rest.now, n) (record { there = omega (arith, value_takes d c.args.rest.now h, length-drop (lead_of d) c.args.rest.now, c.requires.there); limit = omega (arith, length-drop (lead_of d) c.args.rest.now, lead_within d c.args.rest.now h, c.requires.limit); room = subst (λ (t : List ℕ). length t ≤ length c.args.out.now) (value_reads d c.args.rest.now h c.args.release) c.requires.room; words = c.requires.words; plain = (c.requires.plain.0, λ t. subst (PlainCell c.args.release) (value_stands d c.args.rest.now h c.args.at) (c.requires.plain.1 t)) })
+put_there-t-requires c = let h = null_named c.args.words.first c.args.words.second _ c.is_nullable-nullable.ensures c.args.rest.now _ _ c.is_null.ensures c.if-is_null.false in
+    let n = lead_named c.args.words.first c.args.words.second _ c.is_nullable-nullable.ensures _ c.lead-from.ensures.0 in
+    let d = column_named c.args.words.first c.args.words.second in rw (all_after c.lead-from.result c.args.rest.now, n) (record { there = omega (arith, value_takes d c.args.rest.now h, length-drop (lead_of d) c.args.rest.now, c.requires.there); limit = omega (arith, length-drop (lead_of d) c.args.rest.now, lead_within d c.args.rest.now h, c.requires.limit); room = subst (λ (t : List ℕ). length t ≤ length c.args.out.now) (value_reads d c.args.rest.now h c.args.release) c.requires.room; words = c.requires.words; plain = (c.requires.plain.0, λ t. subst (PlainCell c.args.release) (value_stands d c.args.rest.now h c.args.at) (c.requires.plain.1 t)) })
 
-pub overflow_add-used : goal.overflow_add-used
-overflow_add-used c = let h = null_named c.args.first c.args.second _ c.is_nullable-nullable.ensures c.args.rest.now _ _ c.is_null.ensures c.if-is_null.false in
-    let n = lead_named c.args.first c.args.second _ c.is_nullable-nullable.ensures _ c.lead-from.ensures.0 in
+pub overflow_add-result : goal.overflow_add-result
+overflow_add-result c = let h = null_named c.args.words.first c.args.words.second _ c.is_nullable-nullable.ensures c.args.rest.now _ _ c.is_null.ensures c.if-is_null.false in
+    let n = lead_named c.args.words.first c.args.words.second _ c.is_nullable-nullable.ensures _ c.lead-from.ensures.0 in
     let u = rw (all_after c.lead-from.result c.args.rest.now, n) at c.put_there-t.ensures.used in
-    record { fits = omega (arith, u, n, value_takes (column_named c.args.first c.args.second) c.args.rest.now h, c.requires.there, c.requires.limit) }
+    record { fits = omega (arith, u, n, value_takes (column_named c.args.words.first c.args.words.second) c.args.rest.now h, c.requires.there, c.requires.limit) }
 
 pub returns : goal.returns
-returns c = let h = null_named c.args.first c.args.second _ c.is_nullable-nullable.ensures c.args.rest.now _ _ c.is_null.ensures c.if-is_null.false in
-    let n = lead_named c.args.first c.args.second _ c.is_nullable-nullable.ensures _ c.lead-from.ensures.0 in
+returns c = let h = null_named c.args.words.first c.args.words.second _ c.is_nullable-nullable.ensures c.args.rest.now _ _ c.is_null.ensures c.if-is_null.false in
+    let n = lead_named c.args.words.first c.args.words.second _ c.is_nullable-nullable.ensures _ c.lead-from.ensures.0 in
     let w = rw (all_after c.lead-from.result c.args.rest.now, n) at c.put_there-t.ensures in
-    let text = sym (value_reads (column_named c.args.first c.args.second) c.args.rest.now h c.args.release) in record { used = omega (arith, w.used, n, value_takes (column_named c.args.first c.args.second) c.args.rest.now h); count = w.count ∙ ap length text; bytes = w.bytes ∙ ap (λ (t : List ℕ). overwritten t c.args.out.now) text; values = w.values ∙ ap (λ (p : Cell). three_set c.args.values.now c.args.place (cell_value (conversions_of c.args.release) p c.args.next)) (sym (value_stands (column_named c.args.first c.args.second) c.args.rest.now h c.args.at)); replaced = w.replaced ∙ sym (value_counts (column_named c.args.first c.args.second) c.args.rest.now h c.args.release) }
+    let text = sym (value_reads (column_named c.args.words.first c.args.words.second) c.args.rest.now h c.args.release) in record { used = omega (arith, w.used, n, value_takes (column_named c.args.words.first c.args.words.second) c.args.rest.now h); count = w.count ∙ ap length text; bytes = w.bytes ∙ ap (λ (t : List ℕ). overwritten t c.args.out.now) text; values = w.values ∙ ap (λ (p : Cell). three_set c.args.values.now c.args.place (cell_value (conversions_of c.args.release) p c.args.next)) (sym (value_stands (column_named c.args.words.first c.args.words.second) c.args.rest.now h c.args.at)); replaced = w.replaced ∙ sym (value_counts (column_named c.args.words.first c.args.words.second) c.args.rest.now h c.args.release) }

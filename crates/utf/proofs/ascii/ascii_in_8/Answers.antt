@@ -1,15 +1,14 @@
-use Prim.Native.Nat.{◌+◌, ◌≤◌}
-use mathlib.Core.Bool.{◌&&◌}
 use native.Mathlib.Omega.{arith}
-use lib.Dec.{ltb}
-use lib.ListN.{get_or}
-use Rattle.utf.proofs.AsciiLaws.{run_none, Leading, leading_more}
+use lib.Seq.{get_or-take, length-take-le}
+use Rattle.utf.proofs.AsciiLaws.{run_none, leading_more}
 use Rattle.utf.proofs.ascii.ascii_in_8.Goals as goal
 
-pub loop-i-init : goal.loop-i-init
-loop-i-init c = (omega arith, record { run = run_none _; so_far = λ e. omega arith; most = omega arith })
+pub loop-b-init : goal.loop-b-init
+loop-b-init c = record { run = run_none _; so_far = λ e. omega arith; most = omega arith }
 
-pub loop-i-preserved : goal.loop-i-preserved
-loop-i-preserved c =
-    let next : (c.loop-i.i + 1 ≤ 8) × Leading c.args.s.now (c.loop-i.all && ltb (get_or c.args.s.now c.loop-i.i 0) 0x80) (c.loop-i.n + c.one_if-n.result) (c.loop-i.i + 1) = (omega arith, leading_more c.args.s.now c.loop-i.all c.loop-i.n c.loop-i.i c.loop-i.invariant.1 (omega (arith, c.requires)) c.one_if-n.result c.one_if-n.ensures) in
-    next
+pub loop-b-preserved : goal.loop-b-preserved
+loop-b-preserved c =
+    let at = c.loop-b in
+    let n = length-take-le 8 c.args.s.now c.requires in
+    let e = get_or-take 8 c.args.s.now at.b-index 0 (omega arith) in
+    rw e (leading_more c.args.s.now at.all at.n at.b-index at.invariant (omega (arith, c.requires)) c.from-n.result (rw e at c.from-n.ensures))

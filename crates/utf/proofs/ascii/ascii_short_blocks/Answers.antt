@@ -1,11 +1,15 @@
+use mathlib.Core.Path.{sym, ◌∙◌}
 use borrow.Author.Rules.{rules}
-use native.Mathlib.Omega.{arith}
-use Rattle.utf.proofs.AsciiLaws.{run_none, run_block}
+use Rattle.std.specs.Slice.Iter.{chunks_exact_rest}
+use Rattle.utf.proofs.AsciiLaws.{run_none, run_chunk}
 use Rattle.utf.proofs.ascii.ascii_short_blocks.Goals as goal
 
-pub loop-n-init : goal.loop-n-init
-loop-n-init c = run_none _
+pub loop-block-init : goal.loop-block-init
+loop-block-init c = (search rules, search rules, run_none _)
 
-pub loop-n-preserved : goal.loop-n-preserved
-loop-n-preserved c =
-    run_block _ _ _ c.loop-n.invariant (omega arith) (omega arith) (c.any_high.ensures (search rules))
+pub loop-block-preserved : goal.loop-block-preserved
+loop-block-preserved c =
+    let steps = c.in-Some.ensures.steps in
+    let at = c.loop-block.invariant in
+    let next = run_chunk c.loop-block.n 32 c.args.s.now at.2 c.in-Some.block.now (chunks_exact_rest c.next.new.self) (sym at.1 ∙ steps.1.0) (steps.1.1 ∙ at.0) (c.any_high.ensures c.if-any_high.false) in
+    (steps.0 ∙ at.0, next.0, next.1)

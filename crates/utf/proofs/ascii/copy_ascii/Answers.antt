@@ -14,13 +14,13 @@ returns-then-s-lt8 c =
     let r = c.copy_ascii_bytes.ensures.run in
     copied c.args.s.now c.args.out.now _ c.requires k k r.fits (omega arith) (ascii_good k _ r) c.copy_ascii_bytes.ensures.bytes
 
-pub copy_8-requires : goal.copy_8-requires
-copy_8-requires c = (c.if-s-lt8.false, omega (arith, c.if-s-lt8.false, text_least c.args.s.now, c.requires))
+pub copy_array-requires : goal.copy_array-requires
+copy_array-requires c = (c.if-s-lt8.false, omega (arith, c.if-s-lt8.false, text_least c.args.s.now, c.requires))
 
 pub returns-then-not-ascii_8 : goal.returns-then-not-ascii_8
 returns-then-not-ascii_8 c =
     let k = c.ascii_in_8.result in
-    copied c.args.s.now c.args.out.now _ c.requires 8 k c.if-s-lt8.false c.ascii_in_8.ensures.1 (ascii_good k _ c.ascii_in_8.ensures.0) c.copy_8.ensures
+    copied c.args.s.now c.args.out.now _ c.requires 8 k c.if-s-lt8.false c.ascii_in_8.ensures.1 (ascii_good k _ c.ascii_in_8.ensures.0) c.copy_array.ensures
 
 pub returns-then-s-m-ge8 : goal.returns-then-s-m-ge8
 returns-then-s-m-ge8 c =

@@ -12,8 +12,8 @@ use Rattle.utf.proofs.Utf8Runs.{ascii_good}
 use Rattle.utf.proofs.LossyWriting.{copy_room, copied_lent}
 use Rattle.utf.proofs.ascii.copy_ascii_32s.Goals as goal
 
-pub copy_32-requires : goal.copy_32-requires
-copy_32-requires c =
+pub copy_array-requires : goal.copy_array-requires
+copy_array-requires c =
     let S : List ℕ = c.args.s.now in
     let D : List ℕ = c.args.out.now in
     let I : ℕ = c.loop-i.i in
@@ -29,4 +29,4 @@ loop-i-preserved c =
     let Out : List ℕ = c.loop-i.out in
     let left : I + 32 ≤ length S = omega (arith, c.if-s-i-lt32.false, c.loop-i.invariant.fits) in
     let run : AsciiRun 32 (take (length S - I) (drop I S)) = let z : I + 32 - I ≡ 32 = omega arith in let q : all_ascii (take (I + 32 - I) (drop I S)) ≡ true = c.any_high.ensures (search rules) in rw (rest S I) (record { fits = omega (arith, length-drop I S, left); ascii = rw z at q }) in
-    copied_lent S D Out I I 0 c.loop-i.invariant 32 left c.copy_32.new.out 32 (omega arith) (ascii_good 32 _ run) c.copy_32.ensures
+    copied_lent S D Out I I 0 c.loop-i.invariant 32 left c.copy_array.new.out 32 (omega arith) (ascii_good 32 _ run) c.copy_array.ensures

@@ -6,7 +6,7 @@ use lib.Seq.{length-take-le}
 use Rattle.unicode_standard.specs.Unicode.{replacements, utf8_pieces, utf8_text}
 use Rattle.buffer.proofs.Writing.{Writing, wrote_first, wrote_rest, fits, all, end}
 use Rattle.utf.proofs.AsciiLaws.{rest, rest_length}
-use Rattle.utf.proofs.Utf8Runs.{good_text, good_count, text_end, count_end}
+use Rattle.utf.proofs.Utf8Runs.{good_text, good_count, text_end, count_end, stop_whole}
 use native.Mathlib.Omega.{arith}
 use Rattle.utf.proofs.lossy.utf8_lossy_write.Goals as goal
 
@@ -17,14 +17,15 @@ copy-requires c =
     let z : E - 0 ≡ E = omega arith in
     rw z (omega (arith, ap length (good_text E S c.run_of-r.ensures.good), length-append (take E S) (utf8_text (drop E S)), c.requires))
 
-pub returns-then-r-eq0 : goal.returns-then-r-eq0
-returns-then-r-eq0 c =
+pub returns-then-is_none : goal.returns-then-is_none
+returns-then-is_none c =
     let S : List ℕ = c.args.s.now in
     let E : ℕ = c.run_of-r.result.end in
     let Ys : List ℕ = c.copy.new.out in
     let w : Writing (utf8_text S) c.args.out.now (utf8_text (drop E S)) Ys E = let g = c.run_of-r.ensures.good in let z : E - 0 ≡ E = omega arith in wrote_first (utf8_text S) c.args.out.now c.requires (take E S) (utf8_text (drop E S)) (good_text E S g) Ys (rw z at c.copy.ensures.bytes) E (sym (length-take-le E S g.fits)) in
-    let done = text_end S E (omega (arith, c.run_of-r.ensures.stop.done c.if-r-eq0.true)) in
-    let k = count_end S E (omega (arith, c.run_of-r.ensures.stop.done c.if-r-eq0.true)) in record { count = all w done; bytes = end w done; replaced = omega (arith, good_count E S c.run_of-r.ensures.good, k) }
+    let stop : E ≡ length S = stop_whole E c.run_of-r.result.bad S c.run_of-r.ensures.stop c.is_none.result c.is_none.ensures c.if-is_none.true in
+    let done = text_end S E (omega (arith, stop)) in
+    let k = count_end S E (omega (arith, stop)) in record { count = all w done; bytes = end w done; replaced = omega (arith, good_count E S c.run_of-r.ensures.good, k) }
 
 pub write_runs-w-requires : goal.write_runs-w-requires
 write_runs-w-requires c =

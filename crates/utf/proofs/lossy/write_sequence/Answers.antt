@@ -11,12 +11,12 @@ use Rattle.utf.proofs.lossy.write_sequence.Goals as goal
 
 pub copy_common-requires : goal.copy_common-requires
 copy_common-requires c =
-    let p = (rw c.in-Known.is at c.common_at.ensures) in
+    let p = (rw c.in-Some.is at c.common_at.ensures) in
     (piece_fits _ _ _ true c.requires.0 p.1.1, (omega (arith, whole_length _ _ _ c.requires.0 p.1.1, c.requires.1), (p.0, p.1.0)))
 
-pub returns-in-Known : goal.returns-in-Known
-returns-in-Known c =
-    let p = (rw c.in-Known.is at c.common_at.ensures) in record { piece = p.1.1; bytes = c.copy_common.ensures ∙ rw (whole_text _ _ _ c.requires.0 p.1.1) }
+pub returns-in-Some : goal.returns-in-Some
+returns-in-Some c =
+    let p = (rw c.in-Some.is at c.common_at.ensures) in record { piece = p.1.1; bytes = c.copy_common.ensures ∙ rw (whole_text _ _ _ c.requires.0 p.1.1) }
 
 pub overflow_add-e : goal.overflow_add-e
 overflow_add-e c =

@@ -5,5 +5,5 @@ use Rattle.utf.proofs.utf16.extra.Goals as goal
 
 pub returns : goal.returns
 returns c =
-    let said : Extra c.args.on c.args.a c.args.b c.args.c (c.bit.result + c.bit-2.result) = extra _ _ _ _ _ _ c.between.ensures c.between-2.ensures _ _ c.bit.ensures c.bit-2.ensures in
+    let said : Extra c.args.on c.args.a c.args.b c.args.c (c.from.result + c.from-2.result) = extra _ _ _ _ _ _ c.between.ensures c.between-2.ensures _ _ c.from.ensures c.from-2.ensures in
     said

@@ -7,6 +7,3 @@ use Rattle.utf.proofs.utf16.mark_starts.Given as goal
 
 abbrev pub invariant-loop-k : goal.invariant-loop-k
 invariant-loop-k l = (l.k ≤ 64) × (l.on ≡ starts l.k ++ replicate (2 * (64 - l.k)) 0)
-
-abbrev pub decreases-loop-k : goal.decreases-loop-k
-decreases-loop-k l = 64 - l.k

@@ -74,12 +74,12 @@ loop-i-preserved c =
     let step : (rest_after S I ≡ Bytes ++ rest_after S (I + 2)) × (alone_after S I ≡ alone_after S (I + 2)) = unit_step S I small (omega (arith, inside)) N some laid.count carry in
     let onward : within (get_or S (I + 2) 0) (range 0xD8 0xDB) ≡ true → within (get_or S (I + 2 + 2) 0) (range 0xDC 0xDF) ≡ true = λ h. let e : I + 2 + 2 ≡ I + 4 = omega arith in rw e (laid.count.next some h) in
     let even : I % 2 ≡ 0 → I + 2 ≤ c.block_end-e.result = λ h. even_end S _ c.block_end-e.ensures I h c.loop-i-test.true in
-    let turned : c.bit.result ≤ 1 = omega (arith, c.bit.ensures, bit_most (not (eqb N c.loop-i.last))) in
+    let turned : c.from-changes.result ≤ 1 = omega (arith, c.from-changes.ensures, bit_most (not (eqb N c.loop-i.last))) in
     let w₁ : Filling (utf16_text (drop 2 S)) D (rest_after S (I + 2)) (set (set (set Out (O + 2) c.third_of.result) (O + 1) (get_or c.args.second.now I 0)) O (get_or c.args.first.now I 0)) (O + N) = three_stored w room Bytes (rest_after S (I + 2)) (step).0 N ((laid).count.size some (get_or S (I + 1) 0)) some (laid).count.most _ _ _ (laid).first (laid).second (λ h. c.third_of.ensures ∙ third_byte (get_or S (I + 1) 0) (get_or S (I + 2) 0) (get_or S (I + 3) 0) h) in (
       even c.loop-i.invariant.1.0,
       (
         omega (arith, c.loop-i.invariant.1.0),
-        (omega (arith, turned, c.loop-i.invariant.1.1.0), (onward, (w₁, c.loop-i.invariant.1.1.1.1.1 ∙ (step).1))),
+        (omega (arith, turned, c.loop-i.invariant.1.1.0), (onward, (rw c.from-o.ensures w₁, c.loop-i.invariant.1.1.1.1.1 ∙ (step).1))),
       ),
     )
 

@@ -1,9 +1,0 @@
-use lib.Ieee.{binary32}
-use Rattle.words.proofs.Bits.{bits_of, bits_none}
-use Rattle.words.proofs.real_bits.Goals as goal
-
-pub returns-then-x : goal.returns-then-x
-returns-then-x c = bits_of binary32 c.args.x c.if-x.true
-
-pub returns : goal.returns
-returns c = bits_none binary32 c.args.x c.if-x.false

@@ -1,12 +1,12 @@
 -- Bytes read from upper-case hexadecimal: a byte from two digits, and one byte more. Assumes nothing.
-use Prim.Native.Nat.{ℕ, suc, ◌+◌, ◌-◌, ◌*◌, ◌/◌, ◌%◌, ◌<◌, ◌≤◌}
-use mathlib.Core.Bool.{Bool, true, false}
+use Prim.Native.Nat.{ℕ, suc, ◌+◌, ◌*◌, ◌/◌, ◌%◌, ◌<◌}
 use mathlib.Core.List.{List, [], ◌∷◌, ◌++◌, append_assoc}
 use mathlib.Core.Path.{◌≡◌, refl, sym, ap, ◌∙◌}
 use native.Mathlib.Omega.{arith}
 use native.Mathlib.Numerals.{add-one}
-use lib.ListN.{length, take, drop, get_or, set, replicate, length-replicate, length-drop}
-use lib.Seq.{take-suc, take-suc-set, take_at, take_all, split_at, length-take-le}
+use lib.ListN.{length, take, get_or, set}
+use lib.Seq.{take-suc, take-suc-set}
+use Rattle.std.proofs.Common.{Bor}
 use Rattle.std.specs.Prelude.{Option, None, Some, IfSome}
 use Rattle.conversion.specs.Hex.{hex_digit, hex_text}
 use Rattle.answers.specs.Lines.{bytes_field}
@@ -52,27 +52,12 @@ read_pair (x ∷ []) b l e = let n : ◌≡◌ {A = ℕ} 1 2 = l in absurd (omeg
 read_pair (x ∷ y ∷ []) b l (high, low) = ap (λ (h : ℕ). h ∷ hex_digit (b % 16) ∷ []) high ∙ ap (λ (h : ℕ). x ∷ h ∷ []) low
 read_pair (x ∷ y ∷ z ∷ s) b l e = let n : suc (suc (suc (length s))) ≡ 2 = l in absurd (omega arith)
 
--- a part of n bytes, all made the same, is what then stands first
-pub first_bytes : (n b : ℕ) (out f rest : List ℕ) → n ≤ length out → f ≡ replicate (length (take n out)) b → take n (f ++ rest) ≡ replicate n b
-first_bytes n b out f rest room same =
-    ap (λ (t : List ℕ). take n (t ++ rest)) (same ∙ ap (λ (k : ℕ). replicate k b) (length-take-le n out room)) ∙ take_at (replicate n b) rest n (length-replicate n b)
-
--- what stands before a place, at it and behind it
-pub parted : (s : List ℕ) (k b : ℕ) → k < length s → get_or s k 0 ≡ b → take (k - 0) s ++ (b ∷ take (length s - (k + 1)) (drop (k + 1) s)) ≡ s
-parted s k b there here =
-    let whole : k - 0 ≡ k = omega arith in
-    let rest : take (length s - (k + 1)) (drop (k + 1) s) ≡ drop (k + 1) s = take_all (length s - (k + 1)) (drop (k + 1) s) (omega (arith, length-drop (k + 1) s)) in
-    ap (λ (j : ℕ). take j s ++ (b ∷ take (length s - (k + 1)) (drop (k + 1) s))) whole
-    ∙ ap (λ (t : List ℕ). take k s ++ (b ∷ t)) (rest ∙ ap (λ (j : ℕ). drop j s) (add-one k))
-    ∙ ap (λ (x : ℕ). take k s ++ (x ∷ drop (suc k) s)) (sym here)
-    ∙ sym (split_at s k 0 there)
-
 -- digits are a field of bytes where there is one
 pub as_field : (t : List ℕ) {s : List ℕ} → (length s ≡ 0 → ⊥) → hex_text t ≡ s → bytes_field t ≡ s
 unfolding hex_text bytes_field
 as_field [] there e = absurd (there (sym (ap length e)))
 as_field (b ∷ t) there e = e
 
-pub as_some_field : (r : Option ℕ) (t s : List ℕ) → (length s ≡ 0 → ⊥) → IfSome r (λ n. hex_text (take n t) ≡ s) → IfSome r (λ n. bytes_field (take n t) ≡ s)
-as_some_field None t s there e = e
-as_some_field (Some n) t s there e = as_field (take n t) there e
+pub as_some_field : (r : Option (Bor (List ℕ))) (s : List ℕ) → (length s ≡ 0 → ⊥) → IfSome r (λ b. hex_text b.now ≡ s) → IfSome r (λ b. bytes_field b.now ≡ s)
+as_some_field None s there e = e
+as_some_field (Some b) s there e = as_field b.now there e

@@ -1,5 +1,5 @@
 -- The fields of a line of the list of stored answers: for inner functions; no public promise rests on it. Assumes nothing.
-use Rattle.std.specs.Prelude.{ℕ, ◌^◌, ◌<◌, ◌≡◌, ◌⊎◌, List, [], ◌∷◌, ◌++◌, length, replicate}
+use Rattle.std.specs.Prelude.{Option, IfSome, ℕ, ◌^◌, ◌<◌, ◌≡◌, ◌⊎◌, List, [], ◌∷◌, ◌++◌, length, replicate}
 use Rattle.conversion.specs.Hex.{hex_text}
 use Rattle.io.specs.Digits.{last_digits}
 
@@ -19,3 +19,7 @@ Repeats pair times bs = (b n : ℕ) × (hex_text (b ∷ []) ≡ pair) × IsNumbe
 -- a field says bs: it writes them out, or, with a `*` between them, byte and number
 abbrev pub Says : List ℕ → List ℕ → Type 0
 Says s bs = (bytes_field bs ≡ s) ⊎ ((pair times : List ℕ) × (pair ++ (0x2A ∷ times) ≡ s) × Repeats pair times bs)
+
+-- a text is what is printed, where the type of what is printed states its text
+abbrev pub IsPrinted : Option (List ℕ) → List ℕ → Type 0
+IsPrinted printed s = IfSome printed (λ text. text ≡ s)

@@ -1,13 +1,14 @@
 // Types and columns as the list writes them, in a line that is full where its kind is written in lower case, and reading them.
-use crate::lines::{bytes, field, find, number, part, part_start};
-use crate::rest::{Rest, says};
+ghost use Rattle.std.specs.Prelude.{◌≡◌, ◌++◌, true, ℕ, ◌<◌, List, length, IfSome, get_or, decimal};
+ghost use Rattle.types.specs.Places.{blank_column, max_columns};
+
+use crate::lines::{behind_parts, cut, field, hex_pair, number, part};
+use crate::rest::{Rest, read, says};
+use printing::OrDash;
 use printing::type_names::{Numbers, name_of, numbers_of};
 use std::fmt;
 use std::fmt::Write;
 use types::{ByteOrder, ColumnDescriptor, Columns, Db2Type, MAX_COLUMNS, Origin};
-
-// The largest number of columns that a line may say.
-const MOST_COLUMNS: usize = 65535;
 
 // A type by its name, and each of its numbers behind a point.
 #[derive(Clone, Copy)]
@@ -28,6 +29,7 @@ impl fmt::Display for TypeField {
 #[derive(Clone, Copy)]
 struct ColumnField {
     column: ColumnDescriptor,
+    // No plainer: an enum of the two forms would be matched where `if self.full` stands; replay has one place that knows it, Stated.
     full: bool,
 }
 
@@ -41,14 +43,11 @@ impl fmt::Display for ColumnField {
         let scale = c.scale;
         let nullable = u8::from(c.nullable);
         let ccsid = c.ccsid;
+        let reference = OrDash(c.extdta_reference_length);
         write!(
             f,
-            "{name}:{code:02X}:{length}:{precision}:{scale}:{nullable}:{ccsid}:"
+            "{name}:{code:02X}:{length}:{precision}:{scale}:{nullable}:{ccsid}:{reference}"
         )?;
-        match c.extdta_reference_length {
-            Some(width) => write!(f, "{width}")?,
-            None => f.write_str("-")?,
-        }
         f.write_str(match c.byte_order {
             ByteOrder::BigEndian => ":B",
             ByteOrder::LittleEndian => ":L",
@@ -64,24 +63,36 @@ impl fmt::Display for ColumnField {
     }
 }
 
+// Whether each column of a list has the number of its place.
+fn are_numbered(columns: &Columns) -> bool
+    ensures { result ≡ true → (k : ℕ) → k < columns.now.count → k < max_columns → (get_or columns.now.columns k blank_column).column_index ≡ k }
+{
+    // By hand: tried with `columns.list()`, and `search` did not close it.
+    columns.columns[..columns.count.min(MAX_COLUMNS)]
+        .iter()
+        .enumerate()
+        .all(|(i, column)| usize::from(column.column_index) == i)
+}
+
 // What stands behind these columns, where the text begins with them: their number, and each behind a space; a column's number is its place. A count above
 // 128, for which the row call has a refusal, says more columns than a list has places for: those are passed over.
-pub fn behind_columns<'a>(text: &'a [u8], full: bool, columns: &Columns) -> Option<&'a [u8]> {
+#[tactic(auto, using(crate::proofs::Behind::first_said))]
+pub fn behind_columns<'a>(text: &'a [u8], full: bool, columns: &Columns) -> Option<&'a [u8]>
+    ensures counted { IfSome result (λ _. (rest : List ℕ) × (text.now ≡ decimal columns.now.count ++ rest)) }
+    ensures numbered { IfSome result (λ _. (k : ℕ) → k < columns.now.count → k < max_columns → (get_or columns.now.columns k blank_column).column_index ≡ k) }
+{
+    if !are_numbered(columns) {
+        return None;
+    }
     let mut rest = Rest(text);
     write!(rest, "{}", columns.count).ok()?;
-    for (i, &column) in columns.columns.iter().take(columns.count).enumerate() {
-        if usize::from(column.column_index) != i {
-            return None;
-        }
+    for &column in columns.list() {
         write!(rest, " {}", ColumnField { column, full }).ok()?;
     }
     let behind = rest.0;
     match columns.count.checked_sub(MAX_COLUMNS) {
         None | Some(0) => Some(behind),
-        Some(more) => {
-            let last = part_start(behind, more, b' ');
-            Some(&behind[find(behind, last, b' ')..])
-        }
+        Some(more) => Some(cut(behind_parts(behind, more, b' '), b' ').1),
     }
 }
 
@@ -102,20 +113,12 @@ impl fmt::Display for Ending {
     }
 }
 
-// A number of at most two bytes, and of one.
-fn number16(s: &[u8]) -> Option<u16> {
-    u16::try_from(number(s, 65535)?).ok()
-}
-
-fn number8(s: &[u8]) -> Option<u8> {
-    u8::try_from(number(s, 255)?).ok()
-}
-
 // The type that a field writes. Each is tried, with the field's numbers: the names stand nowhere but in `printing::type_names`.
+// A number that is not there is tried as 0: `says` refuses it where the type prints a number.
 pub fn type_of(s: &[u8]) -> Option<Db2Type> {
-    let n = number16(part(s, 1, b'.')).unwrap_or(0);
-    let precision = number8(part(s, 1, b'.')).unwrap_or(0);
-    let scale = number8(part(s, 2, b'.')).unwrap_or(0);
+    let n = read(part(s, 1, b'.')).unwrap_or(0);
+    let precision = read(part(s, 1, b'.')).unwrap_or(0);
+    let scale = read(part(s, 2, b'.')).unwrap_or(0);
     let types = [
         Db2Type::SmallInt,
         Db2Type::Integer,
@@ -151,15 +154,16 @@ pub fn type_of(s: &[u8]) -> Option<Db2Type> {
 }
 
 fn code_of(s: &[u8]) -> Option<u8> {
-    let mut code = [0u8];
-    bytes(s, &mut code)?;
-    Some(code[0])
+    let &[high, low] = s else {
+        return None;
+    };
+    hex_pair(high, low)
 }
 
 fn reference_of(s: &[u8]) -> Option<Option<u16>> {
     match s {
         b"-" => Some(None),
-        _ => Some(Some(number16(s)?)),
+        _ => read(s).map(Some),
     }
 }
 
@@ -186,40 +190,25 @@ fn column_of(s: &[u8], column_index: u8) -> Option<ColumnDescriptor> {
     Some(ColumnDescriptor {
         column_index,
         drda_type: code_of(part(s, 1, b':'))?,
-        length: number16(part(s, 2, b':'))?,
-        precision: number8(part(s, 3, b':'))?,
-        scale: number8(part(s, 4, b':'))?,
+        length: read(part(s, 2, b':'))?,
+        precision: read(part(s, 3, b':'))?,
+        scale: read(part(s, 4, b':'))?,
         nullable: number(part(s, 5, b':'), 1)? == 1,
         origin: origin_of(part(s, 9, b':'))?,
-        ccsid: number16(part(s, 6, b':'))?,
+        ccsid: read(part(s, 6, b':'))?,
         db2_type: type_of(part(s, 0, b':'))?,
         byte_order: order_of(part(s, 8, b':'))?,
         extdta_reference_length: reference_of(part(s, 7, b':'))?,
     })
 }
 
-// What an unused place of a list holds.
-const BLANK: ColumnDescriptor = ColumnDescriptor {
-    column_index: 0,
-    drda_type: 0,
-    length: 0,
-    precision: 0,
-    scale: 0,
-    nullable: false,
-    origin: Origin::Sda,
-    ccsid: 0,
-    db2_type: Db2Type::Null,
-    byte_order: ByteOrder::BigEndian,
-    extdta_reference_length: None,
-};
-
 // The columns that stand in a line from its field 2 on, as many as field 1 says and a list has places for, if each is one: behind_columns tells whether they
 // are written so.
 pub fn columns_of(line: &[u8]) -> Option<Columns> {
-    let count = number(field(line, 1), MOST_COLUMNS)?;
-    let mut columns = [BLANK; MAX_COLUMNS];
-    for i in 0..count.min(MAX_COLUMNS) {
-        columns[i] = column_of(field(line, i + 2), i as u8)?;
+    let count = usize::from(read::<u16>(field(line, 1))?);
+    let mut columns = [ColumnDescriptor::default(); MAX_COLUMNS];
+    for (i, column) in columns.iter_mut().take(count).enumerate() {
+        *column = column_of(field(line, i + 2), u8::try_from(i).ok()?)?;
     }
     Some(Columns { columns, count })
 }

@@ -1,54 +1,66 @@
 // The parts of a line of the list of stored answers: fields parted by one space, decimal numbers, bytes in upper-case hexadecimal, one byte many
 // times. It knows no kind of line.
-ghost use Rattle.std.specs.Prelude.{◌≡◌, ℕ, ◌+◌, ◌/◌, ◌%◌, ◌<◌, ◌≤◌, length, get_or, take, IfSome};
+ghost use Rattle.std.specs.Prelude.{◌≡◌, List, ℕ, ◌+◌, ◌/◌, ◌%◌, ◌<◌, ◌≤◌, ◌++◌, length, get_or, IfSome};
 ghost use Rattle.conversion.specs.Hex.{hex_digit, hex_text};
 ghost use Rattle.answers.specs.Lines.{bytes_field, IsNumber, Repeats, Says};
+
+use crate::rest::read;
 
 // More bytes than this are not written as one byte many times.
 const MOST_TIMES: usize = 4294967295;
 
-// The first place of b in s from `from` on, or the length of s where there is none.
-pub fn find(s: &[u8], from: usize, b: u8) -> usize
-    requires { from ≤ length s.now }
-    ensures within { (from ≤ result) × (result ≤ length s.now) }
-    ensures before { (k : ℕ) → k < result → from ≤ k → get_or s.now k 0 ≡ b → ⊥ }
+// What stands before the first b in s, and what stands from there on: nothing where there is none.
+pub fn cut(s: &[u8], b: u8) -> (&[u8], &[u8])
+    ensures whole { result.0.now ++ result.1.now ≡ s.now }
+    ensures before { (k : ℕ) → k < length result.0.now → get_or result.0.now k 0 ≡ b → ⊥ }
+    ensures found { 0 < length result.1.now → get_or result.1.now 0 0 ≡ b }
+{
+    s.split_at(first_of(s, b))
+}
+
+// The first place of b in s, or the length of s where there is none.
+fn first_of(s: &[u8], b: u8) -> usize
+    ensures within { result ≤ length s.now }
+    ensures before { (k : ℕ) → k < result → get_or s.now k 0 ≡ b → ⊥ }
     ensures found { result < length s.now → get_or s.now result 0 ≡ b }
 {
-    for i in from..s.len() {
-        if s[i] == b {
-            return i;
-        }
-    }
-    s.len()
+    s.iter().position(|&x| x == b).unwrap_or(s.len())
 }
 
-// The place behind the first ` A `, where the answer begins.
-pub fn answer_start(line: &[u8]) -> Option<usize>
-    ensures { IfSome result (λ n. (3 ≤ n) × (n ≤ length line.now)) }
+// What stands before the first ` A `, and the answer behind it.
+pub fn split_answer(line: &[u8]) -> Option<(&[u8], &[u8])>
+    ensures { IfSome result (λ r. length r.0.now + 3 + length r.1.now ≡ length line.now) }
 {
+    // By a pattern: with `==` the literal, an array, has to be made a slice.
     let before = line.windows(3).position(|w| matches!(w, b" A "))?;
-    Some(before + 3)
+    Some((&line[..before], &line[before + 3..]))
 }
 
-// The number of fields: one more than there are spaces.
+// The number of fields: one more than there are spaces. A request of another number than its kind has is none; as an array of N, its fields would be taken
+// one by one in a loop, and the number asked all the same.
 pub fn field_count(s: &[u8]) -> usize {
     s.split(|&b| b == b' ').count()
 }
 
-// The place behind the first k separators, or the length of s where there are fewer.
-pub fn part_start(s: &[u8], k: usize, separator: u8) -> usize
-    ensures { result ≤ length s.now }
+// What stands behind the first separator; empty where there is none.
+fn behind_first(s: &[u8], separator: u8) -> &[u8]
+    ensures { (front : List ℕ) × (front ++ result.now ≡ s.now) }
 {
-    let mut left = k;
-    for (i, &b) in s.iter().enumerate() {
-        if left == 0 {
-            return i;
-        }
-        if b == separator {
-            left -= 1;
-        }
+    match cut(s, separator).1 {
+        [_, rest @ ..] => rest,
+        [] => &[],
     }
-    s.len()
+}
+
+// What stands behind the first k separators; empty where there are fewer.
+pub fn behind_parts(s: &[u8], k: usize, separator: u8) -> &[u8]
+    ensures { (front : List ℕ) × (front ++ result.now ≡ s.now) }
+{
+    let mut behind = s;
+    for _ in 0..k {
+        behind = behind_first(behind, separator);
+    }
+    behind
 }
 
 // What stands behind k separators, up to the next; empty where there are fewer.
@@ -62,51 +74,29 @@ pub fn field(s: &[u8], k: usize) -> &[u8] {
 }
 
 // A decimal number up to `most`, as the list writes it: digits only, no leading zero.
+#[tactic(auto, using(crate::proofs::Decimal::printed_number))]
 pub fn number(s: &[u8], most: usize) -> Option<usize>
     requires { most < 4294967296 }
     ensures bound { IfSome result (λ n. n ≤ most) }
     ensures number { IfSome result (IsNumber s.now) }
 {
-    match s {
-        [] => return None,
-        b"0" => return Some(0),
-        [b'0', ..] => return None,
-        _ => {}
-    }
-    let mut n: usize = 0;
-    for &b in s {
-        let next = n * 10 + decimal_value(b)?;
-        if next > most {
-            return None;
-        }
-        n = next;
-    }
-    Some(n)
+    let n = read(s)?;
+    (n <= most).then_some(n)
 }
 
-// The value of a decimal digit.
-fn decimal_value(b: u8) -> Option<usize>
-    ensures { IfSome result (λ d. (d ≤ 9) × (48 + d ≡ b)) }
-{
-    match b {
-        b'0'..=b'9' => Some((b - b'0') as usize),
-        _ => None,
-    }
-}
-
-// The value of an upper-case hexadecimal digit.
+// The value of an upper-case hexadecimal digit. `to_digit` would take small letters too, and answers 32 bits.
 pub fn hex_value(b: u8) -> Option<u8>
     ensures { IfSome result (λ d. (d < 16) × (hex_digit d ≡ b)) }
 {
     match b {
         b'0'..=b'9' => Some(b - b'0'),
-        b'A'..=b'F' => Some(b - 0x37),
+        b'A'..=b'F' => Some(b - b'A' + 10),
         _ => None,
     }
 }
 
-// The byte of two digits.
-fn hex_pair(high: u8, low: u8) -> Option<u8>
+// The byte of two digits. Two parameters: two of the three callers have the digits by name, from a pattern.
+pub(crate) fn hex_pair(high: u8, low: u8) -> Option<u8>
     ensures { IfSome result (λ b. (b < 256) × (hex_digit (b / 16) ≡ high) × (hex_digit (b % 16) ≡ low)) }
 {
     let h = hex_value(high)?;
@@ -114,59 +104,56 @@ fn hex_pair(high: u8, low: u8) -> Option<u8>
     Some(16 * h + l)
 }
 
-// The bytes of a field, put at the beginning of out, and their count. Two digits a byte, and `-` for no bytes.
-pub fn bytes(s: &[u8], out: &mut [u8]) -> Option<usize>
-    ensures fits { IfSome result (λ n. n ≤ length out.new) }
-    ensures bytes { IfSome result (λ n. bytes_field (take n out.new) ≡ s.now) }
+// The bytes of a field, put at the beginning of out. Two digits a byte, and `-` for no bytes.
+#[tactic(auto, using(crate::proofs::Hex::as_some_field))]
+pub fn bytes<'a>(s: &[u8], out: &'a mut [u8]) -> Option<&'a [u8]>
+    ensures bytes { IfSome result (λ bs. bytes_field bs.now ≡ s.now) }
+    ensures fits { IfSome result (λ bs. length bs.now ≤ length out.old) }
 {
-    if s.is_empty() {
-        return None;
-    }
     match s {
-        b"-" => Some(0),
-        _ => hex_bytes(s, out),
+        b"-" => Some(&[]),
+        [_, ..] => hex_bytes(s, out),
+        [] => None,
     }
 }
 
-fn hex_bytes(s: &[u8], out: &mut [u8]) -> Option<usize>
-    ensures fits { IfSome result (λ n. n ≤ length out.new) }
-    ensures bytes { IfSome result (λ n. hex_text (take n out.new) ≡ s.now) }
+fn hex_bytes<'a>(s: &[u8], out: &'a mut [u8]) -> Option<&'a [u8]>
+    ensures bytes { IfSome result (λ bs. hex_text bs.now ≡ s.now) }
+    ensures fits { IfSome result (λ bs. length bs.now ≤ length out.old) }
 {
     let n = s.len() / 2;
     if out.len() < n || 2 * n < s.len() {
         return None;
     }
+    // By places. Tried over as_chunks::<2>() zipped with `out.iter_mut()`: `search` did not close it, for want of an invariant that ties both places.
     for i in 0..n {
         out[i] = hex_pair(s[2 * i], s[2 * i + 1])?;
     }
-    Some(n)
+    Some(&out[..n])
 }
 
 // The bytes of a field that may also write one byte many times, as `00*1048577`.
-pub fn bytes_or_repeated(s: &[u8], out: &mut [u8]) -> Option<usize>
-    ensures fits { IfSome result (λ n. n ≤ length out.new) }
-    ensures bytes { IfSome result (λ n. Says s.now (take n out.new)) }
+pub fn bytes_or_repeated<'a>(s: &[u8], out: &'a mut [u8]) -> Option<&'a [u8]>
+    ensures bytes { IfSome result (λ bs. Says s.now bs.now) }
+    ensures fits { IfSome result (λ bs. length bs.now ≤ length out.old) }
 {
-    let star = find(s, 0, b'*');
-    if star == s.len() {
-        return bytes(s, out);
+    let (pair, rest) = cut(s, b'*');
+    match rest {
+        [] => bytes(s, out),
+        [_, times @ ..] => repeated(pair, times, out),
     }
-    repeated(&s[0..star], &s[star + 1..], out)
 }
 
 // The byte that two digits write, so many times.
-fn repeated(pair: &[u8], times: &[u8], out: &mut [u8]) -> Option<usize>
-    ensures fits { IfSome result (λ n. n ≤ length out.new) }
-    ensures bytes { IfSome result (λ n. Repeats pair.now times.now (take n out.new)) }
+fn repeated<'a>(pair: &[u8], times: &[u8], out: &'a mut [u8]) -> Option<&'a [u8]>
+    ensures bytes { IfSome result (λ bs. Repeats pair.now times.now bs.now) }
+    ensures fits { IfSome result (λ bs. length bs.now ≤ length out.old) }
 {
     let &[high, low] = pair else {
         return None;
     };
     let b = hex_pair(high, low)?;
-    let n = number(times, MOST_TIMES)?;
-    if out.len() < n {
-        return None;
-    }
-    out[..n].fill(b);
-    Some(n)
+    let bytes = out.get_mut(..number(times, MOST_TIMES)?)?;
+    bytes.fill(b);
+    Some(bytes)
 }

@@ -19,7 +19,8 @@ impl fmt::Display for BytesField<'_> {
     }
 }
 
-// A value: its mark, and a number in decimal, a float's bits in hexadecimal, or a text's bytes; of bytes of the row, their place before them.
+// A value: its mark, and a number in decimal, a float's bits in hexadecimal, or a text's bytes; of bytes of the row, their place before them. The marks stand
+// in the arms: a function of them would match the same kinds a second time.
 #[derive(Clone, Copy)]
 struct ValueField<'a> {
     value: Db2Value,
@@ -60,16 +61,17 @@ struct Externals<'a>(&'a [ValuePlace]);
 
 impl fmt::Display for Externals<'_> {
     fn fmt<W: fmt::Write>(&self, f: &mut fmt::Formatter<W>) -> fmt::Result {
-        let mut is_first = true;
-        for (i, place) in self.0.iter().enumerate() {
-            if place.external {
-                let separator = if is_first { "" } else { "," };
-                write!(f, "{separator}{i}")?;
-                is_first = false;
-            }
-        }
-        if is_first {
-            f.write_str("-")?;
+        let mut externals = self
+            .0
+            .iter()
+            .enumerate()
+            .filter(|(_, place)| place.external);
+        let Some((first, _)) = externals.next() else {
+            return f.write_str("-");
+        };
+        write!(f, "{first}")?;
+        for (i, _) in externals {
+            write!(f, ",{i}")?;
         }
         Ok(())
     }
@@ -82,6 +84,7 @@ pub struct AnswerLine<'a> {
     pub answer: &'a Result<Row, Refusal>,
     pub full: bool,
     pub count: usize,
+    // Apart, as `value_bytes`, which README has, takes them.
     pub row: &'a [u8],
     pub text: &'a [u8],
 }

@@ -12,6 +12,15 @@ pub struct Written {
     pub replaced: usize,
 }
 
+impl Written {
+    // A text for which no U+FFFD was put in.
+    pub fn unreplaced(len: usize) -> Written
+        ensures { result ≡ record { len = len; replaced = 0 } }
+    {
+        Written { len, replaced: 0 }
+    }
+}
+
 // Writes src into out, from its first byte, and returns the number of bytes written.
 pub fn copy(src: &[u8], out: &mut [u8]) -> usize
     requires { length src.now ≤ length out.old }

@@ -5,41 +5,31 @@
 ghost use Rattle.std.specs.Prelude.{◌≡◌, ◌<◌, cond, ◌%◌};
 ghost use Rattle.refusal.specs.Refusal.{told_number};
 ghost use Rattle.types.specs.Places.{max_columns};
-ghost use Rattle.qrydsc.specs.Qrydsc.{description, whole_description};
+ghost use Rattle.qrydsc.specs.Qrydsc.{told_description, description, whole_description};
 ghost use Rattle.rules.specs.Row.{told_row};
 ghost use Rattle.rules.specs.Conversions.{row_answer, row_text};
 ghost use Rattle.by_value.specs.ByValue.{length_at, number_at};
 
+use qrydsc::Description;
 use refusal::Refusal;
-use types::{ByteOrder, ColumnDescriptor, Columns, Db2Type, MAX_COLUMNS, Origin, Row};
+use types::{Columns, MAX_COLUMNS, Row};
 use words::value_words;
 
-// The columns of a refused description: none.
-const NO_COLUMNS: Columns = Columns {
-    columns: [ColumnDescriptor {
-        column_index: 0,
-        drda_type: 0,
-        length: 0,
-        precision: 0,
-        scale: 0,
-        nullable: false,
-        origin: Origin::Sda,
-        ccsid: 0,
-        db2_type: Db2Type::Null,
-        byte_order: ByteOrder::BigEndian,
-        extdta_reference_length: None,
-    }; MAX_COLUMNS],
-    count: 0,
-};
+// The length of the column at a place of an answer's list; 0 after a refusal. Each function has a match of its own, since each hands out another number.
+fn length_of(answer: &Result<Description, Refusal>, index: u64) -> u64
+    ensures { result ≡ length_at (told_description answer.now).columns (index % max_columns) }
+{
+    match answer {
+        Ok(d) => u64::from(d.columns.columns[index as usize % MAX_COLUMNS].length),
+        Err(_) => 0,
+    }
+}
 
 // The length of the column at a place of the list. The place is not known to the compiler: so every column is written.
 pub fn by_value_parse_qrydsc(data: &[u8], index: u64) -> u64
     ensures { result ≡ length_at (description «data».now).columns (index % max_columns) }
 {
-    match qrydsc::parse_qrydsc(data) {
-        Ok(d) => d.columns.columns[index as usize % MAX_COLUMNS].length as u64,
-        Err(_) => 0,
-    }
+    length_of(&qrydsc::parse_qrydsc(data), index)
 }
 
 // How many columns there are. It is the second caller, without which parse_qrydsc would be compiled into the first, and what that does not look
@@ -67,17 +57,14 @@ pub fn by_value_broken_off(data: &[u8]) -> u64
 pub fn by_value_parse_whole_qrydsc(data: &[u8], index: u64) -> u64
     ensures { result ≡ length_at (whole_description «data».now).columns (index % max_columns) }
 {
-    match qrydsc::parse_whole_qrydsc(data) {
-        Ok(d) => d.columns.columns[index as usize % MAX_COLUMNS].length as u64,
-        Err(_) => 0,
-    }
+    length_of(&qrydsc::parse_whole_qrydsc(data), index)
 }
 
 // Its refusal's number, or 0.
 pub fn by_value_whole_number(data: &[u8]) -> u64
     ensures { result ≡ told_number (whole_description «data».now).outcome }
 {
-    refusal::number(&qrydsc::parse_whole_qrydsc(data)) as u64
+    u64::from(refusal::number(&qrydsc::parse_whole_qrydsc(data)))
 }
 
 // The columns of a description, none after a refusal.
@@ -86,7 +73,7 @@ fn columns_of(described: &[u8]) -> Columns
 {
     match qrydsc::parse_qrydsc(described) {
         Ok(d) => d.columns,
-        Err(_) => NO_COLUMNS,
+        Err(_) => Columns::default(),
     }
 }
 

@@ -52,12 +52,11 @@ fn within(value: Db2Value) -> ValuePlace {
     }
 }
 
-// Whether the first two value places are these, and all the others blank.
-fn has_values(answer: &Row, first: ValuePlace, second: ValuePlace) -> bool {
-    let mut want = [within(Db2Value::Null); MAX_COLUMNS];
-    want[0] = first;
-    want[1] = second;
-    want.iter().eq(&answer.places)
+// Whether the first value places are these, and all the others blank.
+fn has_values(got: &[ValuePlace], values: &[ValuePlace]) -> bool {
+    got.strip_prefix(values).is_some_and(|behind| behind
+        .iter()
+        .all(|&place| place == within(Db2Value::Null)))
 }
 
 // Whether the buffer holds these texts, and behind them what it held before.
@@ -66,80 +65,49 @@ fn has_text(got: &[u8], texts: &[u8]) -> bool {
         .is_some_and(|behind| behind.iter().all(|&b| b == BEFORE))
 }
 
-// Whether value_bytes shows these bytes of the value at a place.
-fn has_bytes(d: &Decoded, row: &[u8], value: ValuePlace, bytes: &[u8]) -> bool {
-    row::value_bytes(value.value, row, &d.text) == bytes
-}
-
-// The accepted row, where all but the values' bytes is as in the table: so many columns, these values, texts and bytes used.
-fn accepted_row<'a>(
-    d: &'a Decoded,
-    columns: usize,
-    first: ValuePlace,
-    second: ValuePlace,
-    texts: &[u8],
-    used: usize,
-) -> Option<&'a Row> {
-    d.answer.as_ref().ok().filter(|answer| {
-        d.columns == columns
-            && answer.used == used
-            && answer.replaced == 0
-            && has_values(answer, first, second)
-            && has_text(&d.text, texts)
-    })
-}
-
-// A description of one column and a row: its value, the texts, the bytes of the value, the bytes used. None where it is not so.
-fn as_one(
+// Whether a row is accepted as in the table: with a column for each of these values, and of each the bytes that value_bytes shows; with these texts and
+// bytes used. A case hands each of them on once: as structs they would be written out, field by field, at every call.
+fn is_accepted(
     description: &[u8],
     row: &[u8],
-    value: ValuePlace,
+    values: &[ValuePlace],
     texts: &[u8],
-    bytes: &[u8],
+    bytes: &[&[u8]],
     used: usize,
-) -> Option<bool> {
-    let d = decode(description, row)?;
-    let answer = accepted_row(&d, 1, value, within(Db2Value::Null), texts, used)?;
-    Some(has_bytes(&d, row, answer.places[0], bytes))
-}
-
-// A description of two columns, the first a number or Null, and a row.
-fn as_two(
-    description: &[u8],
-    row: &[u8],
-    first: ValuePlace,
-    second: ValuePlace,
-    texts: &[u8],
-    bytes: &[u8],
-    used: usize,
-) -> Option<bool> {
-    let d = decode(description, row)?;
-    let answer = accepted_row(&d, 2, first, second, texts, used)?;
-    let is_first = has_bytes(&d, row, answer.places[0], b"");
-    Some(is_first && has_bytes(&d, row, answer.places[1], bytes))
+) -> bool {
+    let Some(d) = decode(description, row) else {
+        return false;
+    };
+    let Ok(answer) = &d.answer else {
+        return false;
+    };
+    d.columns == values.len()
+        && answer.used == used
+        && answer.replaced == 0
+        && has_values(&answer.places, values)
+        && has_text(&d.text, texts)
+        && values.iter().zip(bytes).all(|(place, &shown)| row::value_bytes(
+            place.value,
+            row,
+            &d.text,
+        ) == shown)
 }
 
 // A description of one column and a row that is too short for it: no byte is written.
 fn is_short(description: &[u8], row: &[u8], expected: usize, actual: usize) -> bool {
     let short = Refusal::BufferTooShort { expected, actual };
-    match decode(description, row) {
-        Some(d) => {
-            let is_refused = matches!(d.answer, Err(refusal) if refusal == short);
-            is_refused && d.columns == 1 && has_text(&d.text, b"")
-        }
-        None => false,
-    }
+    decode(description, row).is_some_and(|d| {
+        let is_refused = matches!(d.answer, Err(refusal) if refusal == short);
+        is_refused && d.columns == 1 && has_text(&d.text, b"")
+    })
 }
 
 // A packed decimal of this scale, and its text.
 fn is_decimal(data: &[u8], scale: u8, want: &[u8]) -> bool {
     let mut text = [BEFORE; TEXT];
-    match decimal::decode_packed_decimal(data, PRECISION, scale, &mut text) {
-        Ok(written) => {
-            written.len == want.len() && written.replaced == 0 && has_text(&text, want)
-        }
-        Err(_) => false,
-    }
+    decimal::decode_packed_decimal(data, PRECISION, scale, &mut text).is_ok_and(|written| {
+        written.len == want.len() && written.replaced == 0 && has_text(&text, want)
+    })
 }
 
 fn tell(out: Stdout, letter: u8, is_same: bool) {
@@ -147,7 +115,7 @@ fn tell(out: Stdout, letter: u8, is_same: bool) {
     let _ = println!(out; "{} {verdict}", char::from(letter));
 }
 
-// A case of one column.
+// A case of one column. It and `two` make the lists that their contracts and is_accepted speak of, so that a case is written without them.
 fn one(
     out: Stdout,
     letter: u8,
@@ -165,7 +133,7 @@ fn one(
     tell(
         out,
         letter,
-        as_one(description, row, place, texts, bytes, used) == Some(true),
+        is_accepted(description, row, &[place], texts, &[bytes], used),
     );
 }
 
@@ -183,12 +151,11 @@ fn two(
 )
     requires { IsEdge letter (Given.row_case description.now row.now) (values (within_row first ∷ within_row second ∷ []) texts.now ([] ∷ bytes.now ∷ []) used) }
 {
-    let place = within(first);
-    let next = within(second);
+    let places = [within(first), within(second)];
     tell(
         out,
         letter,
-        as_two(description, row, place, next, texts, bytes, used) == Some(true),
+        is_accepted(description, row, &places, texts, &[b"", bytes], used),
     );
 }
 
@@ -212,6 +179,8 @@ fn packed_decimal(out: Stdout, letter: u8, data: &[u8], scale: u8, want: &[u8])
 {
     tell(out, letter, is_decimal(data, scale, want));
 }
+
+// Each case is a function of its own, and no place of a table: so what is wrong in one is refused by its letter.
 
 // The descriptions that several cases share.
 const SMALL_INT_AND_DECIMAL: [u8; 9] = [0x09, 0x76, 0xD0, 0x05, 0x00, 0x02, 0x0F, 0x05, 0x02];

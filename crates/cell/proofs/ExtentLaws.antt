@@ -47,10 +47,6 @@ says_two s e = go (leb 2 (length s)) refl e
     go true l f = leb-true 2 (length s) l
     go false l f = absurd (true≢false (sym f))
 
-pub header_said : (n : ℕ) (s : List ℕ) (t : Bool) → says_header s ≡ t → need (Header n) s ≡ cond t (2 + low15 (be16 s)) n
-unfolding need
-header_said n s t e = rw e
-
 -- a reference that is short has fewer bytes than declared
 short_below : (n : ℕ) (s : List ℕ) → is_short_reference n s ≡ true → length s < n
 unfolding is_short_reference
@@ -120,16 +116,6 @@ unit_small type.Xml c = lob_small c.extdta_reference_length Inline (omega arith)
 unit_small type.Null c = omega arith
 
 -- ---- the most bytes that a value takes
-
-length_size : (n : ℕ) → size_of (length_extent n) ≤ 0
-length_size n = go (eqb n 0)
-  where
-    go : (t : Bool) → size_of (cond t Locator Inline) ≤ 0
-    go true = omega arith
-    go false = omega arith
-
-pub length_result : (e : Extent) (n : ℕ) → e ≡ length_extent n → size_of e ≤ 0
-length_result e n h = rw h (length_size n)
 
 module _ (s : List ℕ) (b : (i : ℕ) → get_or s i 0 < 256) where
   be16_most : be16 s ≤ 65535

@@ -4,11 +4,11 @@ use Rattle.std.specs.Prelude.{None, Option}
 use Prim.Native.Nat.{ℕ, ◌+◌, ◌-◌, ◌≤◌, ◌<◌}
 use mathlib.Core.Path.{◌≡◌, refl, sym, ◌∙◌, subst}
 use mathlib.Core.Bool.{Bool, true, false, cond, ◌&&◌, true≢false}
-use mathlib.Core.List.{List}
+use mathlib.Core.List.{List, []}
 use native.Mathlib.Omega.{arith}
 use native.Mathlib.Nat.{sub-zero}
-use lib.ListN.{length, get_or, take, drop, length-drop}
-use lib.Seq.{take_all, length-take-le}
+use lib.ListN.{length, get_or, take, drop}
+use lib.Seq.{length-take-le}
 use lib.Dec.{leb, eqb}
 use borrow.Author.Tests.{leb-true}
 use Rattle.types.specs.declared.Db2Type.{Db2Type}
@@ -17,14 +17,15 @@ use Rattle.refusal.specs.Refusal.{most_bytes}
 use Rattle.types.specs.FixedLength.{packed_length}
 use Rattle.rules.specs.declared.Extent.TheVariants.{Fixed, Counted, Inline, Locator}
 use Rattle.rules.specs.Extent.{be32, is_reference, reference_mark, lob_need, need, lob_extent, length_extent, type_extent, extent_of}
-use Rattle.rules.specs.Meaning.{ByteSort, Item, type_item, item_in}
+use Rattle.rules.specs.Meaning.{ByteSort, Item, lob_empty, lob_reference, lob_inline, type_item, item_in}
 use Rattle.rules.specs.Conversions.{conversions_of}
 use Rattle.rules.proofs.Extents.{cuts}
 use Rattle.cell.specs.declared.CellItem.{CellItem}
-use Rattle.cell.specs.Cell.{Holds}
-
-pub all_from : (from : ℕ) (s : List ℕ) → take (length s - from) (drop from s) ≡ drop from s
-all_from from s = take_all (length s - from) (drop from s) (omega (arith, length-drop from s))
+use Rattle.cell.specs.declared.LobKind.TheVariants.{Text}
+use Rattle.cell.specs.declared.LobText.{LobText}
+use Rattle.cell.specs.declared.LobText.TheVariants as lobs
+use Rattle.cell.specs.Cell.{text_sort, lob_sort, lob_of, Holds}
+use Rattle.buffer.specs.Buffer.{unreplaced}
 
 pub reference_nine : (s : List ℕ) → is_reference s ≡ true → 9 ≤ length s
 unfolding is_reference
@@ -91,6 +92,23 @@ module _ (r : Option ℕ) (s : List ℕ) where
 
   pub absent_xml : need (lob_extent r Inline) s ≡ length s → r ≡ None → 4 ≤ length s
   absent_xml h a = inline_there s (subst (λ (x : Option ℕ). need (lob_extent x Inline) s ≡ length s) a h)
+
+-- the LOBs whose values are texts
+pub text_empty : (k : LobText) → Item.text (text_sort (lob_sort k)) (unreplaced []) ≡ lob_empty (lob_of (Text k))
+unfolding lob_empty
+text_empty lobs.Clob = refl
+text_empty lobs.Xml = refl
+
+module _ (release : ℕ) (s : List ℕ) where
+  pub text_reference : (k : LobText) → Item.text (text_sort (lob_sort k)) ((conversions_of release).locator s) ≡ lob_reference (conversions_of release) (lob_of (Text k)) s
+  unfolding lob_reference
+  text_reference lobs.Clob = refl
+  text_reference lobs.Xml = refl
+
+  pub text_inline : (k : LobText) → Item.text (text_sort (lob_sort k)) ((conversions_of release).inline_text (drop 4 s)) ≡ lob_inline (conversions_of release) (lob_of (Text k)) s
+  unfolding lob_inline
+  text_inline lobs.Clob = refl
+  text_inline lobs.Xml = refl
 
 -- the bytes that a value takes are all that it takes of them
 pub cut_there : (c : ColumnDescriptor) (s : List ℕ) (n : ℕ) → n ≡ need (extent_of c) s → n ≤ length s → need (extent_of c) (take n s) ≡ length (take n s)

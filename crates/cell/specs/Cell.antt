@@ -23,6 +23,8 @@ use Rattle.cell.specs.declared.Reading.{Reading}
 use Rattle.cell.specs.declared.Reading.TheVariants.{By, Packed}
 use Rattle.cell.specs.declared.LobKind.{LobKind}
 use Rattle.cell.specs.declared.LobKind.TheVariants as kinds
+use Rattle.cell.specs.declared.LobText.{LobText}
+use Rattle.cell.specs.declared.LobText.TheVariants as lobs
 use Rattle.cell.specs.declared.CellItem.{CellItem}
 use Rattle.cell.specs.declared.CellItem.TheVariants.{Nothing, Boolean, Part, Text}
 use Rattle.cell.specs.declared.OtherValue.{OtherValue}
@@ -45,9 +47,14 @@ text_sort texts.Timestamp = meaning.TextSort.timestamp
 text_sort texts.Xml = meaning.TextSort.xml
 
 abbrev pub lob_of : LobKind → meaning.Lob
-lob_of kinds.Blobs = meaning.Lob.blobs
-lob_of kinds.Clobs = meaning.Lob.clobs
-lob_of kinds.Xmls = meaning.Lob.xmls
+lob_of kinds.Blob = meaning.Lob.blobs
+lob_of (kinds.Text lobs.Clob) = meaning.Lob.clobs
+lob_of (kinds.Text lobs.Xml) = meaning.Lob.xmls
+
+-- the sort of their texts
+abbrev pub lob_sort : LobText → TextSort
+lob_sort lobs.Clob = texts.Clob
+lob_sort lobs.Xml = texts.Xml
 
 -- the types whose values are numbers
 abbrev pub is_number : Db2Type → Bool
@@ -102,5 +109,5 @@ OtherIs release d c s =
     × ((d.used ≡ need (extent_of c) s) × (d.external ≡ meaning.refers_in (conversions_of release) c (taken c s)))
 
 abbrev pub ValueIs : ℕ → ColumnValue → ColumnDescriptor → List ℕ → Type 0
-ValueIs release (Number v used) c s = NumberIs release v c s × (used ≡ need (extent_of c) s)
+ValueIs release (Number n) c s = NumberIs release n.value c s × (n.used ≡ need (extent_of c) s)
 ValueIs release (Other d) c s = OtherIs release d c s

@@ -12,7 +12,7 @@ use numbers::{u16_of, u32_of};
 use rules::Extent;
 use types::{ByteOrder, ColumnDescriptor, Db2Type};
 
-// How many bytes values of these types take.
+// How many bytes values of these types take. The row call goes by these and by the column, and not by Db2Type::fixed_length: as the Rust has both.
 pub const SMALL_INT: usize = 2;
 
 pub const INTEGER: usize = 4;
@@ -75,7 +75,7 @@ pub fn counted_need(unit: usize, s: &[u8]) -> usize
     if s.len() < 2 {
         return 2;
     }
-    2 + unit * u16_of(s, ByteOrder::BigEndian) as usize
+    2 + unit * usize::from(u16_of(s, ByteOrder::BigEndian))
 }
 
 #[tactic(auto, using(crate::proofs::ExtentLaws::says_two), unfolding(rules::specs::Extent::need))]
@@ -83,7 +83,7 @@ fn header_need(n: usize, s: &[u8]) -> usize
     ensures { result ≡ need (Extent.Header n) s.now }
 {
     if says_header(s) {
-        2 + (u16_of(s, ByteOrder::BigEndian) % 0x8000) as usize
+        2 + usize::from(u16_of(s, ByteOrder::BigEndian) % 0x8000)
     } else {
         n
     }
@@ -122,11 +122,12 @@ fn extent_need(extent: Extent, s: &[u8]) -> usize
     }
 }
 
+// Bit 8000 is asked for here and elsewhere by `0x8000 <= n` and taken off by `n % 0x8000`: a call would be as long.
 fn varying_extent(n: u16, unit: usize) -> Extent
     ensures { (result ≡ varying_extent n unit) × (size_of result ≤ most_size) }
 {
     if 0x8000 <= n {
-        Extent::Header((n % 0x8000) as usize)
+        Extent::Header(usize::from(n % 0x8000))
     } else {
         Extent::Counted(unit)
     }
@@ -146,22 +147,23 @@ fn lob_extent(reference: Option<u16>, other: Extent) -> Extent
     ensures { (result ≡ lob_extent reference other) × (size_of result ≤ size_of other + 65535) }
 {
     match reference {
-        Some(w) => Extent::Fixed(w as usize),
+        Some(w) => Extent::Fixed(usize::from(w)),
         None => other,
     }
 }
 
+// The one expression stands in types too, which has no bounds of it.
 pub fn decimal_need(precision: u8) -> usize
     ensures { (result ≡ packed_length precision) × ((0 < result) × (result ≤ most_bytes)) }
 {
-    (precision as usize + 2) / 2
+    (usize::from(precision) + 2) / 2
 }
 
 // A column's length, or another where it is 0.
 fn length_or(n: u16, other: usize) -> usize
     ensures { (result ≡ cond (eqb n 0) other n) × (result ≤ other + 65535) }
 {
-    if n == 0 { other } else { n as usize }
+    if n == 0 { other } else { usize::from(n) }
 }
 
 pub fn timestamp_need(length: u16) -> usize
@@ -175,13 +177,9 @@ fn extent_of(column: ColumnDescriptor) -> Extent
     requires { is_number column.db2_type ≡ false }
     ensures { (result ≡ extent_of column) × (size_of result ≤ most_size) }
 {
-    let t = column.db2_type;
     let length = column.length;
-    match t {
-        Db2Type::Decimal {
-            precision,
-            scale: _,
-        } => Extent::Fixed(decimal_need(precision)),
+    match column.db2_type {
+        Db2Type::Decimal { precision, .. } => Extent::Fixed(decimal_need(precision)),
         Db2Type::DecFloat(digits) => {
             if 34 <= digits {
                 Extent::Fixed(16)
@@ -189,31 +187,32 @@ fn extent_of(column: ColumnDescriptor) -> Extent
                 Extent::Fixed(8)
             }
         }
-        Db2Type::Char(n) => Extent::Fixed(n as usize),
+        Db2Type::Char(n) => Extent::Fixed(usize::from(n)),
         Db2Type::VarChar(n) => varying_extent(n, 1),
         Db2Type::LongVarChar => Extent::Counted(1),
         Db2Type::Blob | Db2Type::Clob | Db2Type::DbClob => {
             lob_extent(column.extdta_reference_length, length_extent(length))
         }
-        Db2Type::Binary(n) => Extent::Fixed(n as usize),
+        Db2Type::Binary(n) => Extent::Fixed(usize::from(n)),
         Db2Type::VarBinary(_) => Extent::Counted(1),
         Db2Type::BlobLocator | Db2Type::ClobLocator | Db2Type::DbClobLocator => Extent::Fixed(4),
         Db2Type::Date => Extent::Fixed(DATE),
         Db2Type::Time => Extent::Fixed(TIME),
         Db2Type::Timestamp => Extent::Fixed(timestamp_need(length)),
-        Db2Type::Graphic(n) => Extent::Fixed(column.graphic_unit() * n as usize),
+        Db2Type::Graphic(n) => Extent::Fixed(column.graphic_unit() * usize::from(n)),
         Db2Type::VarGraphic(n) => varying_extent(n, column.graphic_unit()),
         Db2Type::LobBytes(n) | Db2Type::LobChar(n) => {
-            Extent::Materialized((n % 0x8000) as usize)
+            Extent::Materialized(usize::from(n % 0x8000))
         }
-        Db2Type::RowId(n) => Extent::Fixed(n as usize),
+        Db2Type::RowId(n) => Extent::Fixed(usize::from(n)),
         Db2Type::Boolean => Extent::Fixed(length_or(length, 1)),
         Db2Type::Xml => lob_extent(column.extdta_reference_length, Extent::Inline),
         _ => Extent::Fixed(0),
     }
 }
 
-// How many bytes a value takes of the rest of the row that is no number.
+// How many bytes a value takes of the rest of the row that is no number. The rest and the column stay two parameters here and in what decodes a value: rule G8 has a
+// value depend on these two alone.
 pub fn other_need(rest: &[u8], column: ColumnDescriptor) -> usize
     requires { is_number column.db2_type ≡ false }
     ensures { (result ≡ need (extent_of column) rest.now) × (result ≤ most_need) }
@@ -240,8 +239,7 @@ pub fn number_width(t: Db2Type) -> Option<usize>
 pub fn column_need(rest: &[u8], column: ColumnDescriptor) -> usize
     ensures { (result ≡ need (extent_of column) rest.now) × (result ≤ most_need) }
 {
-    let t = column.db2_type;
-    match number_width(t) {
+    match number_width(column.db2_type) {
         Some(n) => n,
         None => other_need(rest, column),
     }

@@ -7,7 +7,7 @@ pub mod refers;
 
 ghost use Rattle.std.specs.Prelude.{◌≡◌, false, List, [], ℕ, ◌<◌, ◌≤◌, ◌-◌, length, drop, None};
 ghost use Rattle.types.specs.Names.{bit8000};
-ghost use Rattle.rules.specs.Meaning.{Item, Lob, lob_empty, lob_reference, lob_inline, declared_lob, undeclared_lob, lob_item, header_in, header_item, lob_bytes_item, lob_char_item, item_in};
+ghost use Rattle.rules.specs.Meaning.{Item, Lob, lob_empty, lob_reference, lob_inline, declared_lob, undeclared_lob, lob_item, header_in, header_item, lob_bytes_item, lob_char_item, varying_item, item_in};
 ghost use Rattle.rules.specs.Extent.{need, extent_of};
 ghost use Rattle.rules.specs.Conversions.{conversions_of};
 ghost use Rattle.buffer.specs.Buffer.{unreplaced};
@@ -15,7 +15,7 @@ ghost use Rattle.conversion.specs.Conversion.{characters_by};
 ghost use Rattle.refusal.specs.Refusal.{most_bytes};
 ghost use Rattle.types.specs.declared.Db2Type.{Db2Type};
 ghost use Rattle.cell.specs.declared.TextSort.{TextSort};
-ghost use Rattle.cell.specs.Cell.{byte_sort, text_sort, lob_of, decoded, Holds, Means, MeansBy, is_number, OtherIs, ValueIs};
+ghost use Rattle.cell.specs.Cell.{byte_sort, text_sort, lob_sort, lob_of, decoded, Holds, Means, MeansBy, is_number, OtherIs, ValueIs};
 
 use extents::{
     BIG_INT, DOUBLE, INTEGER, REAL, SMALL_INT, is_reference, is_short_reference, other_need,
@@ -64,15 +64,32 @@ pub enum Reading {
     Packed(u8),
 }
 
-// The kinds of LOB column: Blob; Clob and DbClob; Xml.
+// The kinds of LOB column: a Blob is a part, and the others are texts, Clob and DbClob alike.
 #[derive(Clone, Copy)]
 pub enum LobKind {
-    Blobs,
-    Clobs,
-    Xmls,
+    Blob,
+    Text(LobText),
 }
 
-// What a value is that is no number. Parts and texts are given by where they begin among the value's own bytes, and by their length.
+#[derive(Clone, Copy)]
+pub enum LobText {
+    Clob,
+    Xml,
+}
+
+impl LobText {
+    fn sort(self) -> TextSort
+        ensures { result ≡ lob_sort self }
+    {
+        match self {
+            LobText::Clob => TextSort::Clob,
+            LobText::Xml => TextSort::Xml,
+        }
+    }
+}
+
+// What a value is that is no number. Parts and texts are given by where they begin among the value's own bytes, and by their length: no Place, which is one of
+// the row or of the text buffer.
 #[derive(Clone, Copy)]
 pub enum CellItem {
     Nothing,
@@ -98,14 +115,22 @@ pub struct OtherValue {
     pub external: bool,
 }
 
-// A column's value: a number and how many bytes it takes, or another.
+// A number, and how many bytes it takes.
+#[derive(Clone, Copy)]
+pub struct NumberValue {
+    pub value: Db2Value,
+    pub used: usize,
+}
+
+// A column's value: a number, or another.
 #[derive(Clone, Copy)]
 pub enum ColumnValue {
-    Number { value: Db2Value, used: usize },
+    Number(NumberValue),
     Other(OtherValue),
 }
 
-// The text, or the part, that all bytes from a place on are.
+// The text, or the part, that all bytes from a place on are. Texts are made here, in characters, decimal_item and empty_text: each promises of them what its
+// callers ask, and a function below the four would be the variant's constructor again.
 fn text_from(sort: TextSort, encoding: Encoding, bytes: &[u8], from: usize) -> CellItem
     requires { from ≤ length bytes.now }
     ensures { (release : ℕ) → Holds release result bytes.now (Item.text (text_sort sort) (decoded release encoding (drop from bytes.now))) }
@@ -174,19 +199,18 @@ fn empty_text(sort: TextSort) -> CellItem
     }
 }
 
-// The Rust: empty_lob_value. A Blob is a part and the others are texts, here and below: one arm for two kinds would need a kind without Blob.
-#[tactic(auto, unfolding(rules::specs::Meaning::lob_empty))]
+// The Rust: empty_lob_value.
+#[tactic(auto, using(crate::proofs::ItemLaws::text_empty), unfolding(rules::specs::Meaning::lob_empty))]
 fn lob_empty(kind: LobKind) -> CellItem
     ensures { (release : ℕ) (s : List ℕ) → Holds release result s (lob_empty (lob_of kind)) }
 {
     match kind {
-        LobKind::Blobs => CellItem::Part {
+        LobKind::Blob => CellItem::Part {
             sort: ByteSort::Blob,
             from: 0,
             len: 0,
         },
-        LobKind::Clobs => empty_text(TextSort::Clob),
-        LobKind::Xmls => empty_text(TextSort::Xml),
+        LobKind::Text(text) => empty_text(text.sort()),
     }
 }
 
@@ -202,27 +226,25 @@ fn first_four(bytes: &[u8]) -> CellItem
 }
 
 // A reference or a locator: a Blob shows its first four bytes, the others a text.
-#[tactic(auto, unfolding(rules::specs::Meaning::lob_reference))]
+#[tactic(auto, using(crate::proofs::ItemLaws::text_reference), unfolding(rules::specs::Meaning::lob_reference))]
 fn lob_reference(kind: LobKind, bytes: &[u8]) -> CellItem
     ensures { (release : ℕ) → Holds release result bytes.now (lob_reference (conversions_of release) (lob_of kind) bytes.now) }
 {
     match kind {
-        LobKind::Blobs => first_four(bytes),
-        LobKind::Clobs => text_from(TextSort::Clob, Encoding::Locator, bytes, 0),
-        LobKind::Xmls => text_from(TextSort::Xml, Encoding::Locator, bytes, 0),
+        LobKind::Blob => first_four(bytes),
+        LobKind::Text(text) => text_from(text.sort(), Encoding::Locator, bytes, 0),
     }
 }
 
 // A LOB within the row: what stands behind its four bytes of length.
-#[tactic(auto, unfolding(rules::specs::Meaning::lob_inline))]
+#[tactic(auto, using(crate::proofs::ItemLaws::text_inline), unfolding(rules::specs::Meaning::lob_inline))]
 fn lob_inline(kind: LobKind, bytes: &[u8]) -> CellItem
     requires { 4 ≤ length bytes.now }
     ensures { (release : ℕ) → Holds release result bytes.now (lob_inline (conversions_of release) (lob_of kind) bytes.now) }
 {
     match kind {
-        LobKind::Blobs => part_from(ByteSort::Blob, bytes, 4),
-        LobKind::Clobs => text_from(TextSort::Clob, Encoding::Utf8, bytes, 4),
-        LobKind::Xmls => text_from(TextSort::Xml, Encoding::Utf8, bytes, 4),
+        LobKind::Blob => part_from(ByteSort::Blob, bytes, 4),
+        LobKind::Text(text) => text_from(text.sort(), Encoding::Utf8, bytes, 4),
     }
 }
 
@@ -309,54 +331,56 @@ fn lob_item(kind: LobKind, reference: Option<u16>, located: bool, bytes: &[u8]) 
     }
 }
 
+// A VarChar or a VarGraphic: a header where bit 8000 of its number is set, and else the text behind the two bytes that count.
+#[tactic(auto, unfolding(rules::specs::Meaning::varying_item))]
+fn varying_item(n: u16, encoding: Encoding, bytes: &[u8]) -> CellItem
+    requires { bit8000 n ≡ false → 2 ≤ length bytes.now }
+    ensures { (release : ℕ) → Holds release result bytes.now (varying_item (conversions_of release) n (decoded release encoding (drop 2 bytes.now)) bytes.now) }
+{
+    if 0x8000 <= n {
+        return header_item(bytes);
+    }
+    text_from(TextSort::VarChar, encoding, bytes, 2)
+}
+
 // What the bytes of a value mean that is no number, where they are all that it takes. A DecFloat is never read: refusal 5.
+// An arm says of its type the sort, the encoding and where the text begins; LobBytes and LobChar call functions of their own. An arm for several such types
+// would match the type again for what differs.
+#[tactic(auto, using(crate::proofs::ItemLaws::holds_by, crate::proofs::ItemLaws::need_by, crate::proofs::ItemLaws::packed_there, crate::proofs::ItemLaws::counted_there, crate::proofs::ItemLaws::absent_there, crate::proofs::ItemLaws::absent_xml, crate::proofs::ItemLaws::whole_part_lem))]
 fn item_of(bytes: &[u8], column: ColumnDescriptor) -> CellItem
     requires there { need (extent_of column) bytes.now ≡ length bytes.now }
     requires other { is_number column.db2_type ≡ false }
     ensures { (release : ℕ) → Holds release result bytes.now (item_in (conversions_of release) column bytes.now) }
 {
-    let t = column.db2_type;
     let length = column.length;
     let ccsid = column.ccsid;
     let reference = column.extdta_reference_length;
-    match t {
-        Db2Type::Decimal {
-            precision: _,
-            scale,
-        } => decimal_item(scale, bytes.len()),
+    match column.db2_type {
+        Db2Type::Decimal { scale, .. } => decimal_item(scale, bytes.len()),
         Db2Type::Char(_) => characters(TextSort::Char, ccsid, 0, bytes.len()),
-        Db2Type::VarChar(n) => {
-            if 0x8000 <= n {
-                header_item(bytes)
-            } else {
-                characters(TextSort::VarChar, ccsid, 2, bytes.len())
-            }
-        }
+        Db2Type::VarChar(n) => varying_item(n, Encoding::Characters(ccsid), bytes),
         Db2Type::LongVarChar => text_from(TextSort::VarChar, Encoding::Characters(ccsid), bytes, 2),
-        Db2Type::Clob => lob_item(LobKind::Clobs, reference, length == 0, bytes),
+        Db2Type::Clob | Db2Type::DbClob => {
+            lob_item(LobKind::Text(LobText::Clob), reference, length == 0, bytes)
+        }
         Db2Type::Binary(_) => part_from(ByteSort::Binary, bytes, 0),
         Db2Type::VarBinary(_) => part_from(ByteSort::Binary, bytes, 2),
-        Db2Type::Blob => lob_item(LobKind::Blobs, reference, length == 0, bytes),
-        Db2Type::BlobLocator => lob_reference(LobKind::Blobs, bytes),
+        Db2Type::Blob => lob_item(LobKind::Blob, reference, length == 0, bytes),
+        Db2Type::BlobLocator => lob_reference(LobKind::Blob, bytes),
         Db2Type::Date => characters(TextSort::Date, ccsid, 0, bytes.len()),
         Db2Type::Time => characters(TextSort::Time, ccsid, 0, bytes.len()),
         Db2Type::Timestamp => characters(TextSort::Timestamp, ccsid, 0, bytes.len()),
         Db2Type::Graphic(_) => text_from(TextSort::Char, Encoding::Graphics(ccsid), bytes, 0),
-        Db2Type::VarGraphic(n) => {
-            if 0x8000 <= n {
-                header_item(bytes)
-            } else {
-                text_from(TextSort::VarChar, Encoding::Graphics(ccsid), bytes, 2)
-            }
-        }
-        Db2Type::DbClob => lob_item(LobKind::Clobs, reference, length == 0, bytes),
-        Db2Type::ClobLocator => lob_reference(LobKind::Clobs, bytes),
-        Db2Type::DbClobLocator => lob_reference(LobKind::Clobs, bytes),
-        Db2Type::LobBytes(n) => lob_bytes_item((n % 0x8000) as usize, ccsid, bytes),
-        Db2Type::LobChar(n) => lob_char_item((n % 0x8000) as usize, ccsid, bytes),
+        Db2Type::VarGraphic(n) => varying_item(n, Encoding::Graphics(ccsid), bytes),
+        Db2Type::ClobLocator | Db2Type::DbClobLocator => lob_reference(
+            LobKind::Text(LobText::Clob),
+            bytes,
+        ),
+        Db2Type::LobBytes(n) => lob_bytes_item(usize::from(n % 0x8000), ccsid, bytes),
+        Db2Type::LobChar(n) => lob_char_item(usize::from(n % 0x8000), ccsid, bytes),
         Db2Type::RowId(_) => text_from(TextSort::RowId, Encoding::RowId, bytes, 0),
         Db2Type::Boolean => CellItem::Boolean(!all_zero(bytes)),
-        Db2Type::Xml => lob_item(LobKind::Xmls, reference, false, bytes),
+        Db2Type::Xml => lob_item(LobKind::Text(LobText::Xml), reference, false, bytes),
         _ => CellItem::Nothing,
     }
 }
@@ -377,34 +401,35 @@ pub fn decode_other_value(rest: &[u8], column: ColumnDescriptor) -> OtherValue
 }
 
 // The column's value at the beginning of the rest of the row, where its bytes are there (the Rust: decode_column_value). It is compiled into the loops
-// over columns. So a column is handed on in a copy made in the one arm that needs it: the numbers wait for no store.
+// over columns. So a column is handed on in a copy made in the one arm that needs it: the numbers wait for no store. The five numbers stand in extents::number_width and
+// twice in row_words too, there by tags: an enum of the five would be made by one match only to be taken apart by the next.
+#[tactic(auto, using(crate::proofs::NumberLaws::number_need))]
 pub fn decode_column_value(rest: &[u8], column: ColumnDescriptor) -> ColumnValue
     requires { need (extent_of column) rest.now ≤ length rest.now }
     ensures { (release : ℕ) → ValueIs release result column rest.now }
 {
-    let t = column.db2_type;
     let order = column.byte_order;
-    match t {
-        Db2Type::SmallInt => ColumnValue::Number {
+    match column.db2_type {
+        Db2Type::SmallInt => ColumnValue::Number(NumberValue {
             value: small_int(rest, order),
             used: SMALL_INT,
-        },
-        Db2Type::Integer => ColumnValue::Number {
+        }),
+        Db2Type::Integer => ColumnValue::Number(NumberValue {
             value: integer(rest, order),
             used: INTEGER,
-        },
-        Db2Type::BigInt => ColumnValue::Number {
+        }),
+        Db2Type::BigInt => ColumnValue::Number(NumberValue {
             value: big_int(rest, order),
             used: BIG_INT,
-        },
-        Db2Type::Real => ColumnValue::Number {
+        }),
+        Db2Type::Real => ColumnValue::Number(NumberValue {
             value: real(rest, order),
             used: REAL,
-        },
-        Db2Type::Double => ColumnValue::Number {
+        }),
+        Db2Type::Double => ColumnValue::Number(NumberValue {
             value: double(rest, order),
             used: DOUBLE,
-        },
+        }),
         _ => {
             let other = column;
             ColumnValue::Other(decode_other_value(rest, other))

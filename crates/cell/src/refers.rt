@@ -74,24 +74,25 @@ fn varying_refers(n: u16, bytes: &[u8]) -> bool
     0x8000 <= n && header_refers(bytes)
 }
 
-// Whether a value refers to data outside the row, where the bytes are all that it takes. An empty LOB does not.
+// Whether a value refers to data outside the row, where the bytes are all that it takes. An empty LOB does not. Apart from item_of, though both ask whether a LOB is
+// empty: one pass for both would have each maker of an item tell a flag, which most types do not have.
+#[tactic(auto, using(crate::proofs::ReferLaws::blob_refers, crate::proofs::ReferLaws::clob_refers, crate::proofs::ReferLaws::db_clob_refers, crate::proofs::ReferLaws::xml_refers, crate::proofs::ReferLaws::var_char_refers, crate::proofs::ReferLaws::var_graphic_refers, crate::proofs::ReferLaws::lob_bytes_in, crate::proofs::ReferLaws::lob_char_in))]
 pub fn refers(bytes: &[u8], column: ColumnDescriptor) -> bool
     requires { need (extent_of column) bytes.now ≡ length bytes.now }
     ensures { (release : ℕ) → result ≡ refers_in (conversions_of release) column bytes.now }
 {
-    let t = column.db2_type;
     let length = column.length;
     let reference = column.extdta_reference_length;
-    match t {
+    match column.db2_type {
         Db2Type::Blob | Db2Type::Clob | Db2Type::DbClob => {
             lob_refers(reference, length == 0, bytes)
         }
         Db2Type::Xml => lob_refers(reference, false, bytes),
         Db2Type::BlobLocator | Db2Type::ClobLocator | Db2Type::DbClobLocator => true,
-        Db2Type::VarChar(n) => varying_refers(n, bytes),
-        Db2Type::VarGraphic(n) => varying_refers(n, bytes),
-        Db2Type::LobBytes(n) => is_short_reference((n % 0x8000) as usize, bytes),
-        Db2Type::LobChar(n) => is_short_reference((n % 0x8000) as usize, bytes),
+        Db2Type::VarChar(n) | Db2Type::VarGraphic(n) => varying_refers(n, bytes),
+        Db2Type::LobBytes(n) | Db2Type::LobChar(n) => {
+            is_short_reference(usize::from(n % 0x8000), bytes)
+        }
         _ => false,
     }
 }

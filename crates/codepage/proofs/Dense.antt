@@ -9,9 +9,10 @@ use native.Mathlib.Nat.{add-zero}
 use borrow.Author.Tests.{ltb-true, ltb-false}
 use lib.Dec.{ltb}
 use lib.ListN.{length, take, drop, get_or, set, length-set, length-drop, length-append, drop_of_length-le}
-use lib.Seq.{set-set, set_comm, set-get_or, take-set-le, drop-set-lt, drop-drop, take_all, get_or-drop, length-take-le}
+use lib.Seq.{set-set, set_comm, set-get_or, take-set-le, drop-set-lt, drop-drop, take_all, get_or-drop, get_or-take, length-take-le}
+use Rattle.std.proofs.Common.{Fits, w8}
 use Rattle.buffer.specs.Buffer.{overwritten}
-use Rattle.buffer.proofs.Writing.{Writing, stored, fits, as_long, back, wrote_rest}
+use Rattle.buffer.proofs.Writing.{Writing, stored, fits, back, wrote_rest}
 use Rattle.unicode_standard.specs.Unicode.{utf8}
 use Rattle.unicode_standard.proofs.ScalarBytes.{utf8_one, utf8_two}
 use Rattle.codepage.specs.CodePage.{byte_text}
@@ -26,9 +27,6 @@ loosen {T} {d} {rest} {out} {o} w =
     let g : get_or d o 0 ≡ get_or out o 0 =
     ap (λ (n : ℕ). get_or d n 0) (sym (add-zero o)) ∙ sym (get_or-drop o d 0 0) ∙ ap (λ (l : List ℕ). get_or l 0 0) (sym (back w)) ∙ get_or-drop o out 0 0 ∙ ap (λ (n : ℕ). get_or out n 0) (add-zero o) in
     record { mended = rw (g, set-get_or out o 0) w }
-
-pub loose_long : {T d rest out : List ℕ} {o : ℕ} → Loose T d rest out o → length out ≡ length d
-loose_long {T} {d} {rest} {out} {o} w = sym (length-set out o (get_or d o 0)) ∙ as_long w.mended
 
 pub loose_fits : {T d rest out : List ℕ} {o : ℕ} → Loose T d rest out o → o + length rest ≤ length out
 loose_fits {T} {d} {rest} {out} {o} w = omega (arith, fits w.mended, length-set out o (get_or d o 0))
@@ -80,9 +78,19 @@ loose_rest {T} {d} {l} {out} {o} w t rest e h ys q n z =
     let y : ys ≡ overwritten t (take (length (set out o x) - o) (drop o (set out o x))) = rw (L, g, c) (q ∙ ap (overwritten t) f) in
     rw (← a, ← b) (rw L at (wrote_rest w.mended t rest e ys y n z))
 
+-- the loop is over all of s but the last byte
+pub front_length : (s : List ℕ) → 0 < length s → length (take (length s - 1) s) ≡ length s - 1
+front_length s h = length-take-le (length s - 1) s (omega arith)
+
+pub front_point : (f : ℕ → ℕ) (s : List ℕ) (i : ℕ) → i + 1 < length s → f (get_or (take (length s - 1) s) i 0) ≡ f (get_or s i 0)
+front_point f s i left = ap f (get_or-take (length s - 1) s i 0 (omega arith))
+
 -- A turn of a loop over the bytes of s, which are code points below 100 by f: the text from i on is still to be written, from o on, and v is the code point at i
-module _ (f : ℕ → ℕ) (small : (b : ℕ) → b < 0x100 → f b < 0x100) (s : List ℕ) (bytes : (j : ℕ) → get_or s j 0 < 0x100) (i : ℕ) {d out : List ℕ} {o : ℕ}
+module _ (f : ℕ → ℕ) (small : (b : ℕ) → b < 0x100 → f b < 0x100) (s : List ℕ) (fit : (j : ℕ) → Fits w8 (get_or s j 0)) (i : ℕ) {d out : List ℕ} {o : ℕ}
     (w : Loose (byte_text f s) d (byte_text f (drop i s)) out o) where
+  bytes : (j : ℕ) → get_or s j 0 < 0x100
+  bytes j = omega (arith, fit j)
+
   pub dense_room : i + 1 < length s → o + 2 ≤ length out
   dense_room left = omega (arith, loose_fits w, two_left f small s i bytes left)
 

@@ -11,10 +11,11 @@ use lib.Dec.{eqb}
 use borrow.Author.Tests.{eq-eqb, ne_eqb, eqb-true, eqb-false}
 use Rattle.types.specs.Types.{base_of, nullable_bit, base_types, listed_or, from_drda_type}
 use Rattle.types.specs.declared.Db2Type.{Db2Type}
+use Rattle.types.specs.declared.Db2Type.TheVariants as type
 use Rattle.column.specs.declared.Numbers.{Numbers}
 use Rattle.column.specs.Column.{sda_type}
 use Rattle.column.specs.Group.{group_type, group_ccsid}
-use Rattle.column.specs.Said.{sda_code, CcsidFor}
+use Rattle.column.specs.Said.{sda_code, group_code, CcsidFor}
 
 -- an SDA column's type stands in the table
 pub sda_listed : (c n : ℕ) (m : Numbers) → (from_drda_type (sda_code c m.ccsid) n m.precision m.scale).db2_type ≡ sda_type c n m
@@ -31,6 +32,33 @@ sda_listed c n m = go (eqb m.ccsid 0) (eqb (base_of c) 0x30) (eqb (base_of c) 0x
     go true true d = refl
     go true false true = refl
     go true false false = refl
+
+-- the type of an undeclared LID stands in the table
+pub group_listed : (l n : ℕ) → (from_drda_type (group_code l) n 0 0).db2_type ≡ group_type l n
+unfolding group_code group_type listed_or from_drda_type base_types
+group_listed l n = go (eqb 0x0A b) (eqb 0x0C b) (eqb 0x36 b) (eqb 0x38 b) (eqb 0x3A b) (eqb 0xCE b)
+  where
+    b : ℕ
+    b = base_of l
+
+    f : ℕ → Db2Type
+    f k = (from_drda_type k n 0 0).db2_type
+
+    go : (a b c d e g : Bool)
+        → f (cond a 0x0E (cond b 0x0A (cond c 0x3C (cond d 0x3E (cond e 0x3E (cond g 0xCA l))))))
+        ≡ cond a (f 0x0E) (cond b (f 0x0A) (cond c (f 0x3C) (cond d (f 0x3E) (cond e (f 0x3E) (cond g (f 0xCA) (f l))))))
+    go true b c d e g = refl
+    go false true c d e g = refl
+    go false false true d e g = refl
+    go false false false true e g = refl
+    go false false false false true g = refl
+    go false false false false false true = refl
+    go false false false false false false = refl
+
+-- and that of a Decimal
+pub decimal_listed : (n p s : ℕ) → (from_drda_type 0x0C n p s).db2_type ≡ type.Decimal p s
+unfolding from_drda_type listed_or base_types
+decimal_listed n p s = refl
 
 -- a code other than 51 is nullable by its bit 01
 pub nullable_listed : (c n : ℕ) → (c ≡ 0x51 → ⊥) → nullable_bit c ≡ (from_drda_type c n 0 0).nullable

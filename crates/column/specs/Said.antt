@@ -17,11 +17,13 @@ unfoldable pub sda_code : ℕ → ℕ → ℕ
 sda_code c ccsid =
     cond (eqb ccsid 0) (cond (eqb (base_of c) 0x30) 0x60 (cond (eqb (base_of c) 0x32) 0x62 c)) c
 
--- whatever its length is, a column of the undeclared LID l has the type that the table has under the code c
-abbrev pub ListedFor : ℕ → ℕ → Type 0
-ListedFor l c = (n : ℕ) → (from_drda_type c n 0 0).db2_type ≡ group_type l n
+-- the code under which the table has the type of an undeclared LID l other than 0E: 0E is Double, 0A Real, 3C Graphic, 3E VarGraphic, CA Clob
+unfoldable pub group_code : ℕ → ℕ
+group_code l =
+    let b = base_of l in
+    cond (eqb 0x0A b) 0x0E (cond (eqb 0x0C b) 0x0A (cond (eqb 0x36 b) 0x3C (cond (eqb 0x38 b) 0x3E (cond (eqb 0x3A b) 0x3E (cond (eqb 0xCE b) 0xCA l)))))
 
--- and this CCSID
+-- whatever its length is, a column of the undeclared LID l has this CCSID
 abbrev pub CcsidFor : ℕ → ℕ → Type 0
 CcsidFor l ccsid = (n : ℕ) → ccsid ≡ group_ccsid (group_type l n)
 

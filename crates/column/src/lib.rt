@@ -7,7 +7,7 @@ ghost use Rattle.types.specs.declared.ByteOrder.TheVariants.{BigEndian};
 ghost use Rattle.numbers.specs.Number.{unsigned};
 ghost use Rattle.column.specs.Column.{field16, reference_length, numbers_of, sda_numbers, sda_column};
 ghost use Rattle.column.specs.Group.{entry_of, first_entry, undeclared_column, declared_column, lid_column};
-ghost use Rattle.column.specs.Said.{said_column, sda_code, ListedFor, CcsidFor, NullableFor};
+ghost use Rattle.column.specs.Said.{said_column, sda_code, group_code, CcsidFor, NullableFor};
 
 use types::{ByteOrder, ColumnDescriptor, Db2Type, Origin};
 
@@ -22,7 +22,7 @@ pub struct EnvEntry {
 }
 
 impl EnvEntry {
-    // Of two entries for one LID the first counts.
+    // Of two entries for one LID the first counts. A function of one call: wrong programs are refused in it and where it is called.
     #[tactic(auto, unfolding(crate::specs::Group::first_entry))]
     pub fn first(known: Option<EnvEntry>, later: Option<EnvEntry>) -> Option<EnvEntry>
         ensures { result ≡ first_entry known later }
@@ -51,8 +51,8 @@ impl Numbers {
     }
 }
 
-// What an SDA or a LID says of its column, in numbers. `listed` is the code under which the table of from_drda_type has the column's type: it
-// is not always the column's own.
+// What an SDA or a LID says of its column, in numbers. `listed` is the code under which the table of from_drda_type has the column's type: it is not always
+// the column's own. It is a code and no kind of the table's, since from_drda_type, which README names, takes a code.
 #[derive(Clone, Copy)]
 pub struct Said {
     pub drda_type: u8,
@@ -64,7 +64,7 @@ pub struct Said {
     pub origin: Origin,
 }
 
-// Codes of the table.
+// Codes of the table. A code without its nullable bit is `c - c % 2` where it is asked: a type for codes would be made of a byte at each place, for one remainder.
 const REAL: u8 = 0x0A;
 
 const DECIMAL: u8 = 0x0C;
@@ -81,7 +81,8 @@ const VARBINARY: u8 = 0x62;
 
 const CLOB: u8 = 0xCA;
 
-// The big-endian number at a place, or 0 where its two bytes are not both there.
+// The big-endian number at a place, or 0 where its two bytes are not both there. No plainer by `get`: a pattern would take its slice of two apart, with an arm
+// for none.
 #[tactic(auto, using(crate::proofs::Bytes::big_endian), unfolding(crate::specs::Column::field16))]
 fn field16_at(data: &[u8], at: usize) -> u16
     requires { at ≤ 8 }
@@ -105,27 +106,30 @@ fn declared_lob_reference_length(drda_type: u8, length: u16) -> Option<u16>
 }
 
 // The column of what is said. It alone looks the type up: the look-up is then compiled into the reader of descriptions.
-pub fn column(said: Said) -> ColumnDescriptor
-    ensures { result ≡ said_column said }
-{
-    let numbers = said.numbers;
-    let byte_order = said.byte_order;
-    let origin = said.origin;
-    let reference = declared_lob_reference_length(said.drda_type, said.length);
-    let read = Db2Type::from_drda_type(said.listed, said.length, numbers.precision, numbers.scale);
-    let db2_type = read.db2_type;
-    ColumnDescriptor {
-        column_index: 0,
-        drda_type: said.drda_type,
-        length: said.length,
-        precision: numbers.precision,
-        scale: numbers.scale,
-        nullable: said.nullable,
-        origin,
-        ccsid: numbers.ccsid,
-        db2_type,
-        byte_order,
-        extdta_reference_length: reference,
+impl From<Said> for ColumnDescriptor {
+    ghost from_gives = { λ said column. column ≡ said_column said };
+
+    fn from(said: Said) -> ColumnDescriptor {
+        let Numbers {
+            precision,
+            scale,
+            ccsid,
+        } = said.numbers;
+        let reference = declared_lob_reference_length(said.drda_type, said.length);
+        let read = Db2Type::from_drda_type(said.listed, said.length, precision, scale);
+        ColumnDescriptor {
+            column_index: 0,
+            drda_type: said.drda_type,
+            length: said.length,
+            precision,
+            scale,
+            nullable: said.nullable,
+            origin: said.origin,
+            ccsid,
+            db2_type: read.db2_type,
+            byte_order: said.byte_order,
+            extdta_reference_length: reference,
+        }
     }
 }
 
@@ -137,7 +141,7 @@ fn sda_numbers(data: &[u8]) -> Numbers
 {
     let code = data[0];
     let base = code - code % 2;
-    if base == 0x0C {
+    if base == DECIMAL {
         let ccsid = field16_at(data, 5);
         if 5 <= data.len() {
             return Numbers {
@@ -167,6 +171,7 @@ fn sda_code(code: u8, ccsid: u16) -> u8
 }
 
 // What an SDA with data says of its column.
+#[tactic(auto, using(crate::proofs::Listed::sda_listed), unfolding(crate::specs::Column::sda_column))]
 pub fn parse_sda_triplet(data: &[u8]) -> Said
     requires { 0 < length «data».now }
     ensures { said_column result ≡ sda_column «data».now }
@@ -187,6 +192,7 @@ pub fn parse_sda_triplet(data: &[u8]) -> Said
 }
 
 // The entry that an SDA declares after an MDD whose last byte is mdd_type.
+#[tactic(auto, unfolding(crate::specs::Group::entry_of))]
 pub fn parse_environmental_sda(data: &[u8], mdd_type: u8) -> EnvEntry
     ensures { result ≡ entry_of mdd_type «data».now }
 {
@@ -198,30 +204,30 @@ pub fn parse_environmental_sda(data: &[u8], mdd_type: u8) -> EnvEntry
 }
 
 // The code under which the table has the type of an undeclared LID other than 0E.
+#[tactic(auto, unfolding(crate::specs::Said::group_code))]
 fn compact_gda_code(lid: u8) -> u8
-    ensures { ListedFor lid result }
+    ensures { result ≡ group_code lid }
 {
-    let base = lid - lid % 2;
-    match base {
+    match lid - lid % 2 {
         0x0A => DOUBLE,
         0x0C => REAL,
         0x36 => GRAPHIC,
-        0x38 => VARGRAPHIC,
-        0x3A => VARGRAPHIC,
+        0x38 | 0x3A => VARGRAPHIC,
         0xCE => CLOB,
         _ => lid,
     }
 }
 
 // The CCSID of an undeclared LID's column. The code tells it as the type would, and sooner.
+#[tactic(auto, using(crate::proofs::Listed::ccsid_lobchar, crate::proofs::Listed::ccsid_plain, crate::proofs::Listed::ccsid_text))]
 fn compact_gda_ccsid(lid: u8) -> u16
     ensures { CcsidFor lid result }
 {
+    // Not an arm: the arms are codes without the nullable bit.
     if lid == 0x51 {
         return 1208;
     }
-    let base = lid - lid % 2;
-    match base {
+    match lid - lid % 2 {
         0x02
         | 0x04
         | 0x0A
@@ -246,52 +252,47 @@ fn compact_gda_ccsid(lid: u8) -> u16
     }
 }
 
+// The two attribute bytes stay apart, here and below, as the definitions take them. The length of a packed decimal is a u16 here: decimal_need of cell, a usize,
+// promises its bounds besides.
+#[tactic(auto, using(crate::proofs::Bytes::big_endian, crate::proofs::Listed::group_listed, crate::proofs::Listed::decimal_listed), unfolding(crate::specs::Group::undeclared_column))]
 fn undeclared_lid(lid: u8, first: u8, second: u8) -> Said
     ensures { said_column result ≡ undeclared_column lid first second }
 {
-    let nullable = lid % 2 == 1;
-    let base = lid - lid % 2;
-    if base == 0x0E {
+    let (listed, length, numbers) = if lid - lid % 2 == 0x0E {
         let numbers = Numbers {
             precision: first,
             scale: second,
             ccsid: 0,
         };
-        return Said {
-            drda_type: lid,
-            listed: DECIMAL,
-            length: (first as u16 + 2) / 2,
+        (DECIMAL, (u16::from(first) + 2) / 2, numbers)
+    } else {
+        let numbers = Numbers::of_ccsid(compact_gda_ccsid(lid));
+        (
+            compact_gda_code(lid),
+            u16::from_be_bytes([first, second]),
             numbers,
-            nullable,
-            byte_order: ByteOrder::BigEndian,
-            origin: Origin::UndeclaredLid,
-        };
-    }
-    let listed = compact_gda_code(lid);
-    let length = u16::from_be_bytes([first, second]);
-    let ccsid = compact_gda_ccsid(lid);
-    let numbers = Numbers::of_ccsid(ccsid);
+        )
+    };
     Said {
         drda_type: lid,
         listed,
         length,
         numbers,
-        nullable,
+        nullable: lid % 2 == 1,
         byte_order: ByteOrder::BigEndian,
         origin: Origin::UndeclaredLid,
     }
 }
 
 // Whether from_drda_type calls a code nullable.
+#[tactic(auto, using(crate::proofs::Listed::nullable_listed), unfolding(types::specs::Types::from_drda_type))]
 fn declared_nullable(code: u8) -> bool
     ensures { NullableFor code result }
 {
-    if code == 0x51 {
-        return false;
-    }
-    code % 2 == 1
+    code != 0x51 && code % 2 == 1
 }
 
+#[tactic(auto, using(crate::proofs::Bytes::big_endian), unfolding(crate::specs::Group::declared_column))]
 fn declared_lid(entry: EnvEntry, first: u8, second: u8) -> Said
     ensures { said_column result ≡ declared_column entry first second }
 {

@@ -6,8 +6,9 @@ use lib.ListN.{length}
 use Rattle.buffer.specs.Buffer.{overwritten}
 use Rattle.buffer.specs.declared.Written.{Written}
 use Rattle.conversion.specs.declared.Conversion.{Conversion}
-use Rattle.conversion.specs.Picked.{text_in, replaced_in, converted_in}
+use Rattle.conversion.specs.Picked.{text_in, replaced_in}
 use Rattle.conversion.specs.Measure.{Measures}
+use Rattle.conversion.proofs.PlainText.{as_it_is}
 
 -- the conversion p was found to be q
 module _ {p q : Conversion} (e : p ≡ q) (s : List ℕ) where
@@ -24,8 +25,5 @@ module _ {p q : Conversion} (e : p ≡ q) (s : List ℕ) where
       → (w.len ≡ length (text_in p s)) × ((ys ≡ overwritten (text_in p s) d) × (w.replaced ≡ replaced_in p s))
   wrote_whole d n ys e₀ h k z = rw e₀ (wrote d n ys 0 h k (sym z))
 
-  pub measured : (n : ℕ) → n ≡ length (text_in q s) → Measures p s n q
-  measured n h = record { counts = h ∙ ap (λ (x : Conversion). length (text_in x s)) (sym e); alike = ap (λ (x : Conversion). converted_in x s) (sym e) }
-
-  pub measured_as : (n : ℕ) (r : Conversion) → Measures q s n r → Measures p s n r
-  measured_as n r m = record { counts = m.counts ∙ ap (λ (x : Conversion). length (text_in x s)) (sym e); alike = m.alike ∙ ap (λ (x : Conversion). converted_in x s) (sym e) }
+  pub measured : (n : ℕ) → n ≡ length (text_in q s) → Measures p s n p
+  measured n h = as_it_is p s n (h ∙ ap (λ (x : Conversion). length (text_in x s)) (sym e))

@@ -5,12 +5,14 @@ use mathlib.Core.List.{List}
 use mathlib.Core.Path.{◌≡◌, refl, sym, ap, ◌∙◌}
 use lib.Dec.{eqb, ltb}
 use lib.ListN.{length}
+use Rattle.std.specs.Prelude.{Option, Some, None}
+use Rattle.std.specs.Option.{unwrap_or}
 use Rattle.unicode_standard.specs.Ascii.{all_ascii}
 use Rattle.buffer.specs.Buffer.{Converted, unreplaced}
 use Rattle.conversion.specs.declared.Conversion.{Conversion}
 use Rattle.conversion.specs.declared.Conversion.TheVariants.{Plain, Utf8, Latin1, Ebcdic037, Utf16, Locator, RowId}
 use Rattle.conversion.specs.Conversion.{is_utf16, character_text, character_text3, graphic_text, from_characters, from_graphics, from_utf8, characters_by, graphics_by, locator_text, row_id_text}
-use Rattle.conversion.specs.Picked.{text_in, replaced_in, converted_in, character_conversion, graphic_conversion}
+use Rattle.conversion.specs.Picked.{named, text_in, replaced_in, converted_in, character_conversion, graphic_conversion}
 
 -- what holds of both conversions holds of the one that a test picks
 tested : {A : Type 0} (f : Conversion → A) (b : Bool) (p q : Conversion) {x y : A} → f p ≡ x → f q ≡ y → f (cond b p q) ≡ cond b x y
@@ -21,7 +23,36 @@ alike : {A : Type 0} (f : Conversion → A) (b : Bool) (p q : Conversion) {x : A
 alike f true p q e h = e
 alike f false p q e h = h
 
--- the conversion by CCSID, where a Boolean says whether the release is before 3
+-- ---- characters by whether the CCSID names a conversion
+
+named_or : (ccsid : ℕ) (d : Conversion) → unwrap_or (named ccsid) d ≡ cond (eqb ccsid 1208) Utf8 (cond (eqb ccsid 819) Latin1 (cond (eqb ccsid 37) Ebcdic037 (cond (eqb ccsid 500) Ebcdic037 d)))
+unfolding named
+named_or ccsid d = go (eqb ccsid 1208) (eqb ccsid 819) (eqb ccsid 37) (eqb ccsid 500)
+  where
+    go : (a b c e : Bool)
+        → unwrap_or (cond a (Some Utf8) (cond b (Some Latin1) (cond c (Some Ebcdic037) (cond e (Some Ebcdic037) None)))) d
+        ≡ cond a Utf8 (cond b Latin1 (cond c Ebcdic037 (cond e Ebcdic037 d)))
+    go true b c e = refl
+    go false true c e = refl
+    go false false true e = refl
+    go false false false true = refl
+    go false false false false = refl
+
+module _ (release ccsid : ℕ) (s : List ℕ) where
+  by_named : unwrap_or (named ccsid) (cond (ltb release 3) (cond (all_ascii s) Plain Ebcdic037) Ebcdic037) ≡ character_conversion release ccsid s
+  unfolding character_conversion
+  by_named = named_or ccsid _
+
+  of_option : {o : Option Conversion} → named ccsid ≡ o → unwrap_or o (cond (ltb release 3) (cond (all_ascii s) Plain Ebcdic037) Ebcdic037) ≡ character_conversion release ccsid s
+  of_option e = sym (ap (λ (o : Option Conversion). unwrap_or o (cond (ltb release 3) (cond (all_ascii s) Plain Ebcdic037) Ebcdic037)) e) ∙ by_named
+
+  pub at_name : (p : Conversion) → named ccsid ≡ Some p → p ≡ character_conversion release ccsid s
+  at_name p e = of_option e
+
+  pub at_none : named ccsid ≡ None → cond (ltb release 3) (cond (all_ascii s) Plain Ebcdic037) Ebcdic037 ≡ character_conversion release ccsid s
+  at_none e = of_option e
+
+-- ---- the conversion by CCSID, where a Boolean says whether the release is before 3
 abbrev pick : Bool → ℕ → List ℕ → Conversion
 pick early ccsid s =
     cond (eqb ccsid 1208) Utf8

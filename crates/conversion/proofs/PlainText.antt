@@ -1,6 +1,6 @@
 -- Texts that are the bytes they were read from, and how long a text can be. Assumes nothing.
 use Prim.Native.Nat.{ℕ, ◌+◌, ◌*◌, ◌≤◌}
-use mathlib.Core.List.{List, [], ◌∷◌, append-nil}
+use mathlib.Core.List.{List, [], ◌∷◌, ◌++◌, append-nil}
 use mathlib.Core.Path.{◌≡◌, refl, sym, ap, ◌∙◌}
 use native.Mathlib.Omega.{arith}
 use lib.ListN.{length, length-append}
@@ -45,6 +45,9 @@ pub hex_length : (s : List ℕ) → length (hex_text s) ≡ 2 * length s
 unfolding hex_text
 hex_length [] = refl
 hex_length (b ∷ bs) = omega (arith, hex_length bs)
+
+pub marked_length : (mark s : List ℕ) → length mark + 2 * length s ≡ length (mark ++ hex_text s)
+marked_length mark s = omega (arith, hex_length s, length-append mark (hex_text s))
 
 pub locator_length : (s : List ℕ) → 14 + 2 * length s ≡ length (locator_text s)
 unfolding locator_text

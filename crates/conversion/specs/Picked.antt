@@ -1,7 +1,7 @@
 -- For inner functions; no public promise rests on it. The conversion that is picked before a text is read, as the code's enum, and the text by it with
 -- the number of U+FFFD put in.
 -- proofs/Picks.antt: it is the text of specs/Conversion.antt. Assumes nothing.
-use Rattle.std.specs.Prelude.{ℕ, cond, List, eqb, ltb, length}
+use Rattle.std.specs.Prelude.{ℕ, cond, List, eqb, ltb, length, Option, Some, None}
 use Rattle.unicode_standard.specs.Unicode.{replacements, utf8_pieces, utf8_text, utf16_pieces, utf16_text}
 use Rattle.unicode_standard.specs.Ascii.{all_ascii}
 use Rattle.buffer.specs.Buffer.{Converted}
@@ -31,6 +31,10 @@ replaced_in RowId s = 0
 
 abbrev pub converted_in : Conversion → List ℕ → Converted
 converted_in p s = record { text_bytes = text_in p s; replaced = replaced_in p s }
+
+-- the conversion of characters that a CCSID names, whatever the release and the bytes
+unfoldable pub named : ℕ → Option Conversion
+named ccsid = cond (eqb ccsid 1208) (Some Utf8) (cond (eqb ccsid 819) (Some Latin1) (cond (eqb ccsid 37) (Some Ebcdic037) (cond (eqb ccsid 500) (Some Ebcdic037) None)))
 
 unfoldable pub character_conversion : ℕ → ℕ → List ℕ → Conversion
 character_conversion release ccsid s =

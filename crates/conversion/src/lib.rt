@@ -9,13 +9,13 @@ ghost use Rattle.refusal.specs.Refusal.{input_limit};
 ghost use Rattle.buffer.specs.Buffer.{overwritten};
 ghost use Rattle.utf.specs.Ascii.{AsciiRun};
 ghost use Rattle.conversion.specs.Conversion.{is_release, is_utf16};
-ghost use Rattle.conversion.specs.Picked.{character_conversion, graphic_conversion, text_in, replaced_in};
+ghost use Rattle.conversion.specs.Picked.{named, character_conversion, graphic_conversion, text_in, replaced_in};
 ghost use Rattle.conversion.specs.Guess.{guess_text, Guessed};
 ghost use Rattle.conversion.specs.Measure.{Measures};
 
 use buffer::{Written, copy};
 use codepage::{ebcdic037_len, ebcdic037_write, latin1_len, latin1_write};
-use hex::marked_hex_write;
+use hex::{marked_hex_len, marked_hex_write};
 use utf::ascii::has_high;
 use utf::lossy::{utf8_lossy_len, utf8_lossy_write};
 use utf::utf8::run_of;
@@ -32,53 +32,52 @@ pub enum Conversion {
     Ebcdic037,
     // Big-endian.
     Utf16,
-    // Shown in hexadecimal, after `LOB locator 0x` or `0x`.
+    // Shown in hexadecimal, after a mark.
     Locator,
     RowId,
 }
 
-// Whether a call takes the number for a host release: refusal 22 where it does not.
+const LOCATOR_MARK: &[u8] = b"LOB locator 0x";
+
+const ROW_ID_MARK: &[u8] = b"0x";
+
+// Whether a call takes the number for a host release: refusal 22 where it does not. Here and in every crate a release is a number and no enum (DECISIONS 84):
+// the calls for C take any number, RULES.md and the theorems speak of any, and so do the functions that TRACE names and which are given it.
 pub fn is_release(release: u32) -> bool
     ensures { result ≡ is_release release }
 {
     release == 2 || release == 3
 }
 
+// The conversion of characters that goes by the CCSID alone, where it does.
+#[tactic(auto, unfolding(crate::specs::Picked::named))]
+fn named(ccsid: u16) -> Option<Conversion>
+    ensures { result ≡ named ccsid }
+{
+    match ccsid {
+        1208 => Some(Conversion::Utf8),
+        819 => Some(Conversion::Latin1),
+        37 | 500 => Some(Conversion::Ebcdic037),
+        _ => None,
+    }
+}
+
 // The conversion that a CCSID asks for; for an unnamed one code page 037, before release 3 by a look at the bytes.
 pub fn character_conversion(ccsid: u16, release: u32, s: &[u8]) -> Conversion
     ensures { result ≡ character_conversion release ccsid s.now }
 {
-    if ccsid == 1208 {
-        return Conversion::Utf8;
+    match named(ccsid) {
+        Some(conversion) => conversion,
+        None if release < 3 && !has_high(s) => Conversion::Plain,
+        None => Conversion::Ebcdic037,
     }
-    if ccsid == 819 {
-        return Conversion::Latin1;
-    }
-    if ccsid == 37 {
-        return Conversion::Ebcdic037;
-    }
-    if ccsid == 500 {
-        return Conversion::Ebcdic037;
-    }
-    if 3 <= release {
-        return Conversion::Ebcdic037;
-    }
-    if !has_high(s) {
-        return Conversion::Plain;
-    }
-    Conversion::Ebcdic037
 }
 
+#[tactic(auto, unfolding(crate::specs::Conversion::is_utf16))]
 fn is_utf16(ccsid: u16, count: usize) -> bool
     ensures { result ≡ is_utf16 ccsid count }
 {
-    if ccsid == 1200 {
-        return count % 2 == 0;
-    }
-    if ccsid == 13488 {
-        return count % 2 == 0;
-    }
-    false
+    matches!(ccsid, 1200 | 13488) && count.is_multiple_of(2)
 }
 
 // The same for a graphic value.
@@ -110,9 +109,8 @@ fn utf8_measure(s: &[u8]) -> Measured
             conversion: Conversion::Plain,
         };
     }
-    let n = e + utf8_lossy_len(&s[e..]);
     Measured {
-        len: n,
+        len: e + utf8_lossy_len(&s[e..]),
         conversion: Conversion::Utf8,
     }
 }
@@ -121,46 +119,16 @@ pub fn text_measure(conversion: Conversion, s: &[u8]) -> Measured
     requires { length s.now ≤ input_limit }
     ensures { Measures conversion s.now result.len result.conversion }
 {
-    match conversion {
-        Conversion::Plain => Measured {
-            len: s.len(),
-            conversion: Conversion::Plain,
-        },
-        Conversion::Utf8 => utf8_measure(s),
-        Conversion::Latin1 => Measured {
-            len: latin1_len(s),
-            conversion: Conversion::Latin1,
-        },
-        Conversion::Ebcdic037 => Measured {
-            len: ebcdic037_len(s),
-            conversion: Conversion::Ebcdic037,
-        },
-        Conversion::Utf16 => Measured {
-            len: utf16_lossy_len(s),
-            conversion: Conversion::Utf16,
-        },
-        Conversion::Locator => {
-            let locator = 14 + 2 * s.len();
-            Measured {
-                len: locator,
-                conversion: Conversion::Locator,
-            }
-        }
-        Conversion::RowId => {
-            let rowid = 2 + 2 * s.len();
-            Measured {
-                len: rowid,
-                conversion: Conversion::RowId,
-            }
-        }
-    }
-}
-
-// A text for which no U+FFFD was put in.
-fn unreplaced(len: usize) -> Written
-    ensures { result ≡ record { len = len; replaced = 0 } }
-{
-    Written { len, replaced: 0 }
+    let len = match conversion {
+        Conversion::Utf8 => return utf8_measure(s),
+        Conversion::Plain => s.len(),
+        Conversion::Latin1 => latin1_len(s),
+        Conversion::Ebcdic037 => ebcdic037_len(s),
+        Conversion::Utf16 => utf16_lossy_len(s),
+        Conversion::Locator => marked_hex_len(LOCATOR_MARK, s),
+        Conversion::RowId => marked_hex_len(ROW_ID_MARK, s),
+    };
+    Measured { len, conversion }
 }
 
 // Writes the text of s into out, from its first byte.
@@ -171,28 +139,26 @@ pub fn text_write(conversion: Conversion, s: &[u8], out: &mut [u8]) -> Written
     ensures replaced { result.replaced ≡ replaced_in conversion s.now }
 {
     match conversion {
-        Conversion::Plain => unreplaced(copy(s, out)),
+        Conversion::Plain => Written::unreplaced(copy(s, out)),
         Conversion::Utf8 => utf8_lossy_write(s, out),
-        Conversion::Latin1 => unreplaced(latin1_write(s, out)),
-        Conversion::Ebcdic037 => unreplaced(ebcdic037_write(s, out)),
+        Conversion::Latin1 => Written::unreplaced(latin1_write(s, out)),
+        Conversion::Ebcdic037 => Written::unreplaced(ebcdic037_write(s, out)),
         Conversion::Utf16 => utf16_lossy_write(s, out),
-        Conversion::Locator => unreplaced(marked_hex_write(b"LOB locator 0x", s, out)),
-        Conversion::RowId => unreplaced(marked_hex_write(b"0x", s, out)),
+        Conversion::Locator => Written::unreplaced(marked_hex_write(LOCATOR_MARK, s, out)),
+        Conversion::RowId => Written::unreplaced(marked_hex_write(ROW_ID_MARK, s, out)),
     }
 }
 
-// The CCSID is not named, and not one of UTF-16, and the release is before 3: the conversion goes by a look at the bytes.
+// The CCSID is not named, and not one of UTF-16 (which 0 bytes can be, being even), and the release is before 3: the conversion goes by a look at the bytes.
 pub fn is_guessed(ccsid: u16, release: u32) -> bool
     ensures { result ≡ true → Guessed release ccsid }
 {
-    match ccsid {
-        1208 | 819 | 37 | 500 | 1200 | 13488 => false,
-        _ => release < 3,
-    }
+    named(ccsid).is_none() && !is_utf16(ccsid, 0) && release < 3
 }
 
 // Copies a run of ASCII at the beginning of s, in whole blocks of 1,024 bytes, and returns its length: a block is copied while what the look at it
-// read is near.
+// read is near. No closure for utf's run over such blocks: that one's invariant speaks of s alone, and with a copy it would have to speak of `out` too. The
+// count is kept: by `enumerate` it is `1024 * i` at one return, and `s.len() / 1024 * 1024` at the other.
 fn copy_ascii_long(s: &[u8], out: &mut [u8]) -> usize
     requires { length s.now ≤ length out.old }
     ensures run { AsciiRun result s.now }

@@ -2,20 +2,19 @@
 // it. The two readings share the limit of refusal 7 and no other code. Reading a Decimal column of a row is not its work.
 #![tactic(auto)]
 
-ghost use Rattle.std.specs.Prelude.{◌≡◌, pos, neg_ℤ};
+ghost use Rattle.std.specs.Prelude.{◌≡◌, Some};
 ghost use Rattle.buffer.specs.Buffer.{told_text};
 ghost use Rattle.decimal.specs.Decimal.{decimal_answer, decimal_buffer};
 ghost use Rattle.decimal.specs.Length.{length_checked};
-ghost use Rattle.decimal.specs.Whole.{told_whole, ranged_answer, whole_answer};
+ghost use Rattle.zdecimal.specs.Inner.{told_sign};
+ghost use Rattle.decimal.specs.Whole.{told_whole, signed_answer, whole_answer};
 
 use buffer::Written;
 use refusal::Refusal;
+use zdecimal::Sign;
 
 // The most bytes that a packed decimal may have.
 const MOST_BYTES: usize = 128;
-
-// The largest distance of a signed 64-bit number from 0: that of the least one.
-const TWO_63: u64 = 0x8000_0000_0000_0000;
 
 // What the reading as a whole number answers, where it refuses nothing: the number that the digits and the sign make, without a point, and the scale that was
 // handed in, which says how many of the digits stand behind it.
@@ -55,32 +54,18 @@ pub fn decode_packed_decimal(
     if text.len() < needed {
         return Err(Refusal::TextBufferTooShort { needed });
     }
-    let len = packed::decimal_write(data, scale, text);
-    Ok(Written { len, replaced: 0 })
+    Ok(Written::unreplaced(packed::decimal_write(data, scale, text)))
 }
 
-// The number n, where the range has it.
-fn positive(n: u64, scale: u8) -> Result<WholeNumber, Refusal>
-    ensures { told_whole result ≡ ranged_answer scale (pos n) }
+// The number that a sign and what the digits make are, where the range has it.
+fn whole_number(sign: Sign, n: u64, scale: u8) -> Result<WholeNumber, Refusal>
+    ensures { told_whole result ≡ signed_answer scale n (told_sign (Some sign)) }
 {
-    if TWO_63 <= n {
-        return Err(Refusal::DecimalOutOfRange);
-    }
-    let number = n as i64;
-    Ok(WholeNumber { number, scale })
-}
-
-// The number -n, where the range has it.
-fn negative(n: u64, scale: u8) -> Result<WholeNumber, Refusal>
-    ensures { told_whole result ≡ ranged_answer scale (neg_ℤ (pos n)) }
-{
-    if TWO_63 < n {
-        return Err(Refusal::DecimalOutOfRange);
-    }
-    if n == 0 {
-        return Ok(WholeNumber { number: 0, scale });
-    }
-    let number = -1 - ((n - 1) as i64);
+    let number = match sign {
+        Sign::Plus => i64::try_from(n).ok(),
+        Sign::Minus => 0_i64.checked_sub_unsigned(n),
+    };
+    let number = number.ok_or(Refusal::DecimalOutOfRange)?;
     Ok(WholeNumber { number, scale })
 }
 
@@ -94,16 +79,6 @@ pub fn decode_packed_whole(data: &[u8], scale: u8) -> Result<WholeNumber, Refusa
     if !zdecimal::digits_valid(data) {
         return Err(Refusal::DecimalDigit);
     }
-    let code = zdecimal::sign_code(data);
-    if code < 0xA {
-        return Err(Refusal::DecimalSign);
-    }
-    let n = zdecimal::magnitude(data);
-    if code == 0xB {
-        return negative(n, scale);
-    }
-    if code == 0xD {
-        return negative(n, scale);
-    }
-    positive(n, scale)
+    let sign = zdecimal::sign_of(data).ok_or(Refusal::DecimalSign)?;
+    whole_number(sign, zdecimal::magnitude(data), scale)
 }

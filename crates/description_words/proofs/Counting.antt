@@ -6,14 +6,13 @@ use mathlib.Core.Bool.{Bool, true, false, cond}
 use mathlib.Core.List.{List, [], ◌∷◌}
 use mathlib.Core.Logic.{inl, inr}
 use types.Run.{OneOf}
-use Prim.Native.Nat.{ℕ, ◌+◌, ◌-◌, ◌/◌, ◌≤◌, ◌<◌}
+use Prim.Native.Nat.{ℕ, ◌+◌, ◌-◌, ◌/◌, ◌≤◌}
 use native.Mathlib.Omega.{arith}
 use lib.Dec.{eqb}
 use lib.ListN.{length, get_or, drop, length-drop, length-append}
 use lib.Seq.{slice, length-slice}
 use borrow.Author.Tests.{eq-eqb, ne_eqb}
 use Rattle.types.specs.declared.ColumnDescriptor.{ColumnDescriptor}
-use Rattle.types.specs.Places.{max_columns}
 use Rattle.triplets.specs.Descriptors.{Environment, pending_after, no_entries, environment_after, sda_columns, outer_sda, lid_columns, inner_columns, group_columns, triplet_columns, columns_from, columns_of}
 use Rattle.triplets.specs.Triplets.{triplet, reading_of, reading}
 use Rattle.triplets.specs.Steps.{outer_from, end_from, to_come}
@@ -134,10 +133,6 @@ module _ {s : List ℕ} {k i : ℕ} {pend : Option ℕ} (c : Counting s k i pend
         ends = c.ends;
         ended = λ few. end_here s i c.within u ∙ c.ends;
       }
-
-  pub counting_full : max_columns < k → Counted s k i
-  counting_full h =
-      record { all = λ few. omega arith; more = λ many. omega (arith, c.total); within = c.within; ends = c.ends; ended = λ few. omega arith }
 
   -- a triplet of another kind
   pub counting_silent : (kind m : ℕ) → Found 2 s i (length s) kind m → (OneOf (0x70 ∷ 0x76 ∷ 0x78 ∷ []) kind → ⊥) → Counting s k m None

@@ -12,10 +12,13 @@ ghost use Rattle.words.specs.Words.{first_word, second_word, pack_columns};
 ghost use Rattle.description_words.specs.Counted.{Counts, Counted};
 
 use column::{EnvEntry, LID_COUNT};
-use triplets::{Cursor, Reached, TRIPLET_TYPE_GDA, TRIPLET_TYPE_MDD, TRIPLET_TYPE_SDA, Triplet};
+use triplets::{
+    COMPACT_GDA, Cursor, Reached, TRIPLET_TYPE_GDA, TRIPLET_TYPE_MDD, TRIPLET_TYPE_SDA, Triplet,
+};
 use types::{ColumnDescriptor, MAX_COLUMNS};
 
-// An SDA with data is a column.
+// An SDA with data is a column: 1 or 0, since the callers add it up. The type and the data are two parameters here and below, as the definition `triplet` has
+// them: a struct would be made for one call and taken apart in it.
 fn count_sda(kind: u8, body: &[u8]) -> usize
     ensures { Counts (length body.now) (λ env. cond (kind == 0x70) (sda_columns body.now) []) result }
 {
@@ -25,7 +28,7 @@ fn count_sda(kind: u8, body: &[u8]) -> usize
     }
 }
 
-// How many columns the inner triplets of a group describe.
+// How many columns the inner triplets of a group describe. No `for`: each step begins where the triplet that was read ends.
 fn count_inner(body: &[u8]) -> usize
     ensures { Counts (length body.now) (λ env. inner_columns (reading 3 body.now).triplets) result }
 {
@@ -38,14 +41,14 @@ fn count_inner(body: &[u8]) -> usize
     count
 }
 
-// How many columns a group describes: in a D0 group each three bytes do.
+// How many columns a group describes: in a D0 group each three bytes do. No pattern of the first byte and the rest: the promise is on the whole body.
 fn count_group(body: &[u8]) -> usize
     ensures { Counts (length body.now) (λ env. group_columns env body.now) result }
 {
     if body.is_empty() {
         return 0;
     }
-    if body[0] == 0xD0 {
+    if body[0] == COMPACT_GDA {
         return (body.len() - 1) / 3;
     }
     count_inner(body)
@@ -118,7 +121,7 @@ pub fn count_columns(data: &[u8]) -> ColumnCount
     }
 }
 
-// Writes a column with its number into its two words.
+// Writes a column with its number into its two words. By place: a chunk of two would be cut out by a method that answers an Option.
 fn put_column(words: &mut [u64], count: usize, column: ColumnDescriptor)
     requires { (count < max_columns) × (2 * count + 1 < length words.old) }
     ensures { words.new ≡ set (set words.old (2 * count) (first_word (with_index count column))) (2 * count + 1) (second_word (with_index count column)) }
@@ -132,6 +135,7 @@ fn put_column(words: &mut [u64], count: usize, column: ColumnDescriptor)
     words[at + 1] = w.second;
 }
 
+// No `for`: each step depends on what the last one found, and the count is also the column's number.
 fn write_all(data: &[u8], words: &mut [u64])
     requires data_len_bound { length (columns_of «data».now) ≤ max_columns }
     requires data_in_bounds { 2 * length (columns_of «data».now) ≤ length words.old }

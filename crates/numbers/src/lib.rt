@@ -1,15 +1,16 @@
 // Inner. The numbers of a row from their bytes, in either byte order: SmallInt, Integer, BigInt, Real and Double; and from their bits, which is how a
 // number stands in words. A function that reads bytes reads the first of what it is given and asks that they are there: which bytes a value has is the
 // row's matter.
-// There is a function for each width, since from_be_bytes, cast_signed and from_bits are methods of each type: a trait would have the same bodies in its impls.
+// There is a function for each width, since from_be_bytes, cast_signed and from_bits are methods of each type: a trait would have the same bodies in its impls,
+// and a function that orders the bytes would leave a call of from_be_bytes to each width.
 #![tactic(auto)]
 
 ghost use Rattle.std.specs.Prelude.{◌≡◌, ◌≤◌, length, take};
-ghost use Rattle.std.specs.Int.{w16, w32, w64};
-ghost use Rattle.std.proofs.Common.{to_z};
 ghost use Rattle.numbers.specs.Number.{unsigned, number_value, real_of, double_of, small_int_in, integer_in, big_int_in, real_in, double_in};
 
 use types::{ByteOrder, Db2Value};
+
+// Slices and no arrays: TRACE names functions below that take any slice which is long enough.
 
 // The number in the first two bytes.
 pub fn u16_of(s: &[u8], order: ByteOrder) -> u16
@@ -47,25 +48,6 @@ pub fn u64_of(s: &[u8], order: ByteOrder) -> u64
     }
 }
 
-// The number whose two's complement bits these are.
-pub fn signed16(n: u16) -> i16
-    ensures { result ≡ to_z w16 n }
-{
-    n.cast_signed()
-}
-
-pub fn signed32(n: u32) -> i32
-    ensures { result ≡ to_z w32 n }
-{
-    n.cast_signed()
-}
-
-pub fn signed64(n: u64) -> i64
-    ensures { result ≡ to_z w64 n }
-{
-    n.cast_signed()
-}
-
 // A float by its bits. A NaN is kept as its bits, since from_bits is undefined there: without the sign's bit they are a number above infinity's.
 pub fn real_of(n: u32) -> Db2Value
     ensures { result ≡ number_value (real_of n) }
@@ -91,21 +73,21 @@ pub fn small_int(s: &[u8], order: ByteOrder) -> Db2Value
     requires { 2 ≤ length s.now }
     ensures { result ≡ number_value (small_int_in order (take 2 s.now)) }
 {
-    Db2Value::SmallInt(signed16(u16_of(s, order)))
+    Db2Value::SmallInt(u16_of(s, order).cast_signed())
 }
 
 pub fn integer(s: &[u8], order: ByteOrder) -> Db2Value
     requires { 4 ≤ length s.now }
     ensures { result ≡ number_value (integer_in order (take 4 s.now)) }
 {
-    Db2Value::Integer(signed32(u32_of(s, order)))
+    Db2Value::Integer(u32_of(s, order).cast_signed())
 }
 
 pub fn big_int(s: &[u8], order: ByteOrder) -> Db2Value
     requires { 8 ≤ length s.now }
     ensures { result ≡ number_value (big_int_in order (take 8 s.now)) }
 {
-    Db2Value::BigInt(signed64(u64_of(s, order)))
+    Db2Value::BigInt(u64_of(s, order).cast_signed())
 }
 
 pub fn real(s: &[u8], order: ByteOrder) -> Db2Value

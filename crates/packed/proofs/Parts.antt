@@ -15,6 +15,10 @@ pub last_part : {T d C out : List ℕ} {o : ℕ} → Writing T d C out o → {ys
     → {n : ℕ} → n ≡ length C → (o + n ≡ length T) × (take o out ++ (ys ++ drop (length out - o) (drop o out)) ≡ overwritten T d)
 last_part w {ys} q {n} z = let l = wrote_rest w _ [] (sym (append-nil _)) ys q n z in (all l refl, end l refl)
 
+-- the fraction of f digits is what is left of the text of s, once ys, of the length n, was written at o
+abbrev pub WroteWhole : ℕ → ℕ → List ℕ → List ℕ → List ℕ → ℕ → List ℕ → ℕ → Type 0
+WroteWhole scale f s d out o ys n = Writing (decimal_text scale s) d (fraction f (digit_text s)) (take o out ++ (ys ++ drop (length out - o) (drop o out))) (o + n)
+
 -- ---- the text: the sign, the whole part of w digits, the fraction
 module _ (scale : ℕ) (s d : List ℕ) {f w : ℕ} (room : length (decimal_text scale s) ≤ length d) (e : f ≡ scale) (h : w ≡ (2 * length s - 1) - f) where
   pub sign_fits : length (sign_text s) ≤ length d
@@ -26,8 +30,13 @@ module _ (scale : ℕ) (s d : List ℕ) {f w : ℕ} (room : length (decimal_text
 
   pub after_whole : {out : List ℕ} → out ≡ overwritten (sign_text s) d → {o : ℕ} → o ≡ length (sign_text s)
       → {ys : List ℕ} → ys ≡ overwritten (trimmed (take w (digit_text s))) (take (length out - o) (drop o out)) → {n : ℕ} → n ≡ length (trimmed (take w (digit_text s)))
-      → Writing (decimal_text scale s) d (fraction f (digit_text s)) (take o out ++ (ys ++ drop (length out - o) (drop o out))) (o + n)
+      → WroteWhole scale f s d out o ys n
   after_whole q z r y = wrote_rest (after_sign q z) _ _ refl _ r _ y
+
+-- the digits that there are is what is left of the fraction, once the point and the zeros ys, n of them, were written
+abbrev pub WroteZeros : ℕ → List ℕ → List ℕ → List ℕ → ℕ → Type 0
+WroteZeros scale s d ys n =
+    Writing (fraction scale (digit_text s)) d (slice (2 * length s - 1 - scale) (2 * length s - 1) (digit_text s)) (take 1 (set d 0 0x2E) ++ (ys ++ drop (length (set d 0 0x2E) - 1) (drop 1 (set d 0 0x2E)))) (1 + n)
 
 -- ---- the fraction: the point, zeros, the digits that there are
 module _ (scale : ℕ) (s d : List ℕ) (room : length (fraction scale (digit_text s)) ≤ length d) (some : scale ≡ 0 → ⊥) where
@@ -41,11 +50,8 @@ module _ (scale : ℕ) (s d : List ℕ) (room : length (fraction scale (digit_te
       → Writing (fraction scale (digit_text s)) d (zeros z ++ slice (2 * length s - 1 - scale) (2 * length s - 1) (digit_text s)) (set d 0 0x2E) 1
   after_point e = stored (start _ d room) 0x2E _ (rw e point)
 
-  abbrev pointed : List ℕ
-  pointed = set d 0 0x2E
-
-  pub after_zeros : {z : ℕ} → z ≡ scale - (2 * length s - 1) → {ys : List ℕ} → ys ≡ overwritten (zeros z) (take (length pointed - 1) (drop 1 pointed)) → {n : ℕ} → n ≡ length (zeros z)
-      → Writing (fraction scale (digit_text s)) d (slice (2 * length s - 1 - scale) (2 * length s - 1) (digit_text s)) (take 1 pointed ++ (ys ++ drop (length pointed - 1) (drop 1 pointed))) (1 + n)
+  pub after_zeros : {z : ℕ} → z ≡ scale - (2 * length s - 1) → {ys : List ℕ} → ys ≡ overwritten (zeros z) (take (length (set d 0 0x2E) - 1) (drop 1 (set d 0 0x2E))) → {n : ℕ} → n ≡ length (zeros z)
+      → WroteZeros scale s d ys n
   after_zeros e r y = wrote_rest (after_point e) _ _ refl _ r _ y
 
 -- ---- a run of digits in three: those before the byte i, those of whole bytes, and those from the byte j on

@@ -16,27 +16,28 @@ fn digit_at(data: &[u8], k: usize) -> u8
 {
     let b = data[k / 2];
     if k % 2 == 0 {
-        0x30 + b / 16
+        b'0' + b / 16
     } else {
-        0x30 + b % 16
+        b'0' + b % 16
     }
 }
 
-// Where the first w digits begin without their leading zeros.
+// Where the first w digits begin without their leading zeros. No `find`: it gives an Option, and the last place is the answer where all before are zeros.
 fn whole_start(data: &[u8], w: usize) -> usize
     requires { (0 < w) × (w < 2 * length «data».now) }
     ensures { Trimmed (digit_text «data».now) w result }
 {
     let last = w - 1;
     for z in 0..last {
-        if digit_at(data, z) != 0x30 {
+        if digit_at(data, z) != b'0' {
             return z;
         }
     }
     last
 }
 
-// Writes the digits from a up to e, one by one.
+// Writes the digits from a up to e, one by one. Tried: `out.iter_mut().zip(a..e)`. Of what a loop over an iterator made of `iter_mut` wrote nothing is known
+// behind it, so that `bytes` did not close.
 fn by_digit_write(data: &[u8], a: usize, e: usize, out: &mut [u8]) -> usize
     requires { (a ≤ e) × ((e < 2 * length «data».now) × (length (slice a e (digit_text «data».now)) ≤ length out.old)) }
     ensures count { result ≡ length (slice a e (digit_text «data».now)) }
@@ -48,15 +49,15 @@ fn by_digit_write(data: &[u8], a: usize, e: usize, out: &mut [u8]) -> usize
     e - a
 }
 
-// Writes the digits of the bytes from i up to j, two at a time.
+// Writes the digits of the bytes from i up to j, two at a time. Tried: `zip(out.chunks_exact_mut(2))`, and as above `bytes` did not close.
 fn by_byte_write(data: &[u8], i: usize, j: usize, out: &mut [u8]) -> usize
     requires { (i ≤ j) × ((j < length «data».now) × (length (slice (2 * i) (2 * j) (digit_text «data».now)) ≤ length out.old)) }
     ensures count { result ≡ length (slice (2 * i) (2 * j) (digit_text «data».now)) }
     ensures bytes { out.new ≡ overwritten (slice (2 * i) (2 * j) (digit_text «data».now)) out.old }
 {
     for (n, b) in data[i..j].iter().enumerate() {
-        out[2 * n] = 0x30 + *b / 16;
-        out[2 * n + 1] = 0x30 + *b % 16;
+        out[2 * n] = b'0' + *b / 16;
+        out[2 * n + 1] = b'0' + *b % 16;
     }
     2 * (j - i)
 }
@@ -83,10 +84,12 @@ fn zeros_write(n: usize, out: &mut [u8]) -> usize
     ensures count { result ≡ length (zeros n) }
     ensures bytes { out.new ≡ overwritten (zeros n) out.old }
 {
-    out[..n].fill(0x30);
+    out[..n].fill(b'0');
     n
 }
 
+// By its own reading: `decimal` has it that this text and the number of z/Architecture share no code. (`data.last()` would ask for an answer where there are
+// no bytes, which the contract shuts out.)
 fn is_minus(data: &[u8]) -> bool
     requires { 0 < length «data».now }
     ensures { result ≡ eqb (sign_nibble «data».now) 0xD }
@@ -108,7 +111,7 @@ fn sign_write(data: &[u8], out: &mut [u8]) -> usize
     ensures bytes { out.new ≡ overwritten (sign_text «data».now) out.old }
 {
     if is_minus(data) {
-        out[0] = 0x2D;
+        out[0] = b'-';
         return 1;
     }
     0
@@ -131,7 +134,7 @@ fn whole_write(data: &[u8], w: usize, out: &mut [u8]) -> usize
     ensures bytes { out.new ≡ overwritten (trimmed (take w (digit_text «data».now))) out.old }
 {
     if w == 0 {
-        out[0] = 0x30;
+        out[0] = b'0';
         return 1;
     }
     let z = whole_start(data, w);
@@ -158,14 +161,15 @@ fn fraction_write(data: &[u8], scale: usize, out: &mut [u8]) -> usize
         return 0;
     }
     let t = 2 * data.len() - 1;
-    out[0] = 0x2E;
+    out[0] = b'.';
     let mut o = 1;
     o += zeros_write(scale.saturating_sub(t), &mut out[o..]);
     o += digits_write(data, t.saturating_sub(scale), t, &mut out[o..]);
     o
 }
 
-// The length of the text of a packed decimal.
+// The length of the text of a packed decimal. 1 to 128 bytes are a slice and no type of their own: TRACE names `decimal_write`, which takes any such slice, and
+// the cells' decoders, which call both, know the bytes' number by a column's width and would have to test it again to make one.
 pub fn decimal_len(data: &[u8], scale: u8) -> usize
     requires { (0 < length «data».now) × (length «data».now ≤ most_bytes) }
     ensures { result ≡ length (decimal_text scale «data».now) }

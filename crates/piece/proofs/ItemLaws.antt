@@ -1,25 +1,21 @@
 -- Laws of items that the code rests on: an item as the code holds it has the text and the value of the rules' item. Assumes nothing.
 use Rattle.std.specs.Prelude.{Some}
-use Prim.Native.Nat.{ℕ, ◌+◌, ◌-◌, ◌≤◌}
+use Prim.Native.Nat.{ℕ}
 use mathlib.Core.Path.{◌≡◌, sym, ap, ◌∙◌, subst}
 use mathlib.Core.Bool.{Bool}
 use mathlib.Core.List.{List, []}
-use native.Mathlib.Omega.{arith}
-use lib.ListN.{length, take, drop, length-drop}
-use lib.Seq.{length-take-le, take_all}
+use lib.ListN.{length, take, drop}
 use Rattle.types.specs.declared.ColumnDescriptor.{ColumnDescriptor}
 use Rattle.types.specs.declared.Db2Value.{Db2Value}
 use Rattle.types.specs.declared.ValuePlace.{ValuePlace}
 use Rattle.rules.specs.Meaning.{Item, item_in}
-use Rattle.rules.specs.Row.{place, text_value, value_of, item_text, item_replaced, cell_item, cell_value}
+use Rattle.rules.specs.Row.{value_of, item_text, item_replaced, cell_item, cell_value}
 use Rattle.rules.specs.Conversions.{conversions_of}
 use Rattle.buffer.specs.Buffer.{Converted, unreplaced}
 use Rattle.cell.specs.declared.CellItem.{CellItem}
 use Rattle.cell.specs.declared.CellItem.TheVariants.{Nothing, Boolean, Part, Text}
-use Rattle.cell.specs.declared.TextSort.{TextSort}
-use Rattle.cell.specs.declared.Reading.{Reading}
 use Rattle.cell.specs.declared.OtherValue.{OtherValue}
-use Rattle.cell.specs.Cell.{text_sort, read_by, Readable, Holds, taken, NumberIs, OtherIs}
+use Rattle.cell.specs.Cell.{Holds, taken, NumberIs, OtherIs}
 use Rattle.cell.specs.Inner.{WidthOf}
 use Rattle.piece.specs.Piece.{LiesWithin, made_of, text_held, replaced_held, item_value, number_place, place_of, value_in, value_text, value_replaced, text_start, PlainCell}
 
@@ -50,51 +46,10 @@ holds_value release (Boolean b) s i at next h = ap (λ (y : Item). value_of y at
 holds_value release (Part k from len) s i at next h = ap (λ (y : Item). value_of y at next) (sym h.0)
 holds_value release (Text k reading from len) s i at next h = ap (λ (y : Item). value_of y at next) (sym h.0)
 
--- ---- the bytes of a text
-
-cut_as : (from len : ℕ) (s : List ℕ) → take ((from + len) - from) (drop from s) ≡ take len (drop from s)
-cut_as from len s = let e : (from + len) - from ≡ len = omega arith in ap (λ (n : ℕ). take n (drop from s)) e
-
-cut_length : (from len : ℕ) (s : List ℕ) → from + len ≤ length s → length (take ((from + len) - from) (drop from s)) ≡ len
-cut_length from len s h = length-take-le ((from + len) - from) (drop from s) (omega (arith, length-drop from s)) ∙ omega arith
-
--- an item that is a text
-module _ (release : ℕ) (x : CellItem) (s : List ℕ) (k : TextSort) (reading : Reading) (from len : ℕ) (e : x ≡ Text k reading from len) (w : LiesWithin x s) where
-  pub text_within : (from + len ≤ length s) × Readable reading len
-  text_within = subst (λ (y : CellItem). LiesWithin y s) e w
-
-  pub text_readable : Readable reading (length (take ((from + len) - from) (drop from s)))
-  text_readable = subst (Readable reading) (sym (cut_length from len s text_within.0)) text_within.1
-
-  pub text_shorter : length (take ((from + len) - from) (drop from s)) ≤ length s
-  text_shorter = omega (arith, cut_length from len s text_within.0, text_within.0)
-
-  pub text_cut : read_by release reading (take ((from + len) - from) (drop from s)) ≡ made_of release x s
-  text_cut = ap (read_by release reading) (cut_as from len s) ∙ ap (λ (y : CellItem). made_of release y s) (sym e)
-
-  pub text_value_lem : (at next n : ℕ) → n ≡ length (text_held release x s) → text_value (text_sort k) (place next n) ≡ item_value release x s at next
-  text_value_lem at next n h =
-      ap (λ (m : ℕ). text_value (text_sort k) (place next m)) (h ∙ ap (λ (y : CellItem). length (text_held release y s)) e)
-      ∙ ap (λ (y : CellItem). item_value release y s at next) (sym e)
-
 -- ---- a text that is the bytes themselves, all from a place on, with none replaced
 
 plain_by : (c : Converted) (t : List ℕ) → c.text_bytes ≡ t → c.replaced ≡ 0 → c ≡ unreplaced t
 plain_by c t e h = ap (λ (u : List ℕ). record { text_bytes = u; replaced = c.replaced }) e ∙ ap (λ (n : ℕ). record { text_bytes = t; replaced = n }) h
-
-all_from : (start len : ℕ) (s : List ℕ) → start + len ≡ length s → take len (drop start s) ≡ drop start s
-all_from start len s e = take_all len (drop start s) (omega (arith, length-drop start s))
-
-module _ (release : ℕ) (x : CellItem) (s : List ℕ) (k : TextSort) (reading : Reading) (start len from : ℕ) (e : x ≡ Text k reading start len) (a : (start ≡ from) × (start + len ≡ length s)) where
-  cut_all : take ((start + len) - start) (drop start s) ≡ drop from s
-  cut_all = cut_as start len s ∙ all_from start len s a.1 ∙ ap (λ (n : ℕ). drop n s) a.0
-
-  pub plain_cut : read_by release reading (take ((start + len) - start) (drop start s)) ≡ unreplaced (take ((start + len) - start) (drop start s)) → made_of release x s ≡ unreplaced (drop from s)
-  plain_cut h = ap (λ (y : CellItem). made_of release y s) e ∙ ap (read_by release reading) (sym (cut_as start len s)) ∙ h ∙ ap unreplaced cut_all
-
-  -- where the text is the bytes themselves, so is what is read of them
-  pub copied_cut : made_of release x s ≡ unreplaced (drop from s) → read_by release reading (take ((start + len) - start) (drop start s)) ≡ unreplaced (take ((start + len) - start) (drop start s))
-  copied_cut p = ap (read_by release reading) (cut_as start len s) ∙ ap (λ (y : CellItem). made_of release y s) (sym e) ∙ p ∙ ap unreplaced (sym cut_all)
 
 -- ---- what the column decoder finds
 

@@ -16,6 +16,7 @@ use Rattle.types.specs.declared.ColumnDescriptor.{ColumnDescriptor}
 use Rattle.rules.specs.Walk.{column_need, Cell, absent, Walk, done, short, walk, walk_body}
 use Rattle.rules.proofs.Walks.{is_done, pieces_of, walk_step, walk_first}
 use Rattle.rules.proofs.Progress.{Going, piece_at, cons_inverse, going_ahead, following}
+use Rattle.std.proofs.lemmas.List.{set_past}
 use Rattle.piece.specs.Piece.{PlainCell}
 use Rattle.piece.specs.Marks.{mark_at, Marks, PlainMarks}
 
@@ -75,12 +76,6 @@ word_set m k w h e j t = go (eqb (j / 64) (k / 64)) refl
         (xor_bit (get_or m (j / 64) 0 / 2 ^ (j % 64)) (2 ^ (k % 64) / 2 ^ (j % 64)) (here q))
     go false f =
         inl (rw (get_or-set_other m (k / 64) (j / 64) w 0 (eqb-false (j / 64) (k / 64) f)) at t)
-
--- past the words nothing is set
-set_past : (m : List ℕ) (i w : ℕ) → length m ≤ i → set m i w ≡ m
-set_past [] i w h = refl
-set_past (x ∷ m) zero w h = absurd (omega arith)
-set_past (x ∷ m) (suc i) w h = ap (λ (l : List ℕ). x ∷ l) (set_past m i w (omega arith))
 
 -- the bit as a shift makes it
 pub mark_set : (m : List ℕ) (k : ℕ) (b : Bool) → b ≡ true → Marks m k b (set m (k / 64) (bit_xor (get_or m (k / 64) 0) ((1 * 2 ^ (k % 64)) % 2 ^ 64)))

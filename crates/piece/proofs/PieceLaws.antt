@@ -5,9 +5,7 @@ use mathlib.Core.Bool.{Bool, true, false, cond, not, true≢false}
 use mathlib.Core.List.{List, [], ◌∷◌}
 use native.Mathlib.Numerals.{one-add}
 use native.Mathlib.Omega.{arith}
-use lib.ListN.{length, get_or, take, drop, length-drop}
-use lib.Seq.{take_all}
-use lib.Dec.{eqb}
+use lib.ListN.{length, get_or, take, drop}
 use borrow.Author.Tests.{eq-eqb, ne_eqb, eqb-true, eqb-false}
 use Rattle.types.specs.declared.ColumnDescriptor.{ColumnDescriptor}
 use Rattle.rules.specs.Extent.{need, extent_of}
@@ -15,10 +13,6 @@ use Rattle.rules.specs.Walk.{nullable_need, cell_need, column_need, Cell, absent
 use Rattle.rules.specs.Row.{item_text, item_replaced, cell_item}
 use Rattle.rules.specs.Conversions.{conversions_of}
 use Rattle.piece.specs.Piece.{is_null, value_in, value_text, value_replaced, cell_in, cell_text, cell_replaced}
-
--- all bytes from a place on
-pub all_after : (k : ℕ) (s : List ℕ) → take (length s - k) (drop k s) ≡ drop k s
-all_after k s = take_all (length s - k) (drop k s) (omega (arith, length-drop k s))
 
 -- a test of what is not so
 pub said : (b t : Bool) → not b ≡ t → b ≡ not t
@@ -115,20 +109,6 @@ module _ (c : ColumnDescriptor) (n : not c.nullable ≡ false) where
 
 abbrev pub lead_of : ColumnDescriptor → ℕ
 lead_of c = cond c.nullable 1 0
-
-pub null_is : (b : Bool) (s : List ℕ) → not b ≡ true → false ≡ is_null b s
-null_is true s e = absurd (true≢false (sym e))
-null_is false s e = refl
-
-pub null_none : (b : Bool) (s : List ℕ) → not b ≡ false → length s ≡ 0 → true ≡ is_null b s
-null_none true [] e h = refl
-null_none true (x ∷ s) e h = absurd (omega (arith, h))
-null_none false s e h = absurd (true≢false e)
-
-pub null_says : (b : Bool) (s : List ℕ) → not b ≡ false → 0 < length s → eqb (get_or s 0 0) 0xFF ≡ is_null b s
-null_says true [] e h = absurd (omega (arith, h))
-null_says true (x ∷ s) e h = refl
-null_says false s e h = absurd (true≢false e)
 
 module _ (c : ColumnDescriptor) (s : List ℕ) where
   module _ (h : is_null c.nullable s ≡ true) where

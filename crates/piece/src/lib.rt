@@ -7,6 +7,7 @@ pub mod marks;
 
 ghost use Rattle.std.specs.Prelude.{◌≡◌, true, false, cond, ℕ, ◌+◌, ◌<◌, ◌≤◌, length, take, drop};
 ghost use Rattle.refusal.specs.Refusal.{input_limit};
+ghost use Rattle.refusal.specs.declared.Refusal.TheVariants.{BufferTooShort};
 ghost use Rattle.types.specs.Places.{blank_value};
 ghost use Rattle.buffer.specs.Buffer.{unreplaced, overwritten};
 ghost use Rattle.rules.specs.Extent.{need, extent_of};
@@ -21,6 +22,7 @@ use cell::extents::{column_need, number_width};
 use cell::{ColumnValue, OtherValue, decode_column_value, decode_other_value};
 use items::{item_len, item_write, text_start};
 use marks::WORDS;
+use refusal::Refusal;
 use types::{ColumnDescriptor, Db2Type, Db2Value, ValuePlace};
 
 // The Rust's two numbers of a row that is too short.
@@ -28,6 +30,17 @@ use types::{ColumnDescriptor, Db2Type, Db2Value, ValuePlace};
 pub struct Lacking {
     pub expected: usize,
     pub actual: usize,
+}
+
+impl From<Lacking> for Refusal {
+    ghost from_gives = { λ l r. r ≡ BufferTooShort l.expected l.actual };
+
+    fn from(l: Lacking) -> Refusal {
+        Refusal::BufferTooShort {
+            expected: l.expected,
+            actual: l.actual,
+        }
+    }
 }
 
 // How long a column's text is, how many bytes of the row the column takes, and whether the text is the value's own bytes, with none replaced.
@@ -63,10 +76,11 @@ pub fn skip_of(data: &[u8]) -> usize
 pub fn is_null(rest: &[u8], nullable: bool) -> bool
     ensures { result ≡ is_null nullable rest.now }
 {
-    nullable && (rest.len() == 0 || rest[0] == 0xFF)
+    nullable && rest.first().is_none_or(|&b| b == 0xFF)
 }
 
-// How many bytes stand before a value: its indicator, where the column has one.
+// How many bytes stand before a value: its indicator, where the column has one. What asks is_null and then lead, here and in row_words, adds the lead to what the
+// value takes: one call for both questions would answer the rest behind the indicator and that number, in an Option, and be no shorter at its callers.
 pub fn lead(nullable: bool) -> usize
     ensures { (result ≡ cond nullable 1 0) × (result ≤ 1) }
 {
@@ -95,7 +109,7 @@ pub fn shortage(rest: &[u8], offset: usize, column: ColumnDescriptor) -> Lacking
             actual: rest.len(),
         };
     }
-    if rest.len() == 0 {
+    if rest.is_empty() {
         return Lacking {
             expected: offset + 1,
             actual: offset,
@@ -107,7 +121,8 @@ pub fn shortage(rest: &[u8], offset: usize, column: ColumnDescriptor) -> Lacking
     }
 }
 
-// The text of a value that is no number.
+// The text of a value that is no number. That the rest of a row is within the limit stands at each function on one, and no type holds it: one would be made anew
+// behind each indicator and for each column, with the proof that now stands at the call.
 fn other_length(rest: &[u8], column: ColumnDescriptor, release: u32) -> PieceLength
     requires there { need (extent_of column) rest.now ≤ length rest.now }
     requires limit { length rest.now ≤ input_limit }
@@ -187,7 +202,7 @@ fn bare_piece(value: Db2Value, used: usize) -> PieceWritten
 }
 
 // A value that is no number, as the column decoder found it at place `at` of the input. The mark of column k says that its text is the value's own
-// bytes, all from byte `from` on, as measuring found.
+// bytes, all from byte `from` on, as measuring found. Parameters as item_write has them, here and in the two functions below.
 pub fn other_write(
     d: OtherValue,
     release: u32,
@@ -244,11 +259,11 @@ fn value_write(
     ensures bytes { out.new ≡ overwritten (value_text release column rest.now) out.old }
     ensures replaced { result.replaced ≡ value_replaced release column rest.now }
 {
-    let t = column.db2_type;
     match decode_column_value(rest, column) {
-        ColumnValue::Number { value, used } => bare_piece(value, used),
+        ColumnValue::Number(n) => bare_piece(n.value, n.used),
         ColumnValue::Other(d) => {
-            other_write(d, release, text_start(t), rest, at, marks, k, next, out)
+            let from = text_start(column.db2_type);
+            other_write(d, release, from, rest, at, marks, k, next, out)
         }
     }
 }

@@ -3,7 +3,8 @@
 ghost use Rattle.std.specs.Prelude.{◌≡◌, ◌<◌};
 ghost use Rattle.piece.specs.Marks.{mark_at, Marks};
 
-// So many words have a bit for each of 768 columns.
+// So many words have a bit for each of 768 columns. A list has at most 128, and fewer words would ask more of callers. An array and two functions: a struct around it
+// would put a field into each clause on marks.
 pub const WORDS: usize = 12;
 
 // No column of a word is marked.
@@ -17,6 +18,7 @@ pub fn is_marked(marks: &[u64; WORDS], k: usize) -> bool
     (marks[k / 64] >> (k % 64)) % 2 == 0
 }
 
+// `plain` stands here and not around the calls: there it would join two ways in each loop that measures.
 #[tactic(auto, using(crate::proofs::MarkLaws::mark_set))]
 pub fn mark(marks: &mut [u64; WORDS], k: usize, plain: bool)
     requires { k < 768 }

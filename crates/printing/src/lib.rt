@@ -2,6 +2,9 @@
 // `type_names`: the types by their names; in `characters`: which characters of a text are shown as they are. Floats are printed by the library.
 #![tactic(auto)]
 
+ghost use Rattle.std.specs.Prelude.{Some, codes};
+ghost use Rattle.printing.specs.Counts.{counted, or_dash};
+
 mod characters;
 pub mod type_names;
 
@@ -10,7 +13,7 @@ use characters::is_hidden;
 use std::fmt;
 use std::fmt::Write;
 
-// More bytes than a text has that fills a column of a table.
+// More bytes than a text has that fills a column of a table. An ArrayString: `pad` takes one text, and a String of the parts would have to be allocated.
 const WIDEST: usize = 48;
 
 // Bytes in hexadecimal, two digits each.
@@ -26,20 +29,58 @@ impl fmt::Display for Hex<'_> {
     }
 }
 
+// How many there are of something, by the words for one of them and for any other number.
+#[derive(Clone, Copy)]
+pub struct Counted<'a> {
+    pub count: usize,
+    pub one: &'a str,
+    pub others: &'a str,
+}
+
+impl fmt::Display for Counted<'_> {
+    ghost output = { λ c. Some (counted c.count c.one.now c.others.now) };
+
+    fn fmt<W: fmt::Write>(&self, f: &mut fmt::Formatter<W>) -> fmt::Result {
+        let count = self.count;
+        let what = if count == 1 { self.one } else { self.others };
+        write!(f, "{count} {what}")
+    }
+}
+
 // A number of bytes.
 #[derive(Clone, Copy)]
 pub struct ByteCount(pub usize);
 
 impl fmt::Display for ByteCount {
+    ghost output = { λ c. Some (counted c.0 (codes "byte") (codes "bytes")) };
+
+    fn fmt<W: fmt::Write>(&self, f: &mut fmt::Formatter<W>) -> fmt::Result {
+        let counted = Counted {
+            count: self.0,
+            one: "byte",
+            others: "bytes",
+        };
+        write!(f, "{counted}")
+    }
+}
+
+// A number, and `-` where there is none.
+#[derive(Clone, Copy)]
+pub struct OrDash(pub Option<u16>);
+
+impl fmt::Display for OrDash {
+    ghost output = { λ o. Some (or_dash o.0) };
+
     fn fmt<W: fmt::Write>(&self, f: &mut fmt::Formatter<W>) -> fmt::Result {
         match self.0 {
-            1 => f.write_str("1 byte"),
-            n => write!(f, "{n} bytes"),
+            Some(n) => write!(f, "{n}"),
+            None => f.write_str("-"),
         }
     }
 }
 
-// Where bytes lie: the first, and the one behind the last.
+// Where bytes lie: the first, and the one behind the last. Its fields are a Place's, which is of `types`: a Display of it here would need a wrapper, and each
+// Span would be Span(Place { .. }).
 #[derive(Clone, Copy)]
 pub struct Span {
     pub start: usize,

@@ -7,6 +7,7 @@ use crate::write_padded;
 use std::fmt;
 use types::Db2Type;
 
+// Written out: the names that a derive of Debug would print have the numbers with them, in its own form.
 pub fn name_of(t: Db2Type) -> &'static str {
     match t {
         Db2Type::SmallInt => "SmallInt",
@@ -14,10 +15,7 @@ pub fn name_of(t: Db2Type) -> &'static str {
         Db2Type::BigInt => "BigInt",
         Db2Type::Real => "Real",
         Db2Type::Double => "Double",
-        Db2Type::Decimal {
-            precision: _,
-            scale: _,
-        } => "Decimal",
+        Db2Type::Decimal { .. } => "Decimal",
         Db2Type::DecFloat(_) => "DecFloat",
         Db2Type::Char(_) => "Char",
         Db2Type::VarChar(_) => "VarChar",
@@ -44,7 +42,8 @@ pub fn name_of(t: Db2Type) -> &'static str {
     }
 }
 
-// The numbers that a type holds: a Decimal two, those with a length or with digits one.
+// The numbers that a type holds: a Decimal two, those with a length or with digits one. Their number is one of three, which an Option around one or two would
+// ask for in two matches.
 #[derive(Clone, Copy)]
 pub enum Numbers {
     None,

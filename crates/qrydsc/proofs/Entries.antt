@@ -1,16 +1,20 @@
 -- What an entry answers, by what is tested. Assumes nothing.
 use mathlib.Core.Path.{◌≡◌, refl, ap, ◌∙◌}
-use mathlib.Core.Bool.{Bool, true, false, cond, not}
+use mathlib.Core.Bool.{Bool, true, false, cond, ◌&&◌}
 use mathlib.Core.List.{List, []}
 use Prim.Native.Nat.{ℕ, ◌≤◌, ◌<◌}
-use native.Mathlib.Omega.{arith}
+use lib.Dec.{ltb}
 use lib.ListN.{length}
 use borrow.Author.Tests.{lt-ltb, le-ltb}
 use Rattle.triplets.specs.Triplets.{breaks_off}
 use Rattle.triplets.specs.Descriptors.{columns_of}
 use Rattle.triplets.specs.Steps.{end_from}
 use Rattle.triplets.proofs.StepLaws.{breaks_before}
-use Rattle.qrydsc.specs.Qrydsc.{DescriptionTold, refused_description, list_answer, max_qrydsc, description, whole_description}
+use Rattle.std.specs.Prelude.{Err}
+use Rattle.refusal.specs.declared.Refusal.{Refusal}
+use Rattle.refusal.specs.declared.Refusal.TheVariants.{QrydscBrokenOff, TooManyColumns}
+use Rattle.refusal.specs.Refusal.{refusal_number, refusal_values}
+use Rattle.qrydsc.specs.Qrydsc.{told_description, DescriptionTold, refused_description, list_answer, max_qrydsc, description, whole_description}
 use Rattle.qrydsc.specs.Entries.{entry_answer, full_answer}
 
 pub too_long : (whole : Bool) (s : List ℕ) → max_qrydsc < length s → refused_description 1 [] ≡ entry_answer whole s
@@ -35,17 +39,11 @@ unfolding full_answer
 full_entry true s short full = rw (breaks_before s) (ap (cond (breaks_off s) (refused_description 15 [])) (full false) ∙ within_limit true s short)
 full_entry false s short full = full (breaks_off s) ∙ within_limit false s short
 
-pub any_full : (whole : Bool) (at n : ℕ) → not whole ≡ true → refused_description 2 [] ≡ full_answer whole at n
+pub told_full : (whole : Bool) (at n : ℕ) (r : Refusal) → r ≡ cond (whole && ltb at n) QrydscBrokenOff TooManyColumns
+    → refused_description (refusal_number r) (refusal_values r) ≡ full_answer whole at n
 unfolding full_answer
-any_full true at n w = let z : ◌≡◌ {A = ℕ} 0 1 = cc in absurd (omega arith)
-any_full false at n w = refl
-
-pub broken_full : (whole : Bool) (at n : ℕ) → not whole ≡ false → at < n → refused_description 15 [] ≡ full_answer whole at n
-unfolding full_answer
-broken_full true at n w h = rw (lt-ltb at n h)
-broken_full false at n w h = let z : ◌≡◌ {A = ℕ} 0 1 = cc in absurd (omega arith)
-
-pub whole_full : (whole : Bool) (at n : ℕ) → n ≤ at → refused_description 2 [] ≡ full_answer whole at n
-unfolding full_answer
-whole_full true at n h = rw (le-ltb at n h)
-whole_full false at n h = refl
+told_full whole at n r e = rw e (go (whole && ltb at n))
+  where
+    go : (b : Bool) → told_description (Err (cond b QrydscBrokenOff TooManyColumns)) ≡ cond b (refused_description 15 []) (refused_description 2 [])
+    go true = refl
+    go false = refl

@@ -2,17 +2,14 @@
 // parse_qrydsc, the ported entry, reads those too, and says so. Neither reads rows.
 #![tactic(auto)]
 
-ghost use Rattle.std.specs.Prelude.{◌≡◌, length};
-ghost use Rattle.refusal.specs.Refusal.{refusal_number, refusal_values};
-ghost use Rattle.types.specs.Places.{blank_column};
-ghost use Rattle.triplets.specs.Steps.{CursorWithin, end_from, outer_at};
-ghost use Rattle.qrydsc.specs.Qrydsc.{told_description, refused_description, description, whole_description};
-ghost use Rattle.qrydsc.specs.Entries.{entry_answer, full_answer};
+ghost use Rattle.std.specs.Prelude.{◌≡◌};
+ghost use Rattle.qrydsc.specs.Qrydsc.{told_description, description, whole_description};
+ghost use Rattle.qrydsc.specs.Entries.{entry_answer};
 
 use column::{EnvEntry, LID_COUNT};
 use refusal::Refusal;
 use triplets::{Cursor, Reached};
-use types::{ByteOrder, ColumnDescriptor, Columns, Db2Type, MAX_COLUMNS, Origin};
+use types::{ColumnDescriptor, Columns, MAX_COLUMNS};
 
 // How many bytes a description may have. specs/Qrydsc.antt calls it max_qrydsc.
 pub const MAX_QRYDSC: usize = 65536;
@@ -25,51 +22,15 @@ pub struct Description {
     pub broken_off: bool,
 }
 
-// An unused place. A function and no constant, so that a contract says that it is the rules' blank column.
-#[tactic(auto, unfolding(types::specs::Places::blank_column))]
-fn blank_column() -> ColumnDescriptor
-    ensures { result ≡ blank_column }
-{
-    ColumnDescriptor {
-        column_index: 0,
-        drda_type: 0,
-        length: 0,
-        precision: 0,
-        scale: 0,
-        nullable: false,
-        origin: Origin::Sda,
-        ccsid: 0,
-        db2_type: Db2Type::Null,
-        byte_order: ByteOrder::BigEndian,
-        extdta_reference_length: None,
-    }
-}
-
-// The refusal of more columns than a list holds, with the reading at a cursor. Where only whole descriptions
-// are taken, outer triplets are read on to their end first.
-fn too_many(data: &[u8], cursor: Cursor, whole: bool) -> Refusal
-    requires { CursorWithin «data».now cursor }
-    ensures { refused_description (refusal_number result) (refusal_values result) ≡ full_answer whole (end_from «data».now (outer_at cursor)) (length «data».now) }
-{
-    if !whole {
-        return Refusal::TooManyColumns;
-    }
-    let at = triplets::outer_at(cursor);
-    let end = triplets::outer_end(data, at);
-    if end < data.len() {
-        return Refusal::QrydscBrokenOff;
-    }
-    Refusal::TooManyColumns
-}
-
-// Both calls in one: what they differ in is what they do at the end.
+// Both calls in one: what they differ in is what they do at the end, by a flag, as the definition entry_answer takes it. The columns are an array and a count, as
+// Columns has them: the library has no heap.
 fn parse(data: &[u8], whole: bool) -> Result<Description, Refusal>
     ensures { told_description result ≡ entry_answer whole «data».now }
 {
     if MAX_QRYDSC < data.len() {
         return Err(Refusal::QrydscTooLong);
     }
-    let mut columns = [blank_column(); MAX_COLUMNS];
+    let mut columns = [ColumnDescriptor::default(); MAX_COLUMNS];
     let mut count: usize = 0;
     let mut environment: [Option<EnvEntry>; LID_COUNT] = [None; LID_COUNT];
     let mut cursor = Cursor::Outer {
@@ -81,10 +42,8 @@ fn parse(data: &[u8], whole: bool) -> Result<Description, Refusal>
         match triplets::next_column(data, cursor, &mut environment) {
             Reached::End(end) => {
                 let broken_off = end < data.len();
-                if broken_off {
-                    if whole {
-                        return Err(Refusal::QrydscBrokenOff);
-                    }
+                if broken_off && whole {
+                    return Err(Refusal::QrydscBrokenOff);
                 }
                 return Ok(Description {
                     columns: Columns { columns, count },
@@ -97,8 +56,9 @@ fn parse(data: &[u8], whole: bool) -> Result<Description, Refusal>
                 entry,
             } => {
                 if MAX_COLUMNS <= count {
-                    return Err(too_many(data, next, whole));
+                    return Err(triplets::too_many(data, triplets::outer_at(next), whole));
                 }
+                // One update of a field, which a method would not make plainer. By `as`: the count is below 128, and From has no u8 of a usize.
                 columns[count] = ColumnDescriptor {
                     column_index: count as u8,
                     ..triplets::column_at(data, source, entry)

@@ -1,5 +1,6 @@
-// Face. Why a call refuses its input, as one enum: every call of the library that may refuse answers Result<T, Refusal>. No other crate takes a Refusal
-// apart. It has no text for people: the numbers are those of docs/RULES.md, "Refusals".
+// Face. Why a call refuses its input, as one enum: every call of the library that may refuse answers Result<T, Refusal>. The library makes a Refusal and
+// asks for its number and its values; of the programs tables and answers match on it, and replay and cases compare it. It has no text for people: the
+// numbers are those of docs/RULES.md, "Refusals".
 #![tactic(auto)]
 
 ghost use Rattle.std.specs.Prelude.{◌≡◌, get_or};
@@ -8,7 +9,7 @@ ghost use Rattle.refusal.specs.Refusal.{refusal_number, refusal_values, told, to
 // The most bytes of a row, and for a text conversion called alone.
 pub const INPUT_LIMIT: usize = 1048576;
 
-// The numbers of the refusals.
+// The numbers of the refusals. Constants, since vejupa answers some of them by name; and no From: README names Refusal::number, which would say the same.
 pub const QRYDSC_TOO_LONG: u32 = 1;
 
 pub const TOO_MANY_COLUMNS: u32 = 2;
@@ -83,11 +84,8 @@ impl Refusal {
             Refusal::DecFloatColumn => DEC_FLOAT_COLUMN,
             Refusal::DecimalEmpty => DECIMAL_EMPTY,
             Refusal::DecimalTooLong => DECIMAL_TOO_LONG,
-            Refusal::BufferTooShort {
-                expected: _,
-                actual: _,
-            } => BUFFER_TOO_SHORT,
-            Refusal::TextBufferTooShort { needed: _ } => TEXT_BUFFER_TOO_SHORT,
+            Refusal::BufferTooShort { .. } => BUFFER_TOO_SHORT,
+            Refusal::TextBufferTooShort { .. } => TEXT_BUFFER_TOO_SHORT,
             Refusal::DecimalDigit => DECIMAL_DIGIT,
             Refusal::DecimalSign => DECIMAL_SIGN,
             Refusal::DecimalOutOfRange => DECIMAL_OUT_OF_RANGE,
@@ -96,15 +94,12 @@ impl Refusal {
         }
     }
 
-    // The first of the numbers that come with it, and 0 where there is none.
+    // The first of the numbers that come with it, and 0 where there is none: no Option, since README promises that 0, and C is told it.
     pub fn first_value(self) -> usize
         ensures { result ≡ get_or (refusal_values self) 0 0 }
     {
         match self {
-            Refusal::BufferTooShort {
-                expected,
-                actual: _,
-            } => expected,
+            Refusal::BufferTooShort { expected, .. } => expected,
             Refusal::TextBufferTooShort { needed } => needed,
             _ => 0,
         }
@@ -115,16 +110,14 @@ impl Refusal {
         ensures { result ≡ get_or (refusal_values self) 1 0 }
     {
         match self {
-            Refusal::BufferTooShort {
-                expected: _,
-                actual,
-            } => actual,
+            Refusal::BufferTooShort { actual, .. } => actual,
             _ => 0,
         }
     }
 }
 
-// The number of the refusal that an answer is, and 0 where it is none.
+// The number of the refusal that an answer is, and 0 where it is none. README names the three that follow; one body for them would take a closure in place of a
+// match of two arms, and be no plainer.
 pub fn number<T>(answer: &Result<T, Refusal>) -> u32
     ensures { result ≡ told_number (told answer.now) }
 {

@@ -2,23 +2,17 @@
 use Prim.Native.Nat.{ℕ, ◌+◌, ◌-◌, ◌≤◌, ◌<◌}
 use mathlib.Core.Path.{◌≡◌, sym, ap, ◌∙◌}
 use mathlib.Core.List.{List, [], ◌∷◌, ◌++◌}
-use native.Mathlib.Omega.{arith}
 use lib.ListN.{length, take, drop, set, replicate}
 use Rattle.types.specs.declared.ColumnDescriptor.{ColumnDescriptor}
 use Rattle.types.specs.declared.ValuePlace.{ValuePlace}
 use Rattle.types.specs.Places.{max_columns, filled, blank_value}
 use Rattle.buffer.specs.Buffer.{overwritten}
-use Rattle.buffer.proofs.Writing.{Writing, fits}
 use Rattle.rules.specs.Walk.{column_need, Cell, done, walk_body}
 use Rattle.rules.specs.Row.{cell_value, row_values, row_texts, row_replaced, accept, body_decision}
 use Rattle.rules.specs.Conversions.{conversions_of}
 use Rattle.rules.proofs.Walks.{pieces_of}
 use Rattle.rules.proofs.Progress.{piece_at, text_in, replaced_in, Placing, placing_start, placing_step, placing_end, placed_start, placed_step}
 use Rattle.row.proofs.Wholes.{decided_accepted}
-
--- the next unwritten byte is within the buffer
-pub next_within : {T d l out : List ℕ} {o : ℕ} → Writing T d l out o → o ≤ length out
-next_within w = omega (arith, fits w)
 
 -- the columns cs of the input s, whose walk ends at `end`, at a release; d is the text buffer as it was
 module _ (release : ℕ) (cs : List ColumnDescriptor) (start : ℕ) (s : List ℕ) (end : ℕ) (d : List ℕ) where

@@ -1,4 +1,3 @@
-pub mod Columns
 pub mod Wholes
 pub mod Filling
 pub mod Scales

@@ -3,17 +3,15 @@ use Prim.Native.Nat.{ℕ, zero, suc, ◌+◌, ◌*◌, ◌-◌, ◌≤◌}
 use mathlib.Core.Path.{subst}
 use mathlib.Core.List.{List, [], ◌∷◌}
 use lib.ListN.{length, take}
-use lib.Seq.{length-take-le}
 use mir.Val.{Val}
 use denote.Array.{each}
 use denote.Shadow.{shadow}
 use Rattle.types.specs.declared.Db2Type.{Db2Type}
 use Rattle.types.specs.declared.ColumnDescriptor.{ColumnDescriptor}
-use Rattle.types.specs.declared.Columns.{Columns}
 use Rattle.types.specs.contracts.ColumnDescriptor as column
 use Rattle.types.specs.contracts.Db2Type as db2
 use Rattle.rules.specs.Walk.{walk_body}
-use Rattle.rules.specs.Row.{covered, row_texts}
+use Rattle.rules.specs.Row.{row_texts}
 use Rattle.rules.specs.Conversions.{conversions_of}
 use Rattle.rules.proofs.Walks.{pieces_of}
 use Rattle.rules.proofs.Progress.{end_within}
@@ -32,14 +30,14 @@ owned_scaled [] us o = tt
 owned_scaled (c ∷ cs) [] o = absurd o
 owned_scaled (c ∷ cs) (u ∷ us) o = (column_scaled c (u ∷ []) o.0, owned_scaled cs us o.1)
 
-covered_scaled : (n : ℕ) (cs : List ColumnDescriptor) → AllScaled cs → AllScaled (take n cs)
+pub covered_scaled : (n : ℕ) (cs : List ColumnDescriptor) → AllScaled cs → AllScaled (take n cs)
 covered_scaled zero cs h = tt
 covered_scaled (suc n) [] h = tt
 covered_scaled (suc n) (c ∷ cs) h = (h.0, covered_scaled n cs h.1)
 
--- the texts of a row of the columns l, all of which have their bytes
-pub covered_bound : (release : ℕ) (l : Columns) → l.count ≤ length l.columns → AllScaled l.columns → (start end : ℕ) (s : List ℕ) → AreBytes s → start ≤ length s
-    → Whole (walk_body (covered l) start s) end → length (row_texts (conversions_of release) (pieces_of (walk_body (covered l) start s))) ≤ 3 * (end - start) + 258 * l.count
-covered_bound release l enough scaled start end s bytes h w =
-    let within = end_within (covered l) start s _ end h (whole_is w) in
-    rw (length-take-le l.count l.columns enough) at (texts_bound release (covered l) start s _ end (covered_scaled l.count l.columns scaled) bytes within.0 (whole_is w))
+-- the texts of a row of the columns cs, all of which have their bytes
+pub listed_bound : (release : ℕ) (cs : List ColumnDescriptor) → AllScaled cs → (start end : ℕ) (s : List ℕ) → AreBytes s → start ≤ length s
+    → Whole (walk_body cs start s) end → length (row_texts (conversions_of release) (pieces_of (walk_body cs start s))) ≤ 3 * (end - start) + 258 * length cs
+listed_bound release cs scaled start end s bytes h w =
+    let within = end_within cs start s _ end h (whole_is w) in
+    texts_bound release cs start s _ end scaled bytes within.0 (whole_is w)

@@ -3,6 +3,7 @@ use Prim.Native.Nat.{ℕ, ◌+◌, ◌*◌, ◌/◌, ◌%◌, ◌≤◌, ◌<◌
 use mathlib.Core.Path.{◌≡◌, refl, sym, ap, ◌∙◌}
 use mathlib.Core.Bool.{Bool, true, false, not, ◌||◌}
 use mathlib.Core.List.{List}
+use Rattle.std.proofs.lemmas.Bool.{not-true, not-false}
 use Rattle.std.specs.Prelude.{Option, Some, None}
 use native.Mathlib.Omega.{arith}
 use borrow.Author.Tests.{eqb-true, eqb-false}
@@ -27,20 +28,8 @@ or_false : (x : Bool) → x || false ≡ x
 or_false true = refl
 or_false false = refl
 
-refuted : (x : Bool) → not x ≡ true → x ≡ false
-refuted true h = sym h
-refuted false h = refl
-
-confirmed : (x : Bool) → not x ≡ false → x ≡ true
-confirmed true h = refl
-confirmed false h = sym h
-
 dec_float_read : (a b : ℕ) → is_column a b ≡ true → is_dec_float (column_named a b) ≡ eqb 6 (a % 2 ^ 8)
 dec_float_read a b h = rw (name_read a b h) (or_false (eqb (name_of (type.DecFloat 0)) (a % 2 ^ 8)))
-
-added_none : (x : Option (List ColumnDescriptor)) → checked_of x ≡ added false (checked_of x)
-added_none (Some cs) = refl
-added_none None = refl
 
 or_or : (n k m : Bool) → (n || (k || m)) ≡ ((n || k) || m)
 or_or true k m = refl
@@ -58,9 +47,6 @@ module _ (ws : List ℕ) where
   pub record Checking (n : Bool) (i : ℕ) : Type 0 where
     pub so_far : checked_of (read_columns ws) ≡ added n (checked_of (read_columns (drop (2 * i) ws)))
 
-  pub checking_start : Checking false 0
-  checking_start = record { so_far = added_none (read_columns ws) }
-
   module _ {n : Bool} {i : ℕ} (c : Checking n i) where
     -- a and b are the next two words
     module _ (h : i < length ws / 2) (a b : ℕ) (e : (a ≡ get_or ws (2 * i) 0) × (b ≡ get_or ws (2 * i + 1) 0)) where
@@ -72,12 +58,12 @@ module _ (ws : List ℕ) where
       -- r is what the test of the two words says
       pub checking_bad : (r : Bool) → r ≡ is_column a b → not r ≡ true → None ≡ checked_of (read_columns ws)
       unfolding read_column
-      checking_bad r q n = sym (here ∙ rw (← q, refuted r n))
+      checking_bad r q n = sym (here ∙ rw (← q, not-true r n))
 
       pub checking_step : (r : Bool) → r ≡ is_column a b → not r ≡ false → (m : Bool) → m ≡ (n || eqb 6 (a % 2 ^ 8)) → Checking m (i + 1)
       unfolding read_column
       checking_step r q y m e =
-          let k : is_column a b ≡ true = sym q ∙ confirmed r y in
+          let k : is_column a b ≡ true = sym q ∙ not-false r y in
           record {
             so_far =
                 here

@@ -1,14 +1,13 @@
 -- A column's indicator, by the column's first word: whether it has one, and what stands before its value. Assumes nothing.
 use Prim.Native.Nat.{ℕ, ◌≤◌}
 use mathlib.Core.Path.{◌≡◌, refl, sym, ap, ◌∙◌}
-use mathlib.Core.Bool.{Bool, false, cond}
+use mathlib.Core.Bool.{Bool, cond}
 use mathlib.Core.List.{List}
 use Rattle.types.specs.Places.{blank_value}
-use Rattle.rules.specs.Extent.{need, extent_of}
-use Rattle.rules.specs.Walk.{Cell, absent, column_need, cell_of}
-use Rattle.rules.specs.Row.{item_text, cell_item, cell_value}
+use Rattle.rules.specs.Walk.{absent}
+use Rattle.rules.specs.Row.{cell_value}
 use Rattle.rules.specs.Conversions.{conversions_of}
-use Rattle.piece.specs.Piece.{is_null, cell_in, value_in, cell_text, value_text}
+use Rattle.piece.specs.Piece.{is_null}
 use Rattle.piece.proofs.PieceLaws.{lead_of}
 use Rattle.words.specs.Reading.{column_named}
 use Rattle.row_words.specs.Passes.{is_nullable, words_set, three_set}
@@ -34,19 +33,3 @@ module _ (a b : ℕ) where
 
     pub lead_named : (n : ℕ) → n ≡ cond x 1 0 → n ≡ lead_of (column_named a b)
     lead_named n f = f ∙ ap (λ (y : Bool). cond y 1 0) (e ∙ sym named_nullable)
-
-  -- no indicator
-  module _ (e : is_nullable a ≡ false) (s : List ℕ) where
-    plain : (column_named a b).nullable ≡ false
-    plain = named_nullable ∙ e
-
-    pub plain_takes : need (extent_of (column_named a b)) s ≡ column_need (column_named a b) s
-    unfolding column_need
-    plain_takes = rw plain
-
-    pub plain_stands : (at : ℕ) → value_in (column_named a b) at s ≡ cell_in (column_named a b) at s
-    unfolding column_need cell_of
-    plain_stands at = rw plain
-
-    pub plain_reads : (release : ℕ) → value_text release (column_named a b) s ≡ cell_text release (column_named a b) s
-    plain_reads release = ap (λ (p : Cell). item_text (cell_item (conversions_of release) p)) (plain_stands 0)

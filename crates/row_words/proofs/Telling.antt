@@ -20,7 +20,7 @@ use Rattle.piece.specs.Texts.{texts_of, replaced_of, needed_beyond}
 use Rattle.piece.proofs.Texts.{texts_are, replaced_are, needed_more, needed_fits}
 use Rattle.row_words.proofs.Outlines.{decided_short, decided_text, decided_accepted}
 
--- what a ? makes of what is lacking
+-- the answer that is returned at once where a walk tells what is lacking
 pub lacking_is : (r : Result Taken RowError) (l : Lacking) → IsErrAnd r (λ e. e ≡ TooShort l.expected l.actual) → Err (TooShort l.expected l.actual) ≡ r
 lacking_is (Ok t) l h = absurd h
 lacking_is (Err e) l h = cc

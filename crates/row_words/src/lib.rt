@@ -25,15 +25,7 @@ use needs::need_named;
 use piece::marks::{NONE, WORDS, mark};
 use piece::{Lacking, piece_length, shortage, skip_of};
 use puts::put_column;
-use types::Db2Value;
 use words::ColumnWords;
-
-// A number, and how many bytes it takes.
-#[derive(Clone, Copy)]
-pub struct NumberValue {
-    pub value: Db2Value,
-    pub used: usize,
-}
 
 // How many bytes of the row a column took, or all of them, how many bytes of text were written, and how many U+FFFD among them were put in.
 #[derive(Clone, Copy)]
@@ -43,7 +35,7 @@ pub struct Taken {
     pub replaced: usize,
 }
 
-// Why a row's body is refused.
+// Why a row's body is refused: no Refusal, whose other cases the caller would have to tell from these two.
 #[derive(Clone, Copy, Debug, PartialEq, Eq)]
 pub enum RowError {
     TooShort { expected: usize, actual: usize },
@@ -61,7 +53,8 @@ impl From<Lacking> for RowError {
     }
 }
 
-// The two words of column i. By its number and not by as_chunks: marks and values are found by it too.
+// The two words of column i, in the four loops below. By its number and not by as_chunks: in two of them marks and values are found by it too, and in the others
+// pairs would be a second way to the same words. By as_chunks and enumerate each loop would make the struct of its pair itself.
 fn words_at(columns: &[u64], i: usize) -> ColumnWords
     requires { i < length columns.now / 2 }
     ensures { (result.first ≡ get_or columns.now (2 * i) 0) × (result.second ≡ get_or columns.now (2 * i + 1) 0) }
@@ -79,7 +72,7 @@ fn is_dec_float(before: bool, words: ColumnWords) -> bool
     before || words.first % 0x100 == tags::DEC_FLOAT
 }
 
-// Whether a column is of type DecFloat, where every two words are a column's and none is left over.
+// Whether a column is of type DecFloat, where every two words are a column's and none is left over; None where they are not. One pass answers both questions.
 pub fn check_columns(columns: &[u64]) -> Option<bool>
     ensures { result ≡ checked_of (read_columns columns.now) }
 {
@@ -115,7 +108,8 @@ fn walk_columns(columns: &[u64], data: &[u8], start: usize) -> Result<usize, Lac
 
 // How long the texts of a row are together, where a text buffer of `room` bytes is too short for them. Every column has its bytes, the
 // last of them before place `end` of the input. Where the texts are measured, a column is marked whose text is copied. row has the same of columns by value:
-// one for both would take a closure that makes a column, with a clause on each that it makes.
+// one for both would take a closure or a trait that makes a column of a number, with a clause on each that it makes, and would be longer than the loop. So would one
+// for the walks, which here go by the words of a column and make none.
 fn text_needed(
     columns: &[u64],
     data: &[u8],

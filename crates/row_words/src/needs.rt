@@ -14,14 +14,14 @@ use cell::extents::{counted_need, decimal_need, other_need, timestamp_need};
 use piece::{is_null, lead};
 use words::ColumnWords;
 
-// Functions and no methods: the struct is another crate's.
+// Functions here and no methods of ColumnWords in words: most promise is_nullable or type_numbers, definitions of this crate.
 pub fn is_nullable(words: ColumnWords) -> bool
     ensures { result ≡ is_nullable words.first }
 {
     words.first / 0x1_0000_0000_0000 % 2 == 1
 }
 
-// The numbers that the type holds, as one; of a Decimal the precision and the scale.
+// The numbers that the type holds, as one; of a Decimal the precision and the scale. By `as` here and below: From has none for a remainder that fits.
 pub fn type_numbers(words: ColumnWords) -> u16
     ensures { result ≡ type_numbers words.first }
 {
@@ -66,6 +66,7 @@ fn var_char_need(rest: &[u8], words: ColumnWords) -> usize
 }
 
 // How many bytes a value takes that is there.
+#[tactic(auto, using(cell::proofs::NumberLaws::number_need, crate::proofs::Typed::small_int_is, crate::proofs::Typed::integer_is, crate::proofs::Typed::big_int_is, crate::proofs::Typed::real_is, crate::proofs::Typed::double_is, crate::proofs::Typed::date_is, crate::proofs::Typed::time_is))]
 fn value_need(rest: &[u8], words: ColumnWords) -> usize
     ensures { (result ≡ need (extent_of (column_named words.first words.second)) rest.now) × (result ≤ most_need) }
 {
@@ -76,7 +77,7 @@ fn value_need(rest: &[u8], words: ColumnWords) -> usize
         tags::REAL => extents::REAL,
         tags::DOUBLE => extents::DOUBLE,
         tags::DECIMAL => decimal_need(precision(words)),
-        tags::CHAR => type_numbers(words) as usize,
+        tags::CHAR => usize::from(type_numbers(words)),
         tags::VAR_CHAR => var_char_need(rest, words),
         tags::DATE => extents::DATE,
         tags::TIME => extents::TIME,

@@ -1,5 +1,6 @@
 // A column's value written into its three words, and its text into the unwritten rest of the text buffer, by the column's two words.
-// What is handed on is what piece's other_write takes, and the place of the three words.
+// What is handed on is what piece's other_write takes, and the place of the three words: parameters of their own, for the reason at piece's item_write.
+// The three words are given by all words and a place: an array of three would be cut out by a method that answers an Option.
 ghost use Rattle.std.specs.Prelude.{◌≡◌, true, ◌+◌, ◌<◌, ◌≤◌, length};
 ghost use Rattle.refusal.specs.Refusal.{input_limit};
 ghost use Rattle.buffer.specs.Buffer.{overwritten};
@@ -12,9 +13,9 @@ ghost use Rattle.piece.specs.Piece.{value_in, value_text, value_replaced, cell_i
 ghost use Rattle.words.specs.Reading.{column_named};
 ghost use Rattle.row_words.specs.Passes.{words_set, three_set};
 
-use crate::Taken;
 use crate::needs::is_nullable;
 use crate::values::{decode_number, decode_other};
+use crate::{Taken, tags};
 use piece::items::text_start;
 use piece::marks::WORDS;
 use piece::{is_null, lead, other_write};
@@ -62,7 +63,7 @@ fn put_there(
     ensures values { values.new ≡ three_set values.old place (cell_value (conversions_of release) (value_in (column_named words.first words.second) at rest.now) next) }
     ensures replaced { result.replaced ≡ value_replaced release (column_named words.first words.second) rest.now }
 {
-    if words.first % 0x100 < 5 {
+    if words.first % 0x100 < tags::DECIMAL {
         let v = decode_number(rest, words);
         put_value(
             values,
@@ -72,6 +73,7 @@ fn put_there(
                 external: false,
             },
         );
+        // Without a text, as Null below: written out twice, since a function for both would take one number.
         return Taken {
             used: v.used,
             written: 0,

@@ -1,5 +1,5 @@
 // The places of the common types' names, which stand in the low 8 bits of a column's first word: crates/types/specs/Names.antt has all of them.
-// They are matched as the numbers that the word has: a type made of it would be taken apart again at once.
+// Those below DECIMAL are the numbers'. They are matched as the numbers that the word has: a type made of it would be taken apart again at once.
 pub const SMALL_INT: u64 = 0;
 
 pub const INTEGER: u64 = 1;

@@ -7,12 +7,16 @@ ghost use Rattle.words.specs.Reading.{column_named};
 ghost use Rattle.row_words.specs.Passes.{type_numbers, NoNumber};
 
 use crate::needs::{is_header, length_of, precision, type_numbers};
-use crate::{NumberValue, tags};
+use crate::tags;
 use cell::extents::{counted_need, decimal_need, timestamp_need};
-use cell::{CellItem, OtherValue, TextSort, characters, decimal_item, decode_other_value, extents};
+use cell::{
+    CellItem, NumberValue, OtherValue, TextSort, characters, decimal_item, decode_other_value,
+    extents,
+};
 use numbers::{big_int, double, integer, real, small_int};
 use words::ColumnWords;
 
+// By `as`, here and below: From has none for a remainder that fits.
 fn ccsid_of(words: ColumnWords) -> u16
     ensures { result ≡ words.second / 2 ^ 32 % 2 ^ 16 }
 {
@@ -44,35 +48,25 @@ fn decode_made(rest: &[u8], words: ColumnWords) -> OtherValue
     decode_other_value(rest, words.column())
 }
 
-// The same value. A called function leaves it in memory; taken out of there, it leaves the values of the other arms in no memory.
-fn same_value(d: OtherValue) -> OtherValue
-    ensures { result ≡ d }
-{
-    OtherValue {
-        item: d.item,
-        used: d.used,
-        external: d.external,
-    }
-}
-
 fn decode_var_char(rest: &[u8], words: ColumnWords) -> OtherValue
     requires tag { words.first % 2 ^ 8 ≡ 8 }
     requires there { need (extent_of (column_named words.first words.second)) rest.now ≤ length rest.now }
     ensures { (release : ℕ) → OtherIs release result (column_named words.first words.second) rest.now }
 {
     if is_header(words) {
-        return same_value(decode_made(rest, words));
+        return decode_made(rest, words);
     }
     let n = counted_need(1, rest);
     within_row(characters(TextSort::VarChar, ccsid_of(words), 2, n), n)
 }
 
 // The column decoder by words, of numbers and of other values. The arms are those of needs::value_need.
+#[tactic(auto, using(cell::proofs::NumberLaws::number_need, crate::proofs::Typed::small_int_is, crate::proofs::Typed::integer_is, crate::proofs::Typed::big_int_is, crate::proofs::Typed::real_is, crate::proofs::Typed::double_is))]
 pub fn decode_number(rest: &[u8], words: ColumnWords) -> NumberValue
     requires tag { words.first % 2 ^ 8 < 5 }
     requires there { need (extent_of (column_named words.first words.second)) rest.now ≤ length rest.now }
-    ensures value { (release : ℕ) → NumberIs release result.value (column_named words.first words.second) rest.now }
-    ensures used { result.used ≡ need (extent_of (column_named words.first words.second)) rest.now }
+    ensures value { (release second : ℕ) → NumberIs release result.value (column_named words.first second) rest.now }
+    ensures used { (second : ℕ) → result.used ≡ need (extent_of (column_named words.first second)) rest.now }
 {
     let order = words.byte_order();
     match words.first % 0x100 {
@@ -99,6 +93,7 @@ pub fn decode_number(rest: &[u8], words: ColumnWords) -> NumberValue
     }
 }
 
+// Char and the three times differ in the sort and the number of bytes: a function for the four would promise for each of them what characters does.
 pub fn decode_other(rest: &[u8], words: ColumnWords) -> OtherValue
     requires there { need (extent_of (column_named words.first words.second)) rest.now ≤ length rest.now }
     requires other { NoNumber words.first }
@@ -110,7 +105,7 @@ pub fn decode_other(rest: &[u8], words: ColumnWords) -> OtherValue
             within_row(decimal_item(scale(words), n), n)
         }
         tags::CHAR => {
-            let n = type_numbers(words) as usize;
+            let n = usize::from(type_numbers(words));
             within_row(characters(TextSort::Char, ccsid_of(words), 0, n), n)
         }
         tags::VAR_CHAR => decode_var_char(rest, words),
@@ -126,6 +121,6 @@ pub fn decode_other(rest: &[u8], words: ColumnWords) -> OtherValue
             let n = timestamp_need(length_of(words));
             within_row(characters(TextSort::Timestamp, ccsid_of(words), 0, n), n)
         }
-        _ => same_value(decode_made(rest, words)),
+        _ => decode_made(rest, words),
     }
 }

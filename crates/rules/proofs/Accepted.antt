@@ -4,7 +4,7 @@ use Prim.Native.Nat.{ℕ, zero, suc, ◌+◌, ◌-◌, ◌≤◌, ◌<◌}
 use mathlib.Core.Path.{◌≡◌, refl, sym, ap, ◌∙◌, subst}
 use mathlib.Core.Bool.{Bool, true, false, cond, true≢false}
 use mathlib.Core.List.{List, [], ◌∷◌, ◌++◌}
-use mathlib.Core.Logic.{◌⊎◌, inl, inr, ⊎_elim}
+use mathlib.Core.Logic.{inl, inr, ⊎_elim}
 use mathlib.Core.Option.{Option, none, some}
 use native.Mathlib.Omega.{arith}
 use native.Mathlib.Nat.{le_of_suc-le-suc}
@@ -12,6 +12,7 @@ use lib.ListN.{length, get_or, take, drop, replicate, length-append, length-drop
 use lib.Dec.{leb, eqb}
 use borrow.Author.Tests.{ltb-false}
 use lib.Ieee.{binary32, binary64, nan_bits, of_bits}
+use Rattle.std.proofs.lemmas.Bool.{or_parts}
 use Rattle.buffer.specs.Buffer.{overwritten}
 use Rattle.types.specs.declared.Db2Type.{Db2Type}
 use Rattle.types.specs.declared.Db2Type.TheVariants as type
@@ -33,7 +34,6 @@ use Rattle.conversion.specs.Conversion.{is_release}
 use Rattle.rules.specs.Conversions.{conversions_of, row_answer, row_text}
 use Rattle.rules.specs.Sorts.{Sort, sort_of, sorts_of, Among, AllowsSort, Allows}
 use Rattle.rules.specs.Accepted.{Fits, AllPlaces, SameLength, UsedFits, PlacesFit, SortsAllowed}
-use Rattle.rules.proofs.Tests.{or_left, or_right}
 use Rattle.rules.proofs.Walks.{is_done, used_of, pieces_of, walk_step, walk_first, walk_rest}
 use Rattle.rules.proofs.Rows.{row_used}
 use Rattle.rules.proofs.Items.{part_sort, text_sort, Item_of, Nothing, Numbers, item_of}
@@ -221,8 +221,8 @@ module _ (L : Conversions) (ns : Numbers L NumberSort) where
       let k = column_need c s in
       let h = walk_first start c cs at s o in
       let r = walk_rest start c cs at s o in
-      let this = or_left (is_dec_float c) (any_dec_float cs) plain in
-      let others = or_right (is_dec_float c) (any_dec_float cs) plain in
+      let this = (or_parts (is_dec_float c) (any_dec_float cs) plain).0 in
+      let others = (or_parts (is_dec_float c) (any_dec_float cs) plain).1 in
       subst (λ (w : Walk). AllAllowed (c ∷ cs) (row_values L (pieces_of w) next)) (sym (walk_step start c cs at s k refl h))
       (cons_allowed c cs (cell_of c.nullable c at (take k s)) (walk start cs (at + k) (drop k s)) next r
       (piece_allowed c this c.nullable refl at (take k s) next)

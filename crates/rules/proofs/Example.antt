@@ -5,7 +5,7 @@ use mathlib.Core.Path.{◌≡◌, refl}
 use mathlib.Core.Bool.{true}
 use mathlib.Core.List.{List, [], ◌∷◌}
 use native.Mathlib.Omega.{arith}
-use lib.ListN.{length, take, replicate}
+use lib.ListN.{take, replicate}
 use Rattle.refusal.specs.Refusal.{accepted}
 use Rattle.types.specs.declared.Db2Type.TheVariants as type
 use Rattle.types.specs.declared.Columns.{Columns}

@@ -6,6 +6,7 @@ use mathlib.Core.List.{List, [], ◌∷◌}
 use lib.ListN.{length, take}
 use lib.Dec.{leb, eqb}
 use borrow.Author.Tests.{leb-true, eqb-true, eq-eqb}
+use Rattle.std.proofs.lemmas.Bool.{not-true, and_parts}
 use Rattle.refusal.specs.Refusal.{Told, accepted, refused, input_limit}
 use Rattle.types.specs.Places.{filled, blank_value, column_list}
 use Rattle.numbers.specs.Number.{unsigned}
@@ -19,7 +20,6 @@ use Rattle.rules.specs.Value.{texts_together}
 use Rattle.rules.specs.Row.{RowTold, start_of, value_of, item_text, cell_item, cell_value, row_values, row_texts, any_dec_float, walk_decision, body_decision, row_decision, answer_of}
 use Rattle.rules.specs.Conversions.{row_answer}
 use Rattle.rules.specs.Exceptions.{Exception, columns_in, room, exceptions, Breaks, AllBreak}
-use Rattle.rules.proofs.Tests.{not_true, and_left, and_right}
 
 abbrev pub is_accepted : Told → Bool
 is_accepted accepted = true
@@ -40,8 +40,8 @@ same_bytes_lem [] [] e = refl
 same_bytes_lem [] (b ∷ t) e = absurd (false≢true e)
 same_bytes_lem (a ∷ s) [] e = absurd (false≢true e)
 same_bytes_lem (a ∷ s) (b ∷ t) e =
-    let h = eqb-true a b (and_left (eqb a b) (same_bytes s t) e) in
-    let k = same_bytes_lem s t (and_right (eqb a b) (same_bytes s t) e) in
+    let h = eqb-true a b (and_parts (eqb a b) (same_bytes s t) e).0 in
+    let k = same_bytes_lem s t (and_parts (eqb a b) (same_bytes s t) e).1 in
     cc
 
 -- a conjunction, split
@@ -50,7 +50,7 @@ pub record Both (a b : Bool) : Type 0 where
   pub rest : b ≡ true
 
 pub split : (a b : Bool) → (a && b) ≡ true → Both a b
-split a b e = record { first = and_left a b e; rest = and_right a b e }
+split a b e = record { first = (and_parts a b e).0; rest = (and_parts a b e).1 }
 
 module _ (release : ℕ) (x : Exception) where
   abbrev one : RowTold
@@ -98,7 +98,7 @@ module _ (release : ℕ) (x : Exception) where
       let p₅ = split (same_bytes (take one.used x.longer_input) (take one.used x.input)) part₆ p₄.rest in
       let p₆ = split (leb (texts_together one.places) (length room)) part₇ p₅.rest in
       record {
-        lacks_end = not_true (carries_own_end x.last) p.first;
+        lacks_end = not-true (carries_own_end x.last) p.first;
         others_carry = p₀.first;
         accepted_row =
             record {
@@ -109,7 +109,7 @@ module _ (release : ℕ) (x : Exception) where
         limit = leb-true (length x.longer_input) input_limit p₄.first;
         begins_alike = same_bytes_lem (take one.used x.longer_input) (take one.used x.input) p₅.first;
         enough = leb-true (texts_together one.places) (length room) p₆.first;
-        differs = λ same. true≢false (sym (eq-eqb other.used one.used same.used) ∙ not_true (eqb other.used one.used) p₆.rest);
+        differs = λ same. true≢false (sym (eq-eqb other.used one.used same.used) ∙ not-true (eqb other.used one.used) p₆.rest);
       }
 
 abbrev all_of : ℕ → List Exception → Bool
@@ -119,7 +119,7 @@ all_of release (x ∷ xs) = breaks release x && all_of release xs
 from_test : (release : ℕ) (xs : List Exception) → all_of release xs ≡ true → AllBreak release xs
 from_test release [] e = tt
 from_test release (x ∷ xs) e =
-    (all_parts release x (and_left (breaks release x) (all_of release xs) e), from_test release xs (and_right (breaks release x) (all_of release xs) e))
+    (all_parts release x (and_parts (breaks release x) (all_of release xs) e).0, from_test release xs (and_parts (breaks release x) (all_of release xs) e).1)
 
 computed : (all_of 2 exceptions && all_of 3 exceptions) ≡ true
 unfolding exceptions carries_own_end all_carry_own_end row_answer answer_of row_decision body_decision walk_decision walk_body walk skip_of column_need cell_of cons_cell need lob_need is_reference says_header is_short_reference hex_digits is_hex_digit unsigned any_dec_float column_list filled blank_value row_values row_texts cell_value cell_item item_in start_of value_of item_text texts_together varying_item header_item lob_item lob_empty lob_reference lob_bytes_item lob_char_item all_zero locator_text hex_text
@@ -127,4 +127,4 @@ computed = refl
 
 pub exceptions_break : AllBreak 2 exceptions × AllBreak 3 exceptions
 exceptions_break =
-    (from_test 2 exceptions (and_left (all_of 2 exceptions) (all_of 3 exceptions) computed), from_test 3 exceptions (and_right (all_of 2 exceptions) (all_of 3 exceptions) computed))
+    (from_test 2 exceptions (and_parts (all_of 2 exceptions) (all_of 3 exceptions) computed).0, from_test 3 exceptions (and_parts (all_of 2 exceptions) (all_of 3 exceptions) computed).1)

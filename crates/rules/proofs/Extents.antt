@@ -2,8 +2,9 @@
 --     Stays    bytes added behind a value that is there change nothing. It holds of an extent that ends itself.
 --     Cuts     bytes taken away behind a value that is there change nothing. It holds of every extent.
 -- Assumes nothing.
+use Rattle.std.proofs.lemmas.Bool.{cases_lt, false_from_ne_true, not-true, and_parts, and_right, or_parts}
 use Rattle.std.specs.Prelude.{None, Option, Some}
-use Prim.Native.Nat.{ℕ, ◌+◌, ◌*◌, ◌-◌, ◌≤◌, ◌<◌}
+use Prim.Native.Nat.{ℕ, ◌+◌, ◌*◌, ◌≤◌, ◌<◌}
 use mathlib.Core.Path.{◌≡◌, refl, sym, ap, ◌∙◌}
 use mathlib.Core.Bool.{Bool, true, false, cond, not, ◌&&◌, ◌||◌, true≢false, false≢true}
 use mathlib.Core.List.{List, ◌++◌}
@@ -25,7 +26,6 @@ use Rattle.types.specs.Names.{low15, is_absent}
 use Rattle.types.specs.Names.{graphic_unit}
 use Rattle.rules.specs.Extent.{be16, be32, reference_mark, is_reference, is_short_reference, says_header, hex_digits, lob_need, need, lob_extent, type_extent, extent_of}
 use Rattle.rules.specs.OwnEnd.{is_long_materialized, is_lob_of_length0, is_tiny_header, carries_own_end}
-use Rattle.rules.proofs.Tests.{lt_or_le, is_false, not_true, and_left, and_right, and_false, or_left}
 
 abbrev pub Stays : (List ℕ → ℕ) → Type 0
 Stays f = (s u : List ℕ) → f s ≤ length s → f (s ++ u) ≡ f s
@@ -54,7 +54,7 @@ module _ (s : List ℕ) (m : ℕ) where
 -- a reference of nine bytes
 pub reference_is : (s : List ℕ) → is_reference s ≡ true → (9 ≤ length s) × (get_or s 0 0 ≡ reference_mark)
 unfolding is_reference
-reference_is s e = (leb-true 9 (length s) (and_left (leb 9 (length s)) (eqb (get_or s 0 0) reference_mark) e), eqb-true (get_or s 0 0) reference_mark (and_right (leb 9 (length s)) (eqb (get_or s 0 0) reference_mark) e))
+reference_is s e = (leb-true 9 (length s) (and_parts (leb 9 (length s)) (eqb (get_or s 0 0) reference_mark) e).0, eqb-true (get_or s 0 0) reference_mark (and_parts (leb 9 (length s)) (eqb (get_or s 0 0) reference_mark) e).1)
 
 pub is_reference_lem : (s : List ℕ) → 9 ≤ length s → get_or s 0 0 ≡ reference_mark → is_reference s ≡ true
 unfolding is_reference
@@ -102,7 +102,7 @@ lob_plain n s h e = rw (le-leb 4 (length s) h, e)
 
 -- Stays: bytes are added
 counted_stays : (w : ℕ) → Stays (need (Counted w))
-counted_stays w s u h = ⊎_elim short long (lt_or_le (length s) 2)
+counted_stays w s u h = ⊎_elim short long (cases_lt (length s) 2)
   where
     short : length s < 2 → need (Counted w) (s ++ u) ≡ need (Counted w) s
     short l = absurd (omega (arith, counted_short w s l))
@@ -111,7 +111,7 @@ counted_stays w s u h = ⊎_elim short long (lt_or_le (length s) 2)
     long l = rw (counted_long w s l, counted_long w (s ++ u) (omega (arith, le_length_append s u)), be16_append s u l)
 
 header_stays : (n : ℕ) → 2 ≤ n → Stays (need (Header n))
-header_stays n b s u h = ⊎_elim short long (lt_or_le (length s) 2)
+header_stays n b s u h = ⊎_elim short long (cases_lt (length s) 2)
   where
     short : length s < 2 → need (Header n) (s ++ u) ≡ need (Header n) s
     short l = absurd (omega (arith, header_short n s l))
@@ -125,7 +125,7 @@ be32_of_02 s h z = rw (take_first s 4) (omega arith)
 
 inline_stays : Stays (need Inline)
 unfolding need
-inline_stays s u h = ⊎_elim short long (lt_or_le (length s) 4)
+inline_stays s u h = ⊎_elim short long (cases_lt (length s) 4)
   where
     short : length s < 4 → lob_need (4 + be32 (s ++ u)) (s ++ u) ≡ lob_need (4 + be32 s) s
     short l = absurd (omega (arith, lob_short (4 + be32 s) s l))
@@ -144,7 +144,7 @@ inline_stays s u h = ⊎_elim short long (lt_or_le (length s) 4)
         let f = is_reference_lem (s ++ u) (omega (arith, le_length_append s u)) (get_or-append s u 0 0 (omega arith) ∙ r.1) in
         lob_reference_lem (4 + be32 (s ++ u)) (s ++ u) f ∙ sym (lob_reference_lem (4 + be32 s) s e)
     go l false e =
-        lob_plain (4 + be32 (s ++ u)) (s ++ u) (omega (arith, le_length_append s u)) (is_false (is_reference (s ++ u)) (plain l e))
+        lob_plain (4 + be32 (s ++ u)) (s ++ u) (omega (arith, le_length_append s u)) (false_from_ne_true (is_reference (s ++ u)) (plain l e))
         ∙ ap (λ (x : ℕ). 4 + x) (be32_append s u l)
         ∙ sym (lob_plain (4 + be32 s) s l e)
 
@@ -170,7 +170,7 @@ take_reference s m l b e =
     is_reference_lem (take m s) (omega (arith, length-take-le m s l)) (get_or-take m s 0 0 (omega arith) ∙ (reference_is s e).1)
 
 counted_cuts : (w : ℕ) → Cuts (need (Counted w))
-counted_cuts w s m h l = ⊎_elim short long (lt_or_le (length s) 2)
+counted_cuts w s m h l = ⊎_elim short long (cases_lt (length s) 2)
   where
     short : length s < 2 → need (Counted w) (take m s) ≡ need (Counted w) s
     short b = absurd (omega (arith, counted_short w s b))
@@ -182,13 +182,13 @@ counted_cuts w s m h l = ⊎_elim short long (lt_or_le (length s) 2)
         rw (e, counted_long w (take m s) (omega (arith, length-take-le m s l)), be16_take s m k)
 
 header_cuts : (n : ℕ) → Cuts (need (Header n))
-header_cuts n s m h l = ⊎_elim short long (lt_or_le (length s) 2)
+header_cuts n s m h l = ⊎_elim short long (cases_lt (length s) 2)
   where
     short : length s < 2 → need (Header n) (take m s) ≡ need (Header n) s
     short b = rw (header_short n s b, header_short n (take m s) (omega (arith, length-take-le m s l)))
 
     long : 2 ≤ length s → need (Header n) (take m s) ≡ need (Header n) s
-    long b = ⊎_elim cut kept (lt_or_le m 2)
+    long b = ⊎_elim cut kept (cases_lt m 2)
       where
         cut : m < 2 → need (Header n) (take m s) ≡ need (Header n) s
         cut k =
@@ -200,7 +200,7 @@ header_cuts n s m h l = ⊎_elim short long (lt_or_le (length s) 2)
 
 -- both kinds of LOB: p is the whole where no reference begins, and is the same once four bytes are there
 lob_cuts : (p : List ℕ → ℕ) → ((s : List ℕ) → 4 ≤ p s) → ((s : List ℕ) (m : ℕ) → 4 ≤ m → p (take m s) ≡ p s) → Cuts (λ s. lob_need (p s) s)
-lob_cuts p low same s m h l = ⊎_elim short long (lt_or_le (length s) 4)
+lob_cuts p low same s m h l = ⊎_elim short long (cases_lt (length s) 4)
   where
     short : length s < 4 → lob_need (p (take m s)) (take m s) ≡ lob_need (p s) s
     short b = absurd (omega (arith, lob_short (p s) s b))
@@ -213,7 +213,7 @@ lob_cuts p low same s m h l = ⊎_elim short long (lt_or_le (length s) 4)
         let n = lob_plain (p s) s b e in
         let k : 4 ≤ m = omega (arith, low s) in
         lob_plain (p (take m s)) (take m s) (omega (arith, length-take-le m s l))
-        (is_false (is_reference (take m s)) (λ f. true≢false (sym (reference_take s m l f) ∙ e)))
+        (false_from_ne_true (is_reference (take m s)) (λ f. true≢false (sym (reference_take s m l f) ∙ e)))
         ∙ same s m k
         ∙ sym n
 
@@ -234,12 +234,12 @@ unfolding is_short_reference
 short_is n s e =
     let rest₁ = leb 16 (length s) && (ltb (length s) n && leb 16 (hex_digits s)) in
     let rest₂ = ltb (length s) n && leb 16 (hex_digits s) in
-    let a = and_right (leb 1024 n) rest₁ e in
-    let b = and_right (leb 16 (length s)) rest₂ a in (
-      leb-true 1024 n (and_left (leb 1024 n) rest₁ e),
-      leb-true 16 (length s) (and_left (leb 16 (length s)) rest₂ a),
-      ltb-true (length s) n (and_left (ltb (length s) n) (leb 16 (hex_digits s)) b),
-      leb-true 16 (hex_digits s) (and_right (ltb (length s) n) (leb 16 (hex_digits s)) b),
+    let a = (and_parts (leb 1024 n) rest₁ e).1 in
+    let b = (and_parts (leb 16 (length s)) rest₂ a).1 in (
+      leb-true 1024 n (and_parts (leb 1024 n) rest₁ e).0,
+      leb-true 16 (length s) (and_parts (leb 16 (length s)) rest₂ a).0,
+      ltb-true (length s) n (and_parts (ltb (length s) n) (leb 16 (hex_digits s)) b).0,
+      leb-true 16 (hex_digits s) (and_parts (ltb (length s) n) (leb 16 (hex_digits s)) b).1,
     )
 
 pub is_short_reference_lem : (n : ℕ) (s : List ℕ) → 1024 ≤ n → 16 ≤ length s → length s < n → 16 ≤ hex_digits s → is_short_reference n s ≡ true
@@ -259,7 +259,7 @@ materialized_cuts n s m h l = go (is_short_reference n s) refl
         ap (need (Materialized n)) (take_all m s k)
     go false e =
         let k : n ≤ m = rw e at h in
-        rw (is_false (is_short_reference n (take m s)) (long k), e)
+        rw (false_from_ne_true (is_short_reference n (take m s)) (long k), e)
 
 -- The Rust makes its tests on the rest of the row, and specs/Meaning.antt on the value's own bytes: they agree
 pub reference_agrees : (whole : ℕ) (s : List ℕ) → lob_need whole s ≤ length s → is_reference (take (lob_need whole s) s) ≡ is_reference s
@@ -269,7 +269,7 @@ reference_agrees whole s h = go (is_reference s) refl
     go true e =
         let n = lob_reference_lem whole s e in
         take_reference s (lob_need whole s) h (omega arith) e
-    go false e = is_false (is_reference (take (lob_need whole s) s)) (λ f. true≢false (sym (reference_take s (lob_need whole s) h f) ∙ e))
+    go false e = false_from_ne_true (is_reference (take (lob_need whole s) s)) (λ f. true≢false (sym (reference_take s (lob_need whole s) h f) ∙ e))
 
 says_short : (s : List ℕ) → length s < 2 → says_header s ≡ false
 unfolding says_header
@@ -284,7 +284,7 @@ unfolding need
 header_of n s t e = rw e
 
 pub header_agrees : (n : ℕ) (s : List ℕ) → need (Header n) s ≤ length s → says_header (take (need (Header n) s) s) ≡ says_header s
-header_agrees n s h = ⊎_elim cut kept (lt_or_le (need (Header n) s) 2)
+header_agrees n s h = ⊎_elim cut kept (cases_lt (need (Header n) s) 2)
   where
     -- fewer than two bytes taken: then none said a header
     none_said : (t : Bool) → says_header s ≡ t → need (Header n) s < 2 → false ≡ t
@@ -308,7 +308,7 @@ whole_of n s t e = rw e
 -- as many bytes as declared, or more, are no short reference
 pub not_short : (n : ℕ) (s : List ℕ) → n ≤ length s → is_short_reference n s ≡ false
 unfolding is_short_reference
-not_short n s h = rw (le-ltb (length s) n h, and_false (leb 16 (length s)), and_false (leb 1024 n))
+not_short n s h = rw (le-ltb (length s) n h, and_right (leb 16 (length s)) false refl, and_right (leb 1024 n) false refl)
 
 pub materialized_there : (n : ℕ) (s : List ℕ) → n ≤ length s → need (Materialized n) s ≡ n
 materialized_there n s h = whole_of n s false (not_short n s h)
@@ -361,10 +361,10 @@ ends_itself Locator = false
 ends_itself (Materialized n) = ltb n 1024
 
 pub from_2 : (n : ℕ) → is_unlisted (Header n) ≡ true → 2 ≤ n
-from_2 n t = leb-false n 1 (not_true (leb n 1) t)
+from_2 n t = leb-false n 1 (not-true (leb n 1) t)
 
 pub below_1024 : (n : ℕ) → is_unlisted (Materialized n) ≡ true → n < 1024
-below_1024 n t = leb-false 1024 n (or_left (leb 1024 n) false (not_true (leb 1024 n || false) t))
+below_1024 n t = leb-false 1024 n (or_parts (leb 1024 n) false (not-true (leb 1024 n || false) t)).0
 
 fixed_stays : (n : ℕ) → Stays (need (Fixed n))
 unfolding need
@@ -480,7 +480,7 @@ xml_ends None = refl
 
 materialized_ends : (k : ℕ) → (leb 1024 k || false) ≡ false → ends_itself (Materialized k) ≡ true
 unfolding ends_itself
-materialized_ends k e = lt-ltb k 1024 (leb-false 1024 k (or_left (leb 1024 k) false e))
+materialized_ends k e = lt-ltb k 1024 (leb-false 1024 k (or_parts (leb 1024 k) false e).0)
 
 type_ends : (t : Db2Type) (c : ColumnDescriptor) → (is_long_materialized t || (is_lob_of_length0 t c || is_tiny_header t)) ≡ false → ends_itself (type_extent t c) ≡ true
 unfolding ends_itself
@@ -518,4 +518,4 @@ pub column_ends : (c : ColumnDescriptor) → carries_own_end c ≡ true → ends
 unfolding carries_own_end
 column_ends c e =
     let t = c.db2_type in
-    type_ends t c (not_true (is_long_materialized t || (is_lob_of_length0 t c || is_tiny_header t)) e)
+    type_ends t c (not-true (is_long_materialized t || (is_lob_of_length0 t c || is_tiny_header t)) e)

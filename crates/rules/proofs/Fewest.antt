@@ -11,6 +11,7 @@ use lib.ListN.{length, take, drop, length-append, length-drop, drop_of_length-le
 use lib.Seq.{drop-append-le, drop-append-add, drop_at}
 use lib.Dec.{leb, eqb}
 use borrow.Author.Tests.{leb-true, leb-false}
+use Rattle.std.proofs.lemmas.Bool.{cases_lt, false_from_ne_true, and_parts}
 use Rattle.refusal.specs.Refusal.{refused, input_limit}
 use Rattle.unicode_standard.specs.Laws.{AreBytes}
 use Rattle.unicode_standard.proofs.Bytes.{bytes_drop}
@@ -29,7 +30,6 @@ use Rattle.rules.specs.Conversions.{row_answer}
 use Rattle.rules.specs.Waiting.{TooShort, Accepts, zero_bytes, settling, lacking_by}
 use Rattle.rules.specs.WaitingCall.{ReachesWalk, AcceptsIn}
 use Rattle.rules.specs.Fewest.{shortest, fewest_need, fewest_cell, fewest_taken, fewest_for, Fewest, WaitingLimit}
-use Rattle.rules.proofs.Tests.{lt_or_le, is_false, and_left, and_right}
 use Rattle.rules.proofs.Extents.{is_unlisted, from_2, below_1024, column_unlisted, be32_of_02, is_reference_lem, reference_is, counted_short, counted_long, header_total, header_short, header_long, lob_short, lob_reference_lem, lob_plain, materialized_below}
 use Rattle.rules.proofs.Walks.{is_done, used_of, cell_stays, walk_first, walk_rest, done_walk, short_walk}
 use Rattle.rules.proofs.Rows.{skip_fits, walk_row_at}
@@ -59,7 +59,7 @@ abbrev AtLeast : (List ℕ → ℕ) → (List ℕ → ℕ) → Type 0
 AtLeast f g = (s u : List ℕ) → AreBytes u → f (s ++ u) ≤ length (s ++ u) → g s ≤ f (s ++ u)
 
 counted_least : (w : ℕ) (s u : List ℕ) → need (Counted w) (s ++ u) ≤ length (s ++ u) → need (Counted w) (s ++ zero_bytes 2) ≤ need (Counted w) (s ++ u)
-counted_least w s u h = ⊎_elim (λ l. absurd (omega (arith, counted_short w (s ++ u) l))) go (lt_or_le (length (s ++ u)) 2)
+counted_least w s u h = ⊎_elim (λ l. absurd (omega (arith, counted_short w (s ++ u) l))) go (cases_lt (length (s ++ u)) 2)
   where
     go : 2 ≤ length (s ++ u) → need (Counted w) (s ++ zero_bytes 2) ≤ need (Counted w) (s ++ u)
     go l =
@@ -101,7 +101,7 @@ lob_low x s = go (leb 4 (length s)) (is_reference s)
 -- an inline LOB whose first byte is x
 inline_least : (x : ℕ) (s u : List ℕ) → need Inline (x ∷ s ++ u) ≤ length (x ∷ s ++ u) → need Inline (x ∷ s ++ zero_bytes 9) ≤ need Inline (x ∷ s ++ u)
 unfolding need
-inline_least x s u h = ⊎_elim (λ l. absurd (omega (arith, h, lob_short (4 + be32 (x ∷ s ++ u)) (x ∷ s ++ u) l))) (λ four. go four (is_reference (x ∷ s ++ u)) refl) (lt_or_le (length (x ∷ s ++ u)) 4)
+inline_least x s u h = ⊎_elim (λ l. absurd (omega (arith, h, lob_short (4 + be32 (x ∷ s ++ u)) (x ∷ s ++ u) l))) (λ four. go four (is_reference (x ∷ s ++ u)) refl) (cases_lt (length (x ∷ s ++ u)) 4)
   where
     long : 9 ≤ length (x ∷ s ++ zero_bytes 9)
     long = omega (arith, length_zeros s 9)
@@ -271,10 +271,10 @@ walk_least : (start : ℕ) (cs : List ColumnDescriptor) → all_carry_own_end cs
     → lacking_by fewest_taken cs s ≤ length u
 unfolding lacking_by all_carry_own_end
 walk_least start [] own at s u b d = omega arith
-walk_least start (c ∷ cs) own at s u b d = go (walk_least start cs (and_right (carries_own_end c) (all_carry_own_end cs) own)) (lt_or_le (length s) (fewest_taken c s))
+walk_least start (c ∷ cs) own at s u b d = go (walk_least start cs (and_parts (carries_own_end c) (all_carry_own_end cs) own).1) (cases_lt (length s) (fewest_taken c s))
   where
     here : carries_own_end c ≡ true
-    here = and_left (carries_own_end c) (all_carry_own_end cs) own
+    here = (and_parts (carries_own_end c) (all_carry_own_end cs) own).0
 
     fits : column_need c (s ++ u) ≤ length (s ++ u)
     fits = walk_first start c cs at (s ++ u) d
@@ -306,10 +306,10 @@ walk_fewest : (start : ℕ) (cs : List ColumnDescriptor) → all_carry_own_end c
     → (u : List ℕ) × AreBytes u × (length u ≡ lacking_by fewest_taken cs s) × (is_done (walk start cs at (s ++ u)) ≡ true) × (used_of (walk start cs at (s ++ u)) ≡ at + length (s ++ u))
 unfolding walk lacking_by all_carry_own_end
 walk_fewest start [] own at s h = ([], (λ i. omega arith), refl, refl, ⊎_elim (λ d. absurd (true≢false d)) (λ l. omega (arith, l, length-append s [])) h)
-walk_fewest start (c ∷ cs) own at s h = go (walk_fewest start cs (and_right (carries_own_end c) (all_carry_own_end cs) own)) (lt_or_le (length s) (fewest_taken c s))
+walk_fewest start (c ∷ cs) own at s h = go (walk_fewest start cs (and_parts (carries_own_end c) (all_carry_own_end cs) own).1) (cases_lt (length s) (fewest_taken c s))
   where
     here : carries_own_end c ≡ true
-    here = and_left (carries_own_end c) (all_carry_own_end cs) own
+    here = (and_parts (carries_own_end c) (all_carry_own_end cs) own).0
 
     go : ((at : ℕ) (s : List ℕ) → Spends start cs at s
         → (u : List ℕ) × AreBytes u × (length u ≡ lacking_by fewest_taken cs s) × (is_done (walk start cs at (s ++ u)) ≡ true) × (used_of (walk start cs at (s ++ u)) ≡ at + length (s ++ u)))
@@ -379,7 +379,7 @@ module _ (release : ℕ) (columns : Columns) (own : all_carry_own_end (covered c
 
   impossible' : input_limit < length s + fewest_for cs s → (u e : List ℕ) → AreBytes u
       → ((row_answer release columns (s ++ u) e).outcome ≡ refused 4 []) ⊎ ((us : List ℕ) × ((row_answer release columns (s ++ u) e).outcome ≡ refused 8 us))
-  impossible' l u e b = ⊎_elim long fits (lt_or_le input_limit (length (s ++ u)))
+  impossible' l u e b = ⊎_elim long fits (cases_lt input_limit (length (s ++ u)))
     where
       h : ReachesWalk release columns s
       h = (from_8' release columns s d vs o).0
@@ -389,7 +389,7 @@ module _ (release : ℕ) (columns : Columns) (own : all_carry_own_end (covered c
 
       fits : length (s ++ u) ≤ input_limit → ((row_answer release columns (s ++ u) e).outcome ≡ refused 4 []) ⊎ ((us : List ℕ) × ((row_answer release columns (s ++ u) e).outcome ≡ refused 8 us))
       fits k =
-          let not_done = is_false (is_done (walk_row cs (s ++ u))) (λ f. omega (arith, l, k, fewest' cs own s two u b f, length-append s u)) in
+          let not_done = false_from_ne_true (is_done (walk_row cs (s ++ u))) (λ f. omega (arith, l, k, fewest' cs own s two u b f, length-append s u)) in
           let w = short_walk (walk_row cs (s ++ u)) not_done in
           inr (w.0 ∷ w.1 ∷ [], ap (λ (x : RowTold). x.outcome) (too_short_lem release columns (s ++ u) e (longer_reaches release columns s u h k) w.0 w.1 w.2))
 

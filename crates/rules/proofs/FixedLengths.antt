@@ -1,7 +1,7 @@
 -- Where `fixed_length` and the row call go by the same number of bytes (the rules' Y3): for every type of a fixed length but Graphic, Timestamp, Boolean and
 -- DecFloat, and LobBytes and LobChar, which may be shorter references. Assumes nothing.
 use Prim.Native.Nat.{ℕ}
-use mathlib.Core.Bool.{true, false, true≢false}
+use mathlib.Core.Bool.{false, true≢false}
 use mathlib.Core.List.{List, [], ◌∷◌}
 use Rattle.std.specs.Prelude.{Option, Some, None}
 use mathlib.Core.Path.{◌≡◌, refl}

@@ -1,4 +1,3 @@
-pub mod Tests
 pub mod Extents
 pub mod Walks
 pub mod Progress

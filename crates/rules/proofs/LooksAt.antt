@@ -1,11 +1,12 @@
 -- What the row call looks at (specs/LooksAt.antt): for every choice of the conversions, and so of the row call. Assumes nothing.
-use Prim.Native.Nat.{ℕ, zero, suc, ◌-◌}
+use Prim.Native.Nat.{ℕ, zero, suc}
 use mathlib.Core.Path.{◌≡◌, refl, sym, ap, ◌∙◌}
 use mathlib.Core.Bool.{Bool, true, false, cond}
 use mathlib.Core.List.{List, [], ◌∷◌}
-use lib.ListN.{length, take}
+use lib.ListN.{take}
 use native.Mathlib.Omega.{arith}
 use lib.Dec.{eqb}
+use Rattle.std.proofs.lemmas.Bool.{and_right}
 use Rattle.types.specs.declared.Db2Type.{Db2Type}
 use Rattle.types.specs.declared.Db2Type.TheVariants as type
 use Rattle.types.specs.declared.ColumnDescriptor.{ColumnDescriptor}
@@ -16,7 +17,6 @@ use Rattle.rules.specs.Meaning.{Conversions, type_item, item_in, type_refers}
 use Rattle.rules.specs.Row.{answer_with, text_with}
 use Rattle.rules.specs.Conversions.{conversions_of, row_answer, row_text}
 use Rattle.rules.specs.LooksAt.{length_for, Alike, AllAlike, with_origin, OriginsApart, LooksAt, LooksAtNoOrigin}
-use Rattle.rules.proofs.Tests.{and_false}
 use Rattle.rules.proofs.SameAnswers.{SameColumn, AllSame, same_answers}
 use Rattle.rules.proofs.Releases.{at_release}
 
@@ -60,7 +60,7 @@ module _ (L : Conversions) (c d : ColumnDescriptor) (h : Alike c d) where
   alike_type (type.LobChar n) k s = (refl, rw h.same_ccsid, refl)
   alike_type (type.RowId n) k s = (refl, refl, refl)
   alike_type type.Boolean k s = (rw k, refl, refl)
-  alike_type type.Xml k s = (rw h.same_reference, rw h.same_reference, rw (h.same_reference, and_false (eqb c.length 0), and_false (eqb d.length 0)))
+  alike_type type.Xml k s = (rw h.same_reference, rw h.same_reference, rw (h.same_reference, and_right (eqb c.length 0) false refl, and_right (eqb d.length 0) false refl))
   alike_type type.Null k s = (refl, refl, refl)
 
   alike_length : length_for c.db2_type c.length ≡ length_for c.db2_type d.length

@@ -1,23 +1,20 @@
 -- What was replaced is seen: the texts of an accepted row have at least as many U+FFFD (specs/Accepted.antt). Assumes nothing.
 use Prim.Native.Nat.{ℕ, ◌+◌, ◌≤◌}
-use mathlib.Core.Path.{◌≡◌, refl, sym, ap}
+use mathlib.Core.Path.{refl}
 use mathlib.Core.List.{List, [], ◌∷◌, ◌++◌}
 use native.Mathlib.Omega.{arith}
-use lib.ListN.{length, take, drop}
+use lib.ListN.{length, drop}
 use lib.Seq.{take_at}
-use Rattle.buffer.specs.Buffer.{Converted, overwritten}
-use Rattle.unicode_standard.specs.Unicode.{utf8, utf8_pieces}
-use Rattle.unicode_standard.specs.Laws.{WellFormed, AreBytes, replacement_characters}
+use Rattle.buffer.specs.Buffer.{Converted}
+use Rattle.unicode_standard.specs.Unicode.{utf8_pieces}
+use Rattle.unicode_standard.specs.Laws.{AreBytes, replacement_characters}
 use Rattle.unicode_standard.proofs.Bytes.{bytes_drop}
 use Rattle.unicode_standard.proofs.Laws.{texts, counted_append}
 use Rattle.conversion.proofs.Counts.{characters_counted, graphics_counted}
 use Rattle.types.specs.declared.Db2Type.{Db2Type}
-use Rattle.types.specs.declared.ColumnDescriptor.{ColumnDescriptor}
-use Rattle.types.specs.declared.Columns.{Columns}
 use Rattle.rules.specs.Meaning.{Item, nothing, numeric, boolean, part, text, item_in}
 use Rattle.rules.specs.Walk.{Cell, absent, present, walk_body, walk_row, skip_of}
-use Rattle.rules.specs.Value.{texts_together}
-use Rattle.rules.specs.Row.{Decision, covered, item_text, item_replaced, cell_item, row_texts, row_replaced, answer_of, text_after, answer_with, text_with}
+use Rattle.rules.specs.Row.{covered, item_text, item_replaced, cell_item, row_texts, row_replaced, answer_of, text_after, answer_with, text_with}
 use Rattle.rules.specs.Conversions.{conversions_of, row_answer, row_text}
 use Rattle.rules.specs.Accepted.{ReplacedShown}
 use Rattle.rules.proofs.ItemTexts.{TextOf, Texts, item_text_lem}

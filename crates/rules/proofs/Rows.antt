@@ -4,7 +4,7 @@
 --     row_begins      another input that begins with the bytes that a row used
 --     row_shorter     a shorter beginning of at least two bytes is not done
 -- Assumes nothing.
-use Prim.Native.Nat.{ℕ, ◌+◌, ◌-◌, ◌≤◌, ◌<◌}
+use Prim.Native.Nat.{ℕ, ◌-◌, ◌≤◌, ◌<◌}
 use mathlib.Core.Path.{◌≡◌, refl, sym, ap, ◌∙◌}
 use mathlib.Core.Bool.{Bool, true, false, cond, ◌&&◌}
 use mathlib.Core.List.{List, ◌++◌}
@@ -14,10 +14,10 @@ use lib.ListN.{length, get_or, take, drop, length-append, length-take, length-dr
 use lib.Seq.{drop-append-le, take-take, length-take-le, get_or-take}
 use lib.Dec.{leb, eqb}
 use borrow.Author.Tests.{le-leb, lt-leb, eq-eqb, ne_eqb, eqb-true, eqb-false}
+use Rattle.std.proofs.lemmas.Bool.{false_from_ne_true, cases_lt, and_right}
 use Rattle.types.specs.declared.ColumnDescriptor.{ColumnDescriptor}
 use Rattle.rules.specs.OwnEnd.{all_carry_own_end}
 use Rattle.rules.specs.Walk.{walk, skip_of, walk_body, walk_row}
-use Rattle.rules.proofs.Tests.{is_false, lt_or_le, and_false}
 use Rattle.rules.proofs.Walks.{is_done, used_of, walk_used, walk_stays, walk_cuts, drop_take}
 
 -- the skip
@@ -27,7 +27,7 @@ skip_two s h e = rw (le-leb 2 (length s) h, eq-eqb (get_or s 0 0) 255 e)
 
 skip_none : (s : List ℕ) → (get_or s 0 0 ≡ 255 → ⊥) → skip_of s ≡ 0
 unfolding skip_of
-skip_none s n = rw (ne_eqb (get_or s 0 0) 255 n, and_false (leb 2 (length s)))
+skip_none s n = rw (ne_eqb (get_or s 0 0) 255 n, and_right (leb 2 (length s)) false refl)
 
 is_255 : (b : ℕ) → (b ≡ 255) ⊎ (b ≡ 255 → ⊥)
 is_255 b = go (eqb b 255) refl
@@ -60,7 +60,7 @@ unfolding skip_of
 skip_short s h = rw (lt-leb 2 (length s) h)
 
 skip_cut : (s : List ℕ) (n : ℕ) → skip_of s ≤ n → n ≤ length s → skip_of (take n s) ≡ skip_of s
-skip_cut s n low fits = ⊎_elim few many (lt_or_le n 2)
+skip_cut s n low fits = ⊎_elim few many (cases_lt n 2)
   where
     l : length (take n s) ≡ n
     l = length-take-le n s fits
@@ -69,7 +69,7 @@ skip_cut s n low fits = ⊎_elim few many (lt_or_le n 2)
     many h = skip_begins s (take n s) n (omega arith) (omega arith) low fits (take-take n n s (omega arith))
 
     few : n < 2 → skip_of (take n s) ≡ skip_of s
-    few h = ⊎_elim (λ k. skip_short (take n s) (omega (arith, l)) ∙ sym (skip_short s k)) long (lt_or_le (length s) 2)
+    few h = ⊎_elim (λ k. skip_short (take n s) (omega (arith, l)) ∙ sym (skip_short s k)) long (cases_lt (length s) 2)
       where
         long : 2 ≤ length s → skip_of (take n s) ≡ skip_of s
         long k = skip_short (take n s) (omega (arith, l)) ∙ sym (skip_none s (λ z. omega (arith, skip_two s k z)))
@@ -80,7 +80,7 @@ skip_append s u h = rw (le-leb 2 (length s) h, le-leb 2 (length (s ++ u)) (omega
 
 pub skip_fits : (s : List ℕ) → skip_of s ≤ length s
 unfolding skip_of
-skip_fits s = ⊎_elim short long (lt_or_le (length s) 2)
+skip_fits s = ⊎_elim short long (cases_lt (length s) 2)
   where
     short : length s < 2 → skip_of s ≤ length s
     short h = rw (lt-leb 2 (length s) h) (omega arith)
@@ -142,7 +142,7 @@ row_begins cs own s t two d one e =
 
 pub row_shorter : (cs : List ColumnDescriptor) → all_carry_own_end cs ≡ true → (s : List ℕ) → is_done (walk_row cs s) ≡ true
     → (m : ℕ) → 2 ≤ m → m < used_of (walk_row cs s) → is_done (walk_row cs (take m s)) ≡ false
-row_shorter cs own s d m two less = is_false (is_done (walk_row cs (take m s))) impossible
+row_shorter cs own s d m two less = false_from_ne_true (is_done (walk_row cs (take m s))) impossible
   where
     impossible : is_done (walk_row cs (take m s)) ≡ true → ⊥
     impossible f =

@@ -1,10 +1,10 @@
 -- Which column a row is too short in (specs/ShortColumn.antt): for every choice of the conversions, and so of the row call. Assumes nothing.
-use Prim.Native.Nat.{ℕ, zero, suc, ◌+◌, ◌-◌, ◌≤◌, ◌<◌}
+use Prim.Native.Nat.{ℕ, zero, suc, ◌+◌, ◌≤◌, ◌<◌}
 use mathlib.Core.Path.{◌≡◌, refl, sym, ap, ◌∙◌, subst}
 use mathlib.Core.Bool.{Bool, true, false, cond, ◌||◌, true≢false}
 use mathlib.Core.List.{List, [], ◌∷◌}
 use native.Mathlib.Omega.{arith}
-use lib.ListN.{length, get_or, take, drop, length-take}
+use lib.ListN.{length, take, drop, length-take}
 use lib.Seq.{take-take}
 use lib.Dec.{leb, ltb}
 use borrow.Author.Tests.{le-ltb, ltb-false}
@@ -13,10 +13,9 @@ use Rattle.types.specs.declared.ColumnDescriptor.{ColumnDescriptor}
 use Rattle.types.specs.declared.Columns.{Columns}
 use Rattle.types.specs.Names.{is_dec_float}
 use Rattle.types.specs.Places.{max_columns}
-use Rattle.rules.specs.Extent.{extent_of}
 use Rattle.rules.specs.Meaning.{Conversions}
-use Rattle.rules.specs.Walk.{column_need, Cell, cell_of, Walk, done, short, cons_cell, cell_short, walk, walk_body, walk_row, skip_of}
-use Rattle.rules.specs.Row.{RowTold, Decision, refuse, accept, covered, any_dec_float, row_texts, walk_decision, row_decision, answer_of, refused_row, answer_with}
+use Rattle.rules.specs.Walk.{column_need, Cell, cell_of, Walk, done, short, cons_cell, walk, walk_body, walk_row, skip_of}
+use Rattle.rules.specs.Row.{Decision, refuse, accept, covered, any_dec_float, row_texts, walk_decision, row_decision, answer_of, refused_row, answer_with}
 use Rattle.rules.specs.Conversions.{conversions_of, row_answer}
 use Rattle.rules.specs.ShortColumn.{first_columns, Lacking, ShortColumn}
 use Rattle.rules.proofs.Walks.{is_done, cons_done}

@@ -14,7 +14,7 @@ use Rattle.types.specs.Places.{max_columns, filled, blank_value}
 use Rattle.rules.specs.Meaning.{Item, nothing, numeric, boolean, part, text, Conversions, item_in}
 use Rattle.rules.specs.Walk.{column_need, Cell, absent, present, cell_of, Walk, done, short, cons_cell, walk, walk_body, walk_row, skip_of}
 use Rattle.rules.specs.Value.{bytes_at, value_bytes}
-use Rattle.rules.specs.Row.{Decision, accept, covered, place, start_of, value_of, item_text, cell_item, cell_value, row_values, row_texts, row_decision, answer_of, text_after}
+use Rattle.rules.specs.Row.{Decision, covered, place, start_of, value_of, item_text, cell_item, cell_value, row_values, row_texts, answer_of, text_after}
 use Rattle.rules.specs.Conversions.{conversions_of}
 use Rattle.rules.specs.Shown.{shown_of, cell_shown, ValuesShown}
 use Rattle.rules.proofs.Walks.{is_done, pieces_of, walk_step, walk_first, walk_rest}

@@ -3,7 +3,7 @@
 -- Assumes nothing.
 use Prim.Native.Nat.{ℕ, zero, suc, ◌+◌, ◌≤◌}
 use mathlib.Core.Path.{◌≡◌, refl, sym, ap, ◌∙◌, subst}
-use mathlib.Core.Bool.{Bool, true, false, cond, not, ◌&&◌, ◌||◌, true≢false}
+use mathlib.Core.Bool.{Bool, true, false, cond, not, ◌||◌, true≢false}
 use mathlib.Core.List.{List, [], ◌∷◌, ◌++◌}
 use mathlib.Core.Logic.{◌⊎◌, inl, inr, ⊎_elim}
 use native.Mathlib.Omega.{arith}
@@ -11,6 +11,7 @@ use native.Mathlib.Nat.{zero-add}
 use lib.ListN.{length, take, drop, length-append}
 use lib.Seq.{drop-append-le, drop-length}
 use lib.Dec.{eqb}
+use Rattle.std.proofs.lemmas.Bool.{cases_lt, not-true, and_parts, and_from, or_parts}
 use Rattle.types.specs.declared.ColumnDescriptor.{ColumnDescriptor}
 use Rattle.rules.specs.declared.Extent.{Extent}
 use Rattle.rules.specs.declared.Extent.TheVariants.{Fixed, Counted, Header, Inline, Locator, Materialized}
@@ -18,7 +19,6 @@ use Rattle.rules.specs.Extent.{is_hex_digit, hex_digits, is_short_reference, nee
 use Rattle.rules.specs.OwnEnd.{is_long_materialized, is_lob_of_length0, is_tiny_header, carries_own_end, all_carry_own_end}
 use Rattle.rules.specs.Walk.{nullable_need, column_need, cell_of, walk, walk_row, skip_of}
 use Rattle.rules.specs.Waiting.{Accepts, zero_bytes, settling, filled_need, keeps_acceptance, all_keep_acceptance, StaysAccepted}
-use Rattle.rules.proofs.Tests.{lt_or_le, not_true, and_left, and_right, or_right}
 use Rattle.rules.proofs.Extents.{is_locator, is_short_header, is_unlisted, unlisted_stays, whole_of, short_is, is_short_reference_lem, materialized_there, column_exceptions}
 use Rattle.rules.proofs.Walks.{is_done, used_of, done_walk, by_indicator, walk_step, walk_first, walk_rest, cons_done}
 use Rattle.rules.proofs.Rows.{skip_append, skip_fits, walk_row_at}
@@ -43,7 +43,7 @@ materialized_keeps n s u h = go (is_short_reference n s) refl
         let p = short_is n s e in
         absurd (true≢false (sym (is_short_reference_lem n (s ++ u) p.0 (omega (arith, p.1, length-append s u)) l (omega (arith, p.3, hex_append s u))) ∙ f)))
         (λ l. omega (arith, whole_of n (s ++ u) false f))
-        (lt_or_le (length (s ++ u)) n)
+        (cases_lt (length (s ++ u)) n)
 
     go : (t : Bool) → is_short_reference n s ≡ t
         → (need (Materialized n) (s ++ u) ≡ need (Materialized n) s) ⊎ ((need (Materialized n) s ≡ length s) × (need (Materialized n) (s ++ u) ≤ length (s ++ u)))
@@ -147,7 +147,7 @@ keeping c own =
     let x = column_exceptions c in
     let lob = is_lob_of_length0 c.db2_type c in
     let tiny = is_tiny_header c.db2_type in
-    sym (either x.1 x.2) ∙ not_true (lob || tiny) own
+    sym (either x.1 x.2) ∙ not-true (lob || tiny) own
   where
     either : {a b y z : Bool} → a ≡ y → b ≡ z → (a || b) ≡ (y || z)
     either e f = cc
@@ -171,7 +171,7 @@ pub walk_keeps : (start : ℕ) (cs : List ColumnDescriptor) → all_keep_accepta
 unfolding walk all_keep_acceptance
 walk_keeps start [] own at at' s u d = refl
 walk_keeps start (c ∷ cs) own at at' s u d =
-    step (walk_keeps start cs (and_right (keeps_acceptance c) (all_keep_acceptance cs) own)) (column_keeps c (and_left (keeps_acceptance c) (all_keep_acceptance cs) own) s u h)
+    step (walk_keeps start cs (and_parts (keeps_acceptance c) (all_keep_acceptance cs) own).1) (column_keeps c (and_parts (keeps_acceptance c) (all_keep_acceptance cs) own).0 s u h)
   where
     h : column_need c s ≤ length s
     h = walk_first start c cs at s d
@@ -202,10 +202,7 @@ carry_stay [] own = refl
 carry_stay (c ∷ cs) own =
     let long = is_long_materialized c.db2_type in
     let others = is_lob_of_length0 c.db2_type c || is_tiny_header c.db2_type in
-    both (ap not (or_right long others (not_true (long || others) (and_left (carries_own_end c) (all_carry_own_end cs) own)))) (carry_stay cs (and_right (carries_own_end c) (all_carry_own_end cs) own))
-  where
-    both : {a b : Bool} → a ≡ true → b ≡ true → (a && b) ≡ true
-    both e f = rw (e, f)
+    and_from _ _ (ap not (or_parts long others (not-true (long || others) (and_parts (carries_own_end c) (all_carry_own_end cs) own).0)).1) (carry_stay cs (and_parts (carries_own_end c) (all_carry_own_end cs) own).1)
 
 pub stays_accepted_lem : StaysAccepted
 stays_accepted_lem = record { among = carry_stay; stays = stays' }

@@ -8,13 +8,13 @@ use mathlib.Core.Logic.{◌⊎◌, inl, inr, ⊎_elim}
 use native.Mathlib.Omega.{arith}
 use lib.ListN.{length, take, drop, length-drop}
 use lib.Seq.{drop-append-le, drop-length}
+use Rattle.std.proofs.lemmas.Bool.{cases_lt, false_from_ne_true, and_parts}
 use Rattle.unicode_standard.specs.Laws.{AreBytes}
 use Rattle.unicode_standard.proofs.Bytes.{bytes_drop}
 use Rattle.types.specs.declared.ColumnDescriptor.{ColumnDescriptor}
 use Rattle.rules.specs.OwnEnd.{all_carry_own_end}
 use Rattle.rules.specs.Walk.{skip_of, column_need, cell_of, walk, walk_row}
 use Rattle.rules.specs.Waiting.{TooShort, Accepts, Waiting, zero_bytes, filled_need, lacking_by, zeros_for, longest_body, Zeros, keeps_acceptance, all_keep_acceptance}
-use Rattle.rules.proofs.Tests.{lt_or_le, is_false, and_left, and_right}
 use Rattle.rules.proofs.Walks.{is_done, used_of, done_walk, short_walk, walk_step, walk_first, walk_rest, walk_rest_used, cons_done, cons_used}
 use Rattle.rules.proofs.Rows.{skip_append, skip_fits, walk_row_at, row_stays}
 use Rattle.rules.proofs.Zeros.{length_zeros, bytes_append, zeros_bytes, drop_zeros, column_settles, column_most}
@@ -48,7 +48,7 @@ spends_filled : (start : ℕ) (c : ColumnDescriptor) (cs : List ColumnDescriptor
 spends_filled start c cs at s h = ⊎_elim
     (λ l. inr (omega (arith, l, length-drop (filled_need c s) s)))
     (λ l. spends_rest start c cs at s (filled_need c s) (ap (column_need c) (sym (append-nil s)) ∙ column_settles c s 0 (omega (arith, l))) l h)
-    (lt_or_le (length s) (filled_need c s))
+    (cases_lt (length s) (filled_need c s))
 
 -- the zeros that it lacks complete it
 walk_completes : (start : ℕ) (cs : List ColumnDescriptor) (at : ℕ) (s : List ℕ) → Spends start cs at s
@@ -75,10 +75,10 @@ walk_fewer : (start : ℕ) (cs : List ColumnDescriptor) → all_keep_acceptance 
     → lacking_by filled_need cs s ≤ k
 unfolding lacking_by all_keep_acceptance
 walk_fewer start [] own at s k h d = omega arith
-walk_fewer start (c ∷ cs) own at s k h d = go (walk_fewer start cs rest) (column_zeros c (and_left (keeps_acceptance c) (all_keep_acceptance cs) own) s k (omega (arith, fits, length_zeros s k)))
+walk_fewer start (c ∷ cs) own at s k h d = go (walk_fewer start cs rest) (column_zeros c (and_parts (keeps_acceptance c) (all_keep_acceptance cs) own).0 s k (omega (arith, fits, length_zeros s k)))
   where
     rest : all_keep_acceptance cs ≡ true
-    rest = and_right (keeps_acceptance c) (all_keep_acceptance cs) own
+    rest = (and_parts (keeps_acceptance c) (all_keep_acceptance cs) own).1
 
     fits : column_need c (s ++ zero_bytes k) ≤ length (s ++ zero_bytes k)
     fits = walk_first start c cs at (s ++ zero_bytes k) d
@@ -131,7 +131,7 @@ module _ (cs : List ColumnDescriptor) (s : List ℕ) (two : 2 ≤ length s) wher
       (ap is_done w ∙ r.0, ap used_of w ∙ r.1 ∙ omega (arith, length-drop (skip_of s) s, skip_fits s))
 
   fewer_lack : all_keep_acceptance cs ≡ true → is_done (walk_row cs s) ≡ false → (k : ℕ) → k < zeros_for cs s → is_done (walk_row cs (s ++ zero_bytes k)) ≡ false
-  fewer_lack own h k less = is_false (is_done (walk_row cs (s ++ zero_bytes k)))
+  fewer_lack own h k less = false_from_ne_true (is_done (walk_row cs (s ++ zero_bytes k)))
       (λ d.
       omega (arith, less, walk_fewer (skip_of s) cs own (skip_of s) (drop (skip_of s) s) k (inl (sym (ap is_done (walk_row_at cs s (skip_of s) refl)) ∙ h)) (sym (ap is_done (with_bytes (zero_bytes k))) ∙ d)))
 

@@ -8,6 +8,7 @@ use native.Mathlib.Omega.{arith}
 use lib.ListN.{length}
 use lib.Dec.{ltb, leb, eqb}
 use borrow.Author.Tests.{ltb-true, leb-true, eqb-true, not-true, not-false}
+use Rattle.std.proofs.lemmas.Bool.{false_from_ne_true, and_parts, or_cases}
 use Rattle.refusal.specs.Refusal.{Told, accepted, refused, told_number, input_limit}
 use Rattle.unicode_standard.specs.Laws.{AreBytes}
 use Rattle.types.specs.Places.{filled, blank_value, column_list}
@@ -26,7 +27,6 @@ use Rattle.rules.specs.Conversions.{row_answer}
 use Rattle.rules.specs.Exceptions.{room}
 use Rattle.rules.specs.Waiting.{filled_need, lacking_by, keeps_acceptance}
 use Rattle.rules.specs.WaitingRows.{AllLackMore, AllLackLess, lacking_more, lacking_less, small_int_column, Addition, addition_columns, additions, NotKept, NoneKept, Grows, LeftOut}
-use Rattle.rules.proofs.Tests.{is_false, and_left, and_right}
 use Rattle.rules.proofs.Extents.{is_locator, is_short_header, column_exceptions}
 use Rattle.rules.proofs.Walks.{is_done, used_of, walk_step, walk_first, done_walk, short_walk}
 use Rattle.rules.proofs.Rows.{skip_two, walk_row_at}
@@ -100,14 +100,14 @@ all_of release (x ∷ xs) = ends release x && all_of release xs
 
 from_test : (release : ℕ) (xs : List Addition) → all_of release xs ≡ true → NoneKept release xs
 from_test release [] e = tt
-from_test release (x ∷ xs) e = (all_parts release x (and_left (ends release x) (all_of release xs) e), from_test release xs (and_right (ends release x) (all_of release xs) e))
+from_test release (x ∷ xs) e = (all_parts release x (and_parts (ends release x) (all_of release xs) e).0, from_test release xs (and_parts (ends release x) (all_of release xs) e).1)
 
 computed : (all_of 2 additions && all_of 3 additions) ≡ true
 unfolding additions keeps_acceptance all_carry_own_end carries_own_end row_answer answer_of row_decision body_decision walk_decision walk_body walk skip_of column_need cell_of cons_cell cell_short need lob_need is_reference says_header unsigned any_dec_float column_list filled blank_value row_values row_texts cell_value cell_item item_in start_of value_of item_text varying_item header_item lob_item lob_empty lob_reference all_zero locator_text hex_text
 computed = refl
 
 pub additions_break : NoneKept 2 additions × NoneKept 3 additions
-additions_break = (from_test 2 additions (and_left (all_of 2 additions) (all_of 3 additions) computed), from_test 3 additions (and_right (all_of 2 additions) (all_of 3 additions) computed))
+additions_break = (from_test 2 additions (and_parts (all_of 2 additions) (all_of 3 additions) computed).0, from_test 3 additions (and_parts (all_of 2 additions) (all_of 3 additions) computed).1)
 
 -- ---- every column that is left out
 
@@ -117,7 +117,7 @@ unfolding column_need
 takes c b e p q s = ap (λ (t : Bool). cell_need t (extent_of c) s) p ∙ ap (λ (x : Extent). cell_need b x s) q
 
 lacks_first : (start : ℕ) (c : ColumnDescriptor) (cs : List ColumnDescriptor) (at : ℕ) (s : List ℕ) → length s < column_need c s → is_done (walk start (c ∷ cs) at s) ≡ false
-lacks_first start c cs at s h = is_false (is_done (walk start (c ∷ cs) at s)) (λ d. omega (arith, h, walk_first start c cs at s d))
+lacks_first start c cs at s h = false_from_ne_true (is_done (walk start (c ∷ cs) at s)) (λ d. omega (arith, h, walk_first start c cs at s d))
 
 -- lists of few bytes
 abbrev are_bytes : List ℕ → Bool
@@ -126,8 +126,8 @@ are_bytes (b ∷ s) = ltb b 256 && are_bytes s
 
 are_bytes_lem : (s : List ℕ) → are_bytes s ≡ true → AreBytes s
 are_bytes_lem [] e i = omega arith
-are_bytes_lem (b ∷ s) e zero = ltb-true b 256 (and_left (ltb b 256) (are_bytes s) e)
-are_bytes_lem (b ∷ s) e (suc i) = are_bytes_lem s (and_right (ltb b 256) (are_bytes s) e) i
+are_bytes_lem (b ∷ s) e zero = ltb-true b 256 (and_parts (ltb b 256) (are_bytes s) e).0
+are_bytes_lem (b ∷ s) e (suc i) = are_bytes_lem s (and_parts (ltb b 256) (are_bytes s) e).1 i
 
 -- alone, behind the two bytes that are skipped: it takes all of r, and of r with u behind it more than that
 alone_breaks : (c : ColumnDescriptor) (r u : List ℕ) → are_bytes r ≡ true → are_bytes u ≡ true → column_need c r ≡ length r → length (r ++ u) < column_need c (r ++ u) → Grows c
@@ -197,10 +197,6 @@ header_is Inline t = absurd (false≢true t)
 header_is Locator t = absurd (false≢true t)
 header_is (Materialized n) t = absurd (false≢true t)
 
-or_split : (a b : Bool) → (a || b) ≡ true → (a ≡ true) ⊎ (b ≡ true)
-or_split true b e = inl refl
-or_split false b e = inr e
-
 pub left_out_breaks : LeftOut
 unfolding keeps_acceptance
 left_out_breaks c t =
@@ -210,4 +206,4 @@ left_out_breaks c t =
     ⊎_elim
     (λ l. locator_breaks c (locator_is (extent_of c) (sym x.1 ∙ l)) c.nullable refl)
     (λ h. ⊎_elim (λ q. header0_breaks c q c.nullable refl) (λ q. header1_breaks c q c.nullable refl) (header_is (extent_of c) (sym x.2 ∙ h)))
-    (or_split lob tiny (not-false (lob || tiny) t))
+    (or_cases lob tiny (not-false (lob || tiny) t))

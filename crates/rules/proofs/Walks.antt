@@ -10,12 +10,12 @@ use lib.ListN.{length, take, drop, length-append, length-drop}
 use lib.Seq.{take-append-le, drop-append-le, take-take, take-nil, length-take-le}
 use lib.Dec.{leb, eqb}
 use borrow.Author.Tests.{le-leb, leb-true}
+use Rattle.std.proofs.lemmas.Bool.{and_parts}
 use Rattle.types.specs.declared.ColumnDescriptor.{ColumnDescriptor}
 use Rattle.rules.specs.declared.Extent.{Extent}
 use Rattle.rules.specs.Extent.{need, extent_of}
 use Rattle.rules.specs.OwnEnd.{carries_own_end, all_carry_own_end}
 use Rattle.rules.specs.Walk.{nullable_need, cell_need, column_need, Cell, cell_of, Walk, done, short, cons_cell, cell_short, walk}
-use Rattle.rules.proofs.Tests.{and_left, and_right}
 use Rattle.rules.proofs.Extents.{Stays, Cuts, stays, cuts, column_ends}
 
 abbrev pub is_done : Walk → Bool
@@ -139,8 +139,8 @@ walk_stays start [] own at s u d = refl
 walk_stays start (c ∷ cs) own at s u d =
     let k = column_need c s in
     let h = walk_first start c cs at s d in
-    let e = cell_stays c (and_left (carries_own_end c) (all_carry_own_end cs) own) s u h in
-    let ih = walk_stays start cs (and_right (carries_own_end c) (all_carry_own_end cs) own) (at + k) (drop k s) u (walk_rest start c cs at s d) in
+    let e = cell_stays c (and_parts (carries_own_end c) (all_carry_own_end cs) own).0 s u h in
+    let ih = walk_stays start cs (and_parts (carries_own_end c) (all_carry_own_end cs) own).1 (at + k) (drop k s) u (walk_rest start c cs at s d) in
     walk_step start c cs at (s ++ u) k e (omega (arith, length-append s u))
     ∙ (rw (take-append-le k s u h, drop-append-le k s u h, ih))
     ∙ sym (walk_step start c cs at s k refl h)

@@ -12,6 +12,7 @@ use native.Mathlib.Nat.{zero-add, suc-add, suc-sub-suc, mul-le-mul_left, mod-lt,
 use lib.ListN.{length, get_or, take, drop, length-append, length-replicate, replicate-append-replicate}
 use lib.Dec.{leb, eqb}
 use borrow.Author.Tests.{eqb-true, eqb-false}
+use Rattle.std.proofs.lemmas.Bool.{cases_lt, false_from_ne_true}
 use Rattle.unicode_standard.specs.Laws.{AreBytes}
 use Rattle.types.specs.declared.ByteOrder.TheVariants.{BigEndian}
 use Rattle.types.specs.declared.ColumnDescriptor.{ColumnDescriptor}
@@ -23,7 +24,6 @@ use Rattle.rules.specs.Extent.{be16, be32, reference_mark, is_reference, is_shor
 use Rattle.rules.specs.Walk.{nullable_need, cell_need, column_need}
 use Rattle.rules.specs.Waiting.{zero_bytes, settling, filled_need, most_taken}
 use Rattle.rules.proofs.Walks.{by_indicator}
-use Rattle.rules.proofs.Tests.{lt_or_le, is_false}
 use Rattle.rules.proofs.Extents.{reference_is, is_reference_lem, counted_long, header_total, header_short, header_long, header_total_below, lob_reference_lem, lob_plain, short_is, materialized_there}
 
 -- ---- bytes with zeros behind them
@@ -88,7 +88,7 @@ counted_settles w s j k p h =
     (omega (arith, counted_long w (s ++ zero_bytes j) (omega (arith, length_zeros s j))))
 
 header_settles : (n : ℕ) → Settles (need (Header n)) 2
-header_settles n s j k p h = ⊎_elim few (two_settle (need (Header n)) (header_total n) (header_long n) s j k p) (lt_or_le (length s + k) 2)
+header_settles n s j k p h = ⊎_elim few (two_settle (need (Header n)) (header_total n) (header_long n) s j k p) (cases_lt (length s + k) 2)
   where
     few : length s + k < 2 → need (Header n) (s ++ zero_bytes k) ≡ need (Header n) (s ++ zero_bytes j)
     few l =
@@ -96,7 +96,7 @@ header_settles n s j k p h = ⊎_elim few (two_settle (need (Header n)) (header_
         header_short n (s ++ zero_bytes k) (omega (arith, length_zeros s k)) ∙ sym (header_total_below n (be16 (s ++ zero_bytes j)) (omega arith)) ∙ sym e
 
 pub not_reference : (s : List ℕ) → (get_or s 0 0 ≡ reference_mark → ⊥) → is_reference s ≡ false
-not_reference s n = is_false (is_reference s) (λ e. n (reference_is s e).1)
+not_reference s n = false_from_ne_true (is_reference s) (λ e. n (reference_is s e).1)
 
 -- both kinds of LOB: q is the whole where no reference begins, and goes by the first four bytes
 lob_settles : (q : List ℕ → ℕ) → ((s : List ℕ) → 4 ≤ q s) → ((s t : List ℕ) → take 4 s ≡ take 4 t → q s ≡ q t) → Settles (λ s. lob_need (q s) s) 9

@@ -1,5 +1,5 @@
 -- Which columns carry their own end: W9. Assumes nothing.
-use Rattle.std.specs.Prelude.{Bool, true, false, not, ◌&&◌, ◌||◌, List, [], ◌∷◌, leb, eqb}
+use Rattle.std.specs.Prelude.{Bool, true, not, ◌&&◌, ◌||◌, List, [], ◌∷◌, leb, eqb}
 use Rattle.types.specs.declared.Db2Type.{Db2Type}
 use Rattle.types.specs.declared.Db2Type.TheVariants as type
 use Rattle.types.specs.declared.ColumnDescriptor.{ColumnDescriptor}

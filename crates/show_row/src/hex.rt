@@ -2,21 +2,44 @@
 // `#` to the end of its line is a comment; a byte order mark may stand first. So what `xxd -p` prints is read. Offsets are not taken for bytes: a `:` stands
 // behind one byte, no digit stands alone, and a line does not begin with four to eight digits and go on with two.
 
+ghost use Rattle.std.specs.Prelude.{◌≡◌};
+
+use std::fmt;
+
 // What can be wrong.
 #[derive(Clone, Copy)]
 pub enum Fault {
-    // No digit, and nothing that may stand between bytes.
-    NoDigit,
+    // This byte is no digit, and nothing that may stand between bytes.
+    NoDigit(u8),
     // The second digit of a byte is not there.
     OneDigit,
     // What looks like the place of a line's bytes, and is no byte itself.
     Offset,
 }
 
-// What waits for a digit: nothing, a byte's first digit for its second one, or `0x` for a byte.
+impl fmt::Display for Fault {
+    fn fmt<W: fmt::Write>(&self, f: &mut fmt::Formatter<W>) -> fmt::Result {
+        match *self {
+            Fault::NoDigit(b @ 0x21..=0x7E) => {
+                write!(f, "no hexadecimal digit: {}", char::from(b))
+            }
+            Fault::NoDigit(b) => write!(
+                f,
+                "no hexadecimal digit: byte {b:02X} (raw bytes are read without -x)"
+            ),
+            Fault::OneDigit => {
+                f.write_str("a byte has two hexadecimal digits, the second is missing")
+            }
+            Fault::Offset => {
+                f.write_str("this looks like an offset; -x reads bytes alone, as of xxd -p")
+            }
+        }
+    }
+}
+
+// What waits for a digit: a byte's first digit for its second one, or `0x` for a byte.
 #[derive(Clone, Copy)]
 enum Waiting {
-    Nothing,
     High(u8),
     Prefix,
 }
@@ -25,7 +48,7 @@ enum Waiting {
 // counted); which run of digits of its line that is (at most 3 are counted); whether a comment is read; and the place as people count it, from 1.
 #[derive(Clone, Copy)]
 pub struct Reading {
-    waiting: Waiting,
+    waiting: Option<Waiting>,
     run: u8,
     first: u8,
     runs: u8,
@@ -51,9 +74,11 @@ fn is_mark(line: u64, column: u64, b: u8) -> bool {
 }
 
 impl Reading {
-    pub fn new() -> Self {
+    pub fn new() -> Self
+        ensures { (result.line ≡ 1) × (result.column ≡ 1) }
+    {
         Reading {
-            waiting: Waiting::Nothing,
+            waiting: None,
             run: 0,
             first: 0,
             runs: 0,
@@ -68,13 +93,12 @@ impl Reading {
         self.column = self.column.wrapping_add(1);
     }
 
+    // The beginning of the next line: nothing waits for a digit at a line's end, or in a comment.
     fn pass_line_end(&mut self) {
-        self.line = self.line.wrapping_add(1);
-        self.column = 1;
-        self.run = 0;
-        self.first = 0;
-        self.runs = 0;
-        self.is_comment = false;
+        *self = Reading {
+            line: self.line.wrapping_add(1),
+            ..Reading::new()
+        };
     }
 
     // The first digit of a byte, or its second, with which the byte is made.
@@ -88,12 +112,12 @@ impl Reading {
             self.first = self.run;
         }
         match self.waiting {
-            Waiting::High(high) => {
-                self.waiting = Waiting::Nothing;
+            Some(Waiting::High(high)) => {
+                self.waiting = None;
                 Some((high << 4) | digit)
             }
             _ => {
-                self.waiting = Waiting::High(digit);
+                self.waiting = Some(Waiting::High(digit));
                 None
             }
         }
@@ -102,13 +126,14 @@ impl Reading {
     // What the digits before this place are, at their end.
     fn end_run(&self) -> Result<(), Fault> {
         match self.waiting {
-            Waiting::Prefix => Err(Fault::OneDigit),
-            Waiting::High(_) if self.runs == 1 && is_offset(self.run) => Err(Fault::Offset),
-            Waiting::High(_) => Err(Fault::OneDigit),
-            Waiting::Nothing if self.runs == 2 && self.run == 2 && is_offset(self.first) => {
+            Some(Waiting::High(_)) if self.runs == 1 && is_offset(self.run) => {
                 Err(Fault::Offset)
             }
-            Waiting::Nothing => Ok(()),
+            Some(_) => Err(Fault::OneDigit),
+            None if self.runs == 2 && self.run == 2 && is_offset(self.first) => {
+                Err(Fault::Offset)
+            }
+            None => Ok(()),
         }
     }
 
@@ -121,16 +146,16 @@ impl Reading {
     }
 
     // The x of `0x`: a 0 waits, and no digit stands before that. The digits behind it are the line's first.
-    fn take_x(&mut self) -> Result<(), Fault> {
+    fn take_x(&mut self, x: u8) -> Result<(), Fault> {
         match (self.waiting, self.run) {
-            (Waiting::High(0), 1) => {
+            (Some(Waiting::High(0)), 1) => {
                 self.pass();
-                self.waiting = Waiting::Prefix;
+                self.waiting = Some(Waiting::Prefix);
                 self.run = 0;
                 self.runs = 0;
                 Ok(())
             }
-            _ => Err(Fault::NoDigit),
+            _ => Err(Fault::NoDigit(x)),
         }
     }
 
@@ -139,6 +164,7 @@ impl Reading {
         match b {
             b'\n' if self.is_comment => self.pass_line_end(),
             _ if self.is_comment => self.pass(),
+            // Three ranges: `to_digit` answers 32 bits, of which a byte would have to be made again.
             b'0'..=b'9' => return Ok(self.take_digit(b - b'0')),
             b'A'..=b'F' => return Ok(self.take_digit(b - b'A' + 10)),
             b'a'..=b'f' => return Ok(self.take_digit(b - b'a' + 10)),
@@ -153,9 +179,9 @@ impl Reading {
                 self.take_separator()?;
                 self.is_comment = true;
             }
-            b'x' | b'X' => self.take_x()?,
+            b'x' | b'X' => self.take_x(b)?,
             _ if is_mark(self.line, self.column, b) => self.pass(),
-            _ => return Err(Fault::NoDigit),
+            _ => return Err(Fault::NoDigit(b)),
         }
         Ok(None)
     }
@@ -171,11 +197,10 @@ pub fn looks_like_hex(s: &[u8]) -> bool {
     let mut reading = Reading::new();
     let mut count: usize = 0;
     for &b in s {
-        match reading.step(b) {
-            Ok(Some(_)) => count = count.saturating_add(1),
-            Ok(None) => {}
-            Err(_) => return false,
-        }
+        let Ok(made) = reading.step(b) else {
+            return false;
+        };
+        count = count.saturating_add(usize::from(made.is_some()));
     }
     reading.finish().is_ok() && 2 <= count
 }

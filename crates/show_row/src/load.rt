@@ -1,5 +1,6 @@
-// Reading a file whole, as it is or as hexadecimal text, into a lent buffer. What does not fit is not read: the buffers are a byte longer than what the
-// library takes, so a longer file is refused by the library itself. What goes wrong is said on standard error.
+// Reading a file whole, as it is or as hexadecimal text, into a lent buffer: as the library, the program allocates nothing, and so has no failure of that.
+// What does not fit is not read: the buffers are a byte longer than what the library takes, so a longer file is refused by the library itself. What goes wrong
+// is said on standard error.
 use crate::hex::{Fault, Reading, looks_like_hex};
 use arrayvec::ArrayString;
 use std::env::{Env, FillError};
@@ -22,12 +23,8 @@ const CHUNK: usize = 4096;
 #[derive(Drop)]
 enum LoadError {
     Unread(io::Error),
-    // Where a hexadecimal text has a fault, and the byte there.
-    Faulty {
-        reading: Reading,
-        fault: Fault,
-        byte: u8,
-    },
+    // Where a hexadecimal text has a fault.
+    Faulty { reading: Reading, fault: Fault },
 }
 
 impl From<io::Error> for LoadError {
@@ -37,6 +34,7 @@ impl From<io::Error> for LoadError {
 }
 
 // Reads the file that an argument names; `-` is standard input. What was read of it, if it can be read.
+// Here and below the flag and the buffer stand apart: a struct of them would be taken apart in each of the functions.
 pub fn load<'a>(
     rt: &HostRuntime,
     argument: usize,
@@ -124,18 +122,10 @@ fn loaded<'a>(
 fn say(err: Stderr, name: &str, e: &LoadError) -> io::Result<()> {
     match e {
         LoadError::Unread(e) => { println!(err; "show-row: cannot read {name}: {}", Reason(e)) }
-        LoadError::Faulty {
-            reading,
-            fault,
-            byte,
-        } => {
+        LoadError::Faulty { reading, fault } => {
             let line = reading.line;
             let column = reading.column;
-            let found = Found {
-                fault: *fault,
-                byte: *byte,
-            };
-            println!(err; "show-row: {name}: line {line}, column {column}: {found}")
+            println!(err; "show-row: {name}: line {line}, column {column}: {fault}")
         }
     }
 }
@@ -155,36 +145,9 @@ impl fmt::Display for Reason<'_> {
     }
 }
 
-// A fault, and the byte at its place.
-#[derive(Clone, Copy)]
-struct Found {
-    fault: Fault,
-    byte: u8,
-}
-
-impl fmt::Display for Found {
-    fn fmt<W: fmt::Write>(&self, f: &mut fmt::Formatter<W>) -> fmt::Result {
-        match (self.fault, self.byte) {
-            (Fault::NoDigit, b @ 0x21..=0x7E) => {
-                write!(f, "no hexadecimal digit: {}", char::from(b))
-            }
-            (Fault::NoDigit, b) => write!(
-                f,
-                "no hexadecimal digit: byte {b:02X} (raw bytes are read without -x)"
-            ),
-            (Fault::OneDigit, _) => {
-                f.write_str("a byte has two hexadecimal digits, the second is missing")
-            }
-            (Fault::Offset, _) => {
-                f.write_str("this looks like an offset; -x reads bytes alone, as of xxd -p")
-            }
-        }
-    }
-}
-
 fn read_raw<R: Read>(from: &mut R, out: &mut [u8]) -> io::Result<usize> {
     let mut at = 0;
-    // Goes on by as many bytes as a read gives.
+    // Goes on by as many bytes as a read gives. `io::copy` would go on behind an interrupted read, which here is said.
     while at < out.len() {
         match from.read(&mut out[at..])? {
             0 => return Ok(at),
@@ -194,7 +157,7 @@ fn read_raw<R: Read>(from: &mut R, out: &mut [u8]) -> io::Result<usize> {
     Ok(at)
 }
 
-// Nothing says that a file ends, so the loop has as many turns as no run uses up.
+// Nothing says that a file ends, so the loop has as many turns as no run uses up. It reads chunks: a BufReader would allocate, which may fail.
 fn read_hex<R: Read>(from: &mut R, out: &mut [u8]) -> Result<usize, LoadError> {
     let mut reading = Reading::new();
     let mut at = 0;
@@ -205,11 +168,9 @@ fn read_hex<R: Read>(from: &mut R, out: &mut [u8]) -> Result<usize, LoadError> {
             break;
         }
         for &byte in &chunk[..n] {
-            let made = reading.step(byte).map_err(|fault| LoadError::Faulty {
-                reading,
-                fault,
-                byte,
-            })?;
+            let made = reading
+                .step(byte)
+                .map_err(|fault| LoadError::Faulty { reading, fault })?;
             let Some(place) = out.get_mut(at) else {
                 return Ok(at);
             };
@@ -219,12 +180,8 @@ fn read_hex<R: Read>(from: &mut R, out: &mut [u8]) -> Result<usize, LoadError> {
             }
         }
     }
-    match reading.finish() {
-        Ok(()) => Ok(at),
-        Err(fault) => Err(LoadError::Faulty {
-            reading,
-            fault,
-            byte: 0,
-        }),
-    }
+    reading
+        .finish()
+        .map_err(|fault| LoadError::Faulty { reading, fault })?;
+    Ok(at)
 }

@@ -14,6 +14,7 @@ use qrydsc::{Description, parse_qrydsc};
 use std::env::{Env, FillError};
 use tables::columns::show_columns;
 use tables::description_warnings::{warn_of_description, warn_of_rows};
+use tables::parts::Given;
 use tables::refusals::{show_refused_description, show_refused_row};
 use tables::row_warnings::{warn_of_beginning, warn_of_values};
 use tables::values::show_values;
@@ -26,12 +27,11 @@ const ROW: usize = 1048577;
 // No row's texts are longer: three bytes for each of the row's, and 258 for each of 128 columns.
 const TEXT: usize = 3178752;
 
-// Whether an argument is this word, of at most seven letters.
-fn is_word(rt: &HostRuntime, argument: usize, want: &[u8]) -> bool {
-    let mut word = [0u8; 8];
-    match rt.arg(argument, &mut word) {
-        Ok(n) => &word[..n] == want,
-        Err(_) => false,
+// An argument of a few letters, by its number and not from a list, which would allocate; put into the room that is lent for it; empty where there is none, or it is longer.
+fn word_of<'a>(rt: &HostRuntime, argument: usize, room: &'a mut [u8; 8]) -> &'a [u8] {
+    match rt.arg(argument, room) {
+        Ok(n) => &room[..n],
+        Err(_) => &[],
     }
 }
 
@@ -50,32 +50,29 @@ struct Options {
 
 // The host's release that an argument says.
 fn release_of(rt: &HostRuntime, argument: usize) -> Option<u32> {
-    if is_word(rt, argument, b"2") {
-        return Some(2);
+    match word_of(rt, argument, &mut [0u8; 8]) {
+        b"2" => Some(2),
+        b"3" => Some(3),
+        _ => None,
     }
-    if is_word(rt, argument, b"3") {
-        return Some(3);
-    }
-    None
 }
 
 // None where -r names no release.
 fn read_options(rt: &HostRuntime) -> Option<Options>
     ensures { IfSome result (λ options. options.first ≤ 4) }
 {
-    let is_hex = is_word(rt, 1, b"-x");
+    let mut room = [0u8; 8];
+    // By a pattern: with `==` the literal, an array, has to be made a slice.
+    let is_hex = matches!(word_of(rt, 1, &mut room), b"-x");
     let at = if is_hex { 2 } else { 1 };
-    if !is_word(rt, at, b"-r") {
-        return Some(Options {
-            is_hex,
-            release: 2,
-            first: at,
-        });
-    }
+    let (release, first) = match word_of(rt, at, &mut room) {
+        b"-r" => (release_of(rt, at + 1)?, at + 2),
+        _ => (2, at),
+    };
     Some(Options {
         is_hex,
-        release: release_of(rt, at + 1)?,
-        first: at + 2,
+        release,
+        first,
     })
 }
 
@@ -112,14 +109,17 @@ fn show_row(rt: &HostRuntime, release: u32, description: &[u8], row: &[u8], text
 
 fn show_decoded(rt: &HostRuntime, d: &Description, release: u32, row: &[u8], text: &mut [u8]) {
     let err = rt.stderr();
-    let columns = &d.columns;
-    let answer = row::decode_row(row, *columns, release, text);
+    let given = Given {
+        columns: &d.columns,
+        row,
+    };
+    let answer = row::decode_row(row, d.columns, release, text);
     match &answer {
-        Ok(accepted) => show_values(rt.stdout(), columns, accepted, row, text),
-        Err(refusal) => show_refused_row(rt.stdout(), *refusal, row, columns),
+        Ok(accepted) => show_values(rt.stdout(), given, accepted, text),
+        Err(refusal) => show_refused_row(rt.stdout(), *refusal, given),
     }
     warn_of_beginning(err, row);
-    warn_of_values(err, columns, row, release, &answer, text);
+    warn_of_values(err, given, release, &answer, text);
 }
 
 // Nothing is shown where a file can't be read.

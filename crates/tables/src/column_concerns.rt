@@ -8,7 +8,7 @@ pub enum Texts {
     Graphics,
 }
 
-// Bit 8000 of a varying length: the value is a header, and no text by the CCSID.
+// Bit 8000 of a varying length: the value is a header, and no text by the CCSID. One comparison, here and in `cell`, beside what each decides by it.
 fn is_header(n: u16) -> bool {
     0x8000 <= n
 }
@@ -30,6 +30,8 @@ pub fn texts_of(t: Db2Type) -> Option<Texts> {
     }
 }
 
+// The CCSIDs that the library has a conversion for: warnings tell of what it does now, and a change of it is to be looked at here too.
+// They are written out: `conversion::named` is private, in a crate that `tables` does not rest on.
 pub fn is_utf16(ccsid: u16) -> bool {
     matches!(ccsid, 1200 | 13488)
 }

@@ -1,5 +1,5 @@
 // A column in the table: its number, type, nullable, CCSID, byte order and origin; and, where there is no row, its type code, length and reference length.
-use crate::parts::columns_of;
+use printing::OrDash;
 use printing::type_names::TypeName;
 use std::io::Stdout;
 use std::{fmt, io};
@@ -48,28 +48,16 @@ impl fmt::Display for Common {
     }
 }
 
-// How wide a reference to a value outside of the row is, where the description declares it.
-#[derive(Clone, Copy)]
-struct Reference(Option<u16>);
-
-impl fmt::Display for Reference {
-    fn fmt<W: fmt::Write>(&self, f: &mut fmt::Formatter<W>) -> fmt::Result {
-        match self.0 {
-            Some(width) => write!(f, "{width}"),
-            None => f.write_str("-"),
-        }
-    }
-}
-
 fn print_columns(out: Stdout, columns: &Columns) -> io::Result<()> {
     println!(out;
         " no  type               null  ccsid  order   origin      code  length  reference"
     )?;
-    for &column in columns_of(columns) {
+    for &column in columns.list() {
         let common = Common(column);
         let code = column.drda_type;
         let length = column.length;
-        let reference = Reference(column.extdta_reference_length);
+        // How wide a reference to a value outside of the row is, where the description declares it.
+        let reference = OrDash(column.extdta_reference_length);
         println!(out; "{common}{code:02X}{length:>10}  {reference}")?;
     }
     let count = columns.count;

@@ -3,13 +3,11 @@ use crate::column_concerns::{
     is_bit_data, is_byte_counted, is_length_odd, is_other_lob, is_other_number, is_page_500,
     is_taken_for_var_char, is_unmeasured, is_unnamed,
 };
-use crate::value_concerns::{
-    is_all_at, is_guessed_as, is_guessed_at, is_longer, is_odd_decimal, is_odd_indicator,
-    is_unnamed_text,
-};
+use crate::parts::Part;
 use std::fmt;
-use types::ColumnDescriptor;
 
+// An enum, and no predicate with its text: one list of names is read beside docs/DIFFERENCES.md, and a predicate that is handed on would have to promise that
+// it takes any column.
 #[derive(Clone, Copy)]
 pub enum Concern {
     // By the description. A CCSID that no conversion is known for, at release 2 and at 3.
@@ -49,8 +47,9 @@ pub enum Concern {
 }
 
 impl Concern {
-    // Whether it is one of this column, whose part of the row is empty where there is no row.
-    pub fn is_of(self, column: ColumnDescriptor, part: &[u8]) -> bool {
+    // Whether it is one of this column and its part of the row, which is empty where there is no row.
+    pub fn is_of(self, part: &Part<'_>) -> bool {
+        let column = part.column;
         match self {
             Concern::WillBeGuessed | Concern::WillBe037 => is_unnamed(column),
             Concern::As037 => is_page_500(column),
@@ -62,14 +61,14 @@ impl Concern {
             Concern::Length => is_length_odd(column),
             Concern::Unmeasured => is_unmeasured(column),
             Concern::DecFloat => column.is_dec_float(),
-            Concern::ReadAsAscii => is_guessed_as(column, part, false),
-            Concern::ReadAs037 => is_guessed_as(column, part, true),
-            Concern::GuessedAt => is_guessed_at(column, part),
-            Concern::Unnamed => is_unnamed_text(column, part),
-            Concern::AllAt => is_all_at(column, part),
-            Concern::Longer => is_longer(column, part),
-            Concern::Indicator => is_odd_indicator(column.nullable, part),
-            Concern::Packed => is_odd_decimal(column, part),
+            Concern::ReadAsAscii => part.is_guessed_as(false),
+            Concern::ReadAs037 => part.is_guessed_as(true),
+            Concern::GuessedAt => part.is_guessed_at(),
+            Concern::Unnamed => part.is_unnamed_text(),
+            Concern::AllAt => part.is_all_at(),
+            Concern::Longer => part.is_longer(),
+            Concern::Indicator => part.is_odd_indicator(),
+            Concern::Packed => part.is_odd_decimal(),
         }
     }
 }

@@ -1,9 +1,10 @@
 // What a description alone warns of: no columns, columns that may be missing, and columns whose values may be others than the host's.
 use crate::concerns::Concern;
 use crate::headers::warn_header;
+use crate::parts::Given;
 use crate::triplet_list::{Lack, lacking};
 use crate::warnings::{warn, warn_columns};
-use printing::ByteCount;
+use printing::{ByteCount, Counted};
 use qrydsc::Description;
 use std::fmt;
 use std::io::Stderr;
@@ -16,19 +17,6 @@ fn warn_broken_off(err: Stderr, description: &[u8]) {
         err,
         format_args!("the description breaks off after {read} of {count}: columns may be missing"),
     );
-}
-
-// A number of triplets.
-#[derive(Clone, Copy)]
-struct Triplets(usize);
-
-impl fmt::Display for Triplets {
-    fn fmt<W: fmt::Write>(&self, f: &mut fmt::Formatter<W>) -> fmt::Result {
-        match self.0 {
-            1 => f.write_str("1 triplet of the description"),
-            n => write!(f, "{n} triplets of the description"),
-        }
-    }
 }
 
 impl fmt::Display for Lack {
@@ -46,13 +34,25 @@ impl fmt::Display for Lack {
 // How many triplets lack something, and of the first where it begins and its type.
 fn warn_triplets(err: Stderr, lack: Lack, description: &[u8]) {
     if let Some((count, first)) = lacking(lack, description) {
-        let triplets = Triplets(count);
+        let triplets = Counted {
+            count,
+            one: "triplet of the description",
+            others: "triplets of the description",
+        };
         let start = first.start;
         let kind = first.kind;
         warn(
             err,
             format_args!("{triplets} {lack} (the first at byte {start}, of type {kind:02X})"),
         );
+    }
+}
+
+// The columns without a row.
+fn alone(d: &Description) -> Given<'_> {
+    Given {
+        columns: &d.columns,
+        row: &[],
     }
 }
 
@@ -83,7 +83,7 @@ pub fn warn_of_description(err: Stderr, d: &Description, description: &[u8]) {
         Concern::LobText,
     ];
     for concern in concerns {
-        warn_columns(err, concern, &d.columns, &[]);
+        warn_columns(err, concern, alone(d));
     }
 }
 
@@ -98,6 +98,6 @@ fn unnamed(release: u32) -> Concern {
 // What it tells of the rows to come, where there is none yet.
 pub fn warn_of_rows(err: Stderr, d: &Description, release: u32) {
     for concern in [unnamed(release), Concern::DecFloat] {
-        warn_columns(err, concern, &d.columns, &[]);
+        warn_columns(err, concern, alone(d));
     }
 }

@@ -2,9 +2,11 @@
 // length, D0, its kind and a number.
 ghost use Rattle.std.specs.Prelude.{◌≤◌, IfSome};
 
+use crate::triplet_list::RLO;
 use crate::warnings::warn;
 use printing::ByteCount;
 use std::io::Stderr;
+use triplets::{TRIPLET_TYPE_GDA, TRIPLET_TYPE_MDD, TRIPLET_TYPE_SDA};
 
 // QRYDSC, QRYDTA, EXTDTA and SQLCARD.
 fn is_code_point(n: u16) -> bool {
@@ -32,7 +34,10 @@ fn ddm_header(s: &[u8]) -> Option<usize>
 
 // Whether a triplet begins so, as that of a D0 group does.
 fn is_triplet(kind: u8) -> bool {
-    matches!(kind, 0x70 | 0x71 | 0x76 | 0x78)
+    matches!(
+        kind,
+        TRIPLET_TYPE_SDA | RLO | TRIPLET_TYPE_GDA | TRIPLET_TYPE_MDD
+    )
 }
 
 // How many bytes of headers there are, if any.

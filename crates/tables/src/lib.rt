@@ -8,7 +8,7 @@ pub mod columns;
 mod concerns;
 pub mod description_warnings;
 mod headers;
-mod parts;
+pub mod parts;
 pub mod refusals;
 pub mod row_warnings;
 mod status;

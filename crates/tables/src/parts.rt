@@ -3,11 +3,13 @@ ghost use Rattle.std.specs.Prelude.{length};
 ghost use Rattle.std.specs.Iterator.{at_most};
 
 use piece::{piece_need, skip_of};
-use types::{ColumnDescriptor, Columns, MAX_COLUMNS};
+use types::{ColumnDescriptor, Columns};
 
-// The columns that a list has.
-pub fn columns_of(columns: &Columns) -> &[ColumnDescriptor] {
-    &columns.columns[..columns.count.min(MAX_COLUMNS)]
+// A row, and the columns that it is read by. Where there is no row, it is empty, and so are the columns' parts of it.
+#[derive(Clone, Copy)]
+pub struct Given<'a> {
+    pub columns: &'a Columns,
+    pub row: &'a [u8],
 }
 
 // A column's part of a row: where it begins, how many bytes the column takes, and those of them that are there.
@@ -26,12 +28,13 @@ pub struct Parts<'a> {
     start: usize,
 }
 
-// Without a row the columns' parts of it are empty.
-pub fn parts_of<'a>(columns: &'a Columns, row: &'a [u8]) -> Parts<'a> {
-    Parts {
-        columns: columns_of(columns),
-        row,
-        start: skip_of(row),
+impl<'a> Given<'a> {
+    pub(crate) fn parts(self) -> Parts<'a> {
+        Parts {
+            columns: self.columns.list(),
+            row: self.row,
+            start: skip_of(self.row),
+        }
     }
 }
 

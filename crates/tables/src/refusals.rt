@@ -1,5 +1,5 @@
 // A refusal as a line: its number, its meaning, its numbers and, where a column is to blame, which.
-use crate::parts::{Part, columns_of, parts_of};
+use crate::parts::{Given, Part};
 use printing::ByteCount;
 use printing::type_names::TypeName;
 use refusal::Refusal;
@@ -22,11 +22,8 @@ impl fmt::Display for Meaning {
             Refusal::DecFloatColumn => "the row has a DecFloat column, which is not read",
             Refusal::DecimalEmpty => "the packed decimal has no bytes",
             Refusal::DecimalTooLong => "the packed decimal has more than 128 bytes",
-            Refusal::BufferTooShort {
-                expected: _,
-                actual: _,
-            } => "the row is too short",
-            Refusal::TextBufferTooShort { needed: _ } => "the text buffer is too short",
+            Refusal::BufferTooShort { .. } => "the row is too short",
+            Refusal::TextBufferTooShort { .. } => "the text buffer is too short",
             Refusal::DecimalDigit => "the packed decimal has a digit above 9",
             Refusal::DecimalSign => "the packed decimal has a sign below A",
             Refusal::DecimalOutOfRange => "the packed decimal is no signed 64-bit number",
@@ -58,7 +55,8 @@ impl fmt::Display for Named {
 
 // The first DecFloat column.
 fn dec_float_column(columns: &Columns) -> Option<Named> {
-    let (index, column) = columns_of(columns)
+    let (index, column) = columns
+        .list()
         .iter()
         .enumerate()
         .find(|(_, column)| column.is_dec_float())?;
@@ -96,24 +94,21 @@ fn is_short(part: &Part<'_>) -> bool {
 }
 
 // The column in which the row ends too early.
-fn end_of(row: &[u8], columns: &Columns) -> Option<End> {
-    let (index, part) = parts_of(columns, row)
-        .enumerate()
-        .find(|(_, part)| is_short(part))?;
+fn end_of(given: Given<'_>) -> Option<End> {
+    let (index, part) = given.parts().enumerate().find(|(_, part)| is_short(part))?;
     Some(End {
         column: Named {
             index,
             db2_type: part.column.db2_type,
         },
         start: part.start,
-        end: row.len(),
+        end: given.row.len(),
     })
 }
 
 // What a refusal says beside its meaning. The library refuses only rows in which the column to blame is found.
 #[derive(Clone, Copy)]
 enum Detail {
-    None,
     Column(Named),
     // The Rust's two numbers. They count from the value's first byte; of an indicator that is not there, from the body's.
     Short {
@@ -124,46 +119,41 @@ enum Detail {
     Needed(usize),
 }
 
-fn detail_of(refusal: Refusal, row: &[u8], columns: &Columns) -> Detail {
+fn detail_of(refusal: Refusal, given: Given<'_>) -> Option<Detail> {
     match refusal {
-        Refusal::DecFloatColumn => match dec_float_column(columns) {
-            Some(column) => Detail::Column(column),
-            None => Detail::None,
-        },
-        Refusal::BufferTooShort { expected, actual } => match end_of(row, columns) {
-            Some(end) => Detail::Short {
-                end,
-                expected,
-                actual,
-            },
-            None => Detail::None,
-        },
-        Refusal::TextBufferTooShort { needed } => Detail::Needed(needed),
-        _ => Detail::None,
+        Refusal::DecFloatColumn => dec_float_column(given.columns).map(Detail::Column),
+        Refusal::BufferTooShort { expected, actual } => Some(Detail::Short {
+            end: end_of(given)?,
+            expected,
+            actual,
+        }),
+        Refusal::TextBufferTooShort { needed } => Some(Detail::Needed(needed)),
+        _ => None,
     }
 }
 
 impl fmt::Display for Detail {
     fn fmt<W: fmt::Write>(&self, f: &mut fmt::Formatter<W>) -> fmt::Result {
         match *self {
-            Detail::None => Ok(()),
-            Detail::Column(column) => write!(f, ": {column}"),
+            Detail::Column(column) => write!(f, "{column}"),
             Detail::Short {
                 end,
                 expected,
                 actual,
             } => write!(
                 f,
-                ": {end}: expected {}, actual {actual}",
+                "{end}: expected {}, actual {actual}",
                 ByteCount(expected)
             ),
-            Detail::Needed(needed) => write!(f, ": needed {}", ByteCount(needed)),
+            Detail::Needed(needed) => write!(f, "needed {}", ByteCount(needed)),
         }
     }
 }
 
-pub fn show_refused_row(out: Stdout, refusal: Refusal, row: &[u8], columns: &Columns) {
+pub fn show_refused_row(out: Stdout, refusal: Refusal, given: Given<'_>) {
     let meaning = Meaning(refusal);
-    let detail = detail_of(refusal, row, columns);
-    let _ = println!(out; "{meaning}{detail}");
+    let _ = match detail_of(refusal, given) {
+        Some(detail) => println!(out; "{meaning}: {detail}"),
+        None => println!(out; "{meaning}"),
+    };
 }

@@ -1,51 +1,42 @@
 // What a row warns of: how it begins, what follows it, and values that may be others than the host's.
 use crate::concerns::Concern;
 use crate::headers::warn_header;
+use crate::parts::Given;
 use crate::status::state_of;
 use crate::warnings::{warn, warn_columns};
-use printing::Hex;
+use printing::{Counted, Hex};
 use refusal::Refusal;
+use std::io;
 use std::io::Stderr;
-use std::{fmt, io};
-use types::{Columns, Row};
-
-// A number of characters that were replaced.
-#[derive(Clone, Copy)]
-struct Replaced(usize);
-
-impl fmt::Display for Replaced {
-    fn fmt<W: fmt::Write>(&self, f: &mut fmt::Formatter<W>) -> fmt::Result {
-        match self.0 {
-            1 => f.write_str("1 character was not valid and was replaced by U+FFFD"),
-            n => write!(
-                f,
-                "{n} characters were not valid and were replaced by U+FFFD"
-            ),
-        }
-    }
-}
+use types::Row;
 
 // How many characters were replaced, and in which columns: those with which the sum grows.
 fn list_replaced(
     err: Stderr,
-    columns: &Columns,
-    row: &[u8],
+    given: Given<'_>,
     release: u32,
     replaced: usize,
     text: &mut [u8],
 ) -> io::Result<()> {
-    print!(err; "show-row: warning: {}: column", Replaced(replaced))?;
-    let mut some = *columns;
+    let replaced = Counted {
+        count: replaced,
+        one: "character was not valid and was replaced by U+FFFD",
+        others: "characters were not valid and were replaced by U+FFFD",
+    };
+    print!(err; "show-row: warning: {replaced}: column")?;
+    let mut some = *given.columns;
     let mut sum = 0;
-    for i in 0..columns.count {
+    let mut separator = " ";
+    // From 0: the loop prints `i` and counts `i + 1`; `1..=count` would print one less than it counts.
+    for i in 0..given.columns.count {
         some.count = i + 1;
-        let after = match row::decode_row(row, some, release, text) {
-            Ok(answer) => answer.replaced,
-            Err(_) => 0,
-        };
+        let after = row::decode_row(given.row, some, release, text).map_or(
+            0,
+            |answer| answer.replaced,
+        );
         if after != sum {
-            let separator = if sum == 0 { " " } else { ", " };
             print!(err; "{separator}{i}")?;
+            separator = ", ";
         }
         sum = after;
     }
@@ -113,35 +104,34 @@ pub fn warn_of_beginning(err: Stderr, row: &[u8]) {
 }
 
 // Texts of a CCSID that no conversion is known for. At release 2 a look at the bytes decides how they are read; at release 3 they are code page 037.
-fn warn_unnamed(err: Stderr, columns: &Columns, row: &[u8], release: u32) {
+fn warn_unnamed(err: Stderr, given: Given<'_>, release: u32) {
     if release != 2 {
-        warn_columns(err, Concern::Unnamed, columns, row);
+        warn_columns(err, Concern::Unnamed, given);
         return;
     }
     for concern in [Concern::ReadAs037, Concern::ReadAsAscii, Concern::GuessedAt] {
-        warn_columns(err, concern, columns, row);
+        warn_columns(err, concern, given);
     }
 }
 
 // What the values of a row tell, and what is left behind it. Of a row that is refused, only the indicators.
 pub fn warn_of_values(
     err: Stderr,
-    columns: &Columns,
-    row: &[u8],
+    given: Given<'_>,
     release: u32,
     answer: &Result<Row, Refusal>,
     text: &mut [u8],
 ) {
-    warn_columns(err, Concern::Indicator, columns, row);
+    warn_columns(err, Concern::Indicator, given);
     let Ok(accepted) = answer else {
         return;
     };
-    warn_rest(err, row, accepted.used);
+    warn_rest(err, given.row, accepted.used);
     if accepted.replaced != 0 {
-        let _ = list_replaced(err, columns, row, release, accepted.replaced, text);
+        let _ = list_replaced(err, given, release, accepted.replaced, text);
     }
-    warn_unnamed(err, columns, row, release);
+    warn_unnamed(err, given, release);
     for concern in [Concern::AllAt, Concern::Longer, Concern::Packed] {
-        warn_columns(err, concern, columns, row);
+        warn_columns(err, concern, given);
     }
 }

@@ -5,7 +5,7 @@ use std::fmt;
 #[derive(Clone, Copy)]
 pub struct State([u8; 5]);
 
-// A digit or a capital in ASCII, which may be sent in EBCDIC.
+// A digit or a capital in ASCII, which may be sent in EBCDIC: by ranges, since the table of `codepage` has all characters, and this crate does not rest on it.
 fn state_character(b: u8) -> Option<u8> {
     match b {
         b'0'..=b'9' | b'A'..=b'Z' => Some(b),

@@ -1,21 +1,19 @@
 // The triplets of a description behind which columns may be missing: those that give no column and no environment entry, and are no row lay-out (71) and no
 // MDD before another triplet (78) either; the continuation 7F among them; and groups whose columns leave bytes over.
-ghost use Rattle.std.specs.Prelude.{◌-◌, length};
+ghost use Rattle.std.specs.Prelude.{◌-◌, ◌≤◌, length};
 ghost use Rattle.std.specs.Iterator.{at_most};
 
-use triplets::next_triplet;
+use triplets::{
+    COMPACT_GDA, TRIPLET_TYPE_GDA as GDA, TRIPLET_TYPE_MDD as MDD, TRIPLET_TYPE_SDA as SDA,
+    next_triplet,
+};
 
-const SDA: u8 = 0x70;
-
-const RLO: u8 = 0x71;
-
-const GDA: u8 = 0x76;
-
-const MDD: u8 = 0x78;
+// Types of triplets that the library passes over as it does any other; a number, as in its own calls.
+pub const RLO: u8 = 0x71;
 
 const CONTINUATION: u8 = 0x7F;
 
-// What a triplet lacks.
+// What a triplet lacks. An enum: a predicate that is handed on would have to promise that it takes any triplet, and the text would stand beside it.
 #[derive(Clone, Copy)]
 pub enum Lack {
     // It continues the one before it, and is not read.
@@ -35,29 +33,26 @@ pub struct Listed<'a> {
     behind: &'a [u8],
 }
 
-// Triplets one after the other, as long as there are so many bytes for one.
+// Triplets one after the other, as long as there are so many bytes for one. Its number of bytes is a field: a const parameter would need the same ghost field.
 #[derive(Drop)]
 struct Triplets<'a> {
     part: &'a [u8],
     least: usize,
+    // A place, and no shorter slice: where a triplet begins is said of it.
     at: usize,
+    ghost has_head: { 2 ≤ least },
+    ghost within: { at ≤ length part.now },
 }
 
-// The triplets of a description, and those within a group.
-fn outer(part: &[u8]) -> Triplets<'_> {
-    Triplets {
-        part,
-        least: 2,
-        at: 0,
-    }
-}
+// The least bytes for a triplet of a description, and for one within a group.
+const OUTER: usize = 2;
 
-fn inner(part: &[u8]) -> Triplets<'_> {
-    Triplets {
-        part,
-        least: 3,
-        at: 0,
-    }
+const INNER: usize = 3;
+
+fn triplets_of(part: &[u8], least: usize) -> Triplets<'_>
+    requires { 2 ≤ least }
+{
+    Triplets { part, least, at: 0 }
 }
 
 impl<'a> Iterator for Triplets<'a> {
@@ -68,20 +63,14 @@ impl<'a> Iterator for Triplets<'a> {
     fn next(&mut self) -> Option<Listed<'a>> {
         let part = self.part;
         let start = self.at;
-        if part.len() < start || self.least < 2 {
-            return None;
-        }
         let triplet = next_triplet(part, start, part.len(), self.least)?;
         let end = triplet.end;
-        // A triplet has two bytes and lies within: asked again here, it needs no proof.
-        let data = part.get(start.checked_add(2)?..end)?;
-        let behind = part.get(end..)?;
         self.at = end;
         Some(Listed {
             kind: triplet.kind,
             start,
-            data,
-            behind,
+            data: &part[start + 2..end],
+            behind: &part[end..],
         })
     }
 }
@@ -90,14 +79,14 @@ impl<'a> Iterator for Triplets<'a> {
 fn group_has_column(data: &[u8]) -> bool {
     match data {
         [] => false,
-        [0xD0, threes @ ..] => 3 <= threes.len(),
-        _ => inner(data).any(|t| t.kind == SDA && !t.data.is_empty()),
+        [COMPACT_GDA, threes @ ..] => 3 <= threes.len(),
+        _ => triplets_of(data, INNER).any(|t| t.kind == SDA && !t.data.is_empty()),
     }
 }
 
 // Whether a triplet begins here for which an MDD may stand: an SDA, a group or a row lay-out.
 fn is_described(part: &[u8]) -> bool {
-    outer(part)
+    triplets_of(part, OUTER)
         .next()
         .is_some_and(|t| matches!(t.kind, SDA | RLO | GDA))
 }
@@ -117,7 +106,7 @@ impl Listed<'_> {
     // Whether behind D0 and the threes of a group one or two bytes are left.
     fn has_left_over(&self) -> bool {
         match self.data {
-            [0xD0, threes @ ..] => self.kind == GDA && threes.len() % 3 != 0,
+            [COMPACT_GDA, threes @ ..] => self.kind == GDA && threes.len() % 3 != 0,
             _ => false,
         }
     }
@@ -133,7 +122,7 @@ impl Listed<'_> {
 
 // How many triplets lack this, and the first of them.
 pub fn lacking(lack: Lack, description: &[u8]) -> Option<(usize, Listed<'_>)> {
-    let count = outer(description).filter(|t| t.lacks(lack)).count();
-    let first = outer(description).find(|t| t.lacks(lack))?;
-    Some((count, first))
+    let mut lacking = triplets_of(description, OUTER).filter(|t| t.lacks(lack));
+    let first = lacking.next()?;
+    Some((1 + lacking.count(), first))
 }

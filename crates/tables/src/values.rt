@@ -1,13 +1,13 @@
 // A value in the table: where the column's bytes lie in the row, whether it is external, and the value itself.
 use crate::columns::{Common, yes_or_no};
-use crate::parts::parts_of;
+use crate::parts::Given;
 use piece::skip_of;
 use printing::{ByteCount, Hex, Quoted, Span};
 use std::io::Stdout;
 use std::num::{f32_to_bits_with_nan, f64_to_bits_with_nan};
 use std::str::from_utf8;
 use std::{fmt, io};
-use types::{Columns, Db2Value, Row};
+use types::{Db2Value, Row};
 
 // How many bytes of a Binary or Blob are shown.
 const SHOWN: usize = 32;
@@ -28,7 +28,7 @@ impl fmt::Display for Bytes<'_> {
     }
 }
 
-// A value, and the bytes that value_bytes shows of it.
+// A value, and the bytes that value_bytes shows of it; as `answers` has them for a line of its list, which neither crate prints as the other does.
 #[derive(Clone, Copy)]
 struct Shown<'a> {
     value: Db2Value,
@@ -59,13 +59,8 @@ impl fmt::Display for Shown<'_> {
 }
 
 // The values of an accepted row, and the bytes used and left. The two bytes before the values that are skipped have a line of their own.
-fn print_values(
-    out: Stdout,
-    columns: &Columns,
-    answer: &Row,
-    row: &[u8],
-    text: &[u8],
-) -> io::Result<()> {
+fn print_values(out: Stdout, given: Given<'_>, answer: &Row, text: &[u8]) -> io::Result<()> {
+    let row = given.row;
     println!(out;
         " no  type               null  ccsid  order   origin      bytes of the row  external  value"
     )?;
@@ -77,7 +72,7 @@ fn print_values(
         };
         println!(out; "{:<57}{span:<28}{}", "  -  skipped", Bytes(skipped))?;
     }
-    for (part, place) in parts_of(columns, row).zip(&answer.places) {
+    for (part, place) in given.parts().zip(&answer.places) {
         let common = Common(part.column);
         let span = Span {
             start: part.start,
@@ -86,6 +81,7 @@ fn print_values(
         let external = yes_or_no(place.external);
         let shown = Shown {
             value: place.value,
+            // `value_bytes`, which README has, takes the row and the text apart.
             bytes: row::value_bytes(place.value, row, text),
         };
         println!(out; "{common}{span:<18}{external:<10}{shown}")?;
@@ -95,12 +91,6 @@ fn print_values(
     println!(out; "used {used}, left {left}")
 }
 
-pub fn show_values<'a>(
-    out: Stdout,
-    columns: &Columns,
-    answer: &Row,
-    row: &'a [u8],
-    text: &'a [u8],
-) {
-    let _ = print_values(out, columns, answer, row, text);
+pub fn show_values(out: Stdout, given: Given<'_>, answer: &Row, text: &[u8]) {
+    let _ = print_values(out, given, answer, text);
 }

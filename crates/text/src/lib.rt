@@ -3,7 +3,9 @@
 #![tactic(auto)]
 
 ghost use Rattle.std.specs.Prelude.{◌≡◌, true, List, ℕ, ◌+◌, ◌*◌, ◌≤◌, length};
+ghost use Rattle.std.specs.Result.{OkIff, IfErr};
 ghost use Rattle.refusal.specs.Refusal.{input_limit};
+ghost use Rattle.refusal.specs.declared.Refusal.TheVariants.{InputTooLong};
 ghost use Rattle.buffer.specs.Buffer.{Converted, unreplaced, told_text, text_answer, text_buffer};
 ghost use Rattle.unicode_standard.specs.Likely.{likely_text};
 ghost use Rattle.conversion.specs.Conversion.{characters_by, graphics_by, locator_text, row_id_text};
@@ -19,6 +21,25 @@ use conversion::{
 };
 use refusal::{INPUT_LIMIT, Refusal};
 
+// So many bytes hold the text of n bytes, by any conversion (conversion/PlainText: text_bound).
+const fn most_text(n: usize) -> usize
+    requires { n ≤ input_limit }
+    ensures { result ≡ 3 * n + 14 }
+{
+    3 * n + 14
+}
+
+// The bytes that refusal 4 is for.
+fn check_input(s: &[u8]) -> Result<(), Refusal>
+    ensures few { OkIff result (length s.now ≤ input_limit) tt }
+    ensures many { IfErr result (λ r. r ≡ InputTooLong) }
+{
+    if s.len() > INPUT_LIMIT {
+        return Err(Refusal::InputTooLong);
+    }
+    Ok(())
+}
+
 // The text of s at the beginning of a buffer. A buffer that holds any text of so many bytes is written without measuring.
 #[tactic(auto, using(buffer::proofs::Answer::no_room_answer, buffer::proofs::Answer::no_room_buffer, buffer::proofs::Answer::room_answer, buffer::proofs::Answer::room_buffer, conversion::proofs::PlainText::text_bound))]
 fn convert(conversion: Conversion, s: &[u8], text: &mut [u8]) -> Result<Written, Refusal>
@@ -26,15 +47,14 @@ fn convert(conversion: Conversion, s: &[u8], text: &mut [u8]) -> Result<Written,
     ensures answer { told_text result ≡ text_answer (converted_in conversion s.now) text.old }
     ensures buffer { text.new ≡ text_buffer (text_in conversion s.now) text.old }
 {
-    if 3 * s.len() + 14 <= text.len() {
+    if most_text(s.len()) <= text.len() {
         return Ok(text_write(conversion, s, text));
     }
     let m = text_measure(conversion, s);
     if text.len() < m.len {
         return Err(Refusal::TextBufferTooShort { needed: m.len });
     }
-    let same = m.conversion;
-    Ok(text_write(same, s, text))
+    Ok(text_write(m.conversion, s, text))
 }
 
 // The conversion is guessed, and any text of n bytes fits: it may be written before it is known.
@@ -42,10 +62,7 @@ fn is_roomy_guess(n: usize, ccsid: u16, release: u32, room: usize) -> bool
     requires { n ≤ input_limit }
     ensures { result ≡ true → (3 * n + 14 ≤ room) × Guessed release ccsid }
 {
-    if room < 3 * n + 14 {
-        return false;
-    }
-    is_guessed(ccsid, release)
+    most_text(n) <= room && is_guessed(ccsid, release)
 }
 
 // The text of s, whose conversion is guessed, at the beginning of such a buffer.
@@ -55,11 +72,11 @@ fn convert_guess(s: &[u8], text: &mut [u8]) -> Result<Written, Refusal>
     ensures answer { told_text result ≡ text_answer (unreplaced (guess_text s.now)) text.old }
     ensures buffer { text.new ≡ text_buffer (guess_text s.now) text.old }
 {
-    let len = guess_write(s, text);
-    Ok(Written { len, replaced: 0 })
+    Ok(Written::unreplaced(guess_write(s, text)))
 }
 
-// A sort of value whose bytes are a text by a CCSID: which text they are, and the conversion that makes it.
+// A sort of value whose bytes are a text by a CCSID: which text they are, and the conversion that makes it. CCSID and release are two numbers, here and in
+// conversion: C's calls hand them in so, TRACE names the functions that take them, and a struct would be made for one call and taken apart in it.
 trait ByCcsid {
     ghost text_by: { ℕ → ℕ → List ℕ → Converted };
 
@@ -110,9 +127,7 @@ fn decode_long<V: ByCcsid>(
     ensures answer { told_text result ≡ conversion_answer s.now (V.text_by release ccsid s.now) text.old }
     ensures buffer { text.new ≡ conversion_buffer s.now (V.text_by release ccsid s.now).text_bytes text.old }
 {
-    if s.len() > INPUT_LIMIT {
-        return Err(Refusal::InputTooLong);
-    }
+    check_input(s)?;
     if is_roomy_guess(s.len(), ccsid, release, text.len()) {
         return convert_guess(s, text);
     }
@@ -170,9 +185,7 @@ fn format_hex(conversion: Conversion, bytes: &[u8], text: &mut [u8]) -> Result<W
     ensures answer { told_text result ≡ conversion_answer bytes.now (converted_in conversion bytes.now) text.old }
     ensures buffer { text.new ≡ conversion_buffer bytes.now (text_in conversion bytes.now) text.old }
 {
-    if bytes.len() > INPUT_LIMIT {
-        return Err(Refusal::InputTooLong);
-    }
+    check_input(bytes)?;
     convert(conversion, bytes, text)
 }
 

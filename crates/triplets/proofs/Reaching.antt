@@ -27,9 +27,6 @@ module _ {s : List ℕ} {c n : Cursor} {env after : Environment} (i : Reaching s
   pub reaching_end : (at : ℕ) → Leads s n (step.End at) → (to_come s env c ≡ []) × (at ≡ end_from s (outer_at c))
   reaching_end at g = (i.same ∙ g.0 after, g.1 ∙ i.ends)
 
-  pub reaching_skip : (m : Cursor) → Leads s n (step.Skip m) → Reaching s c env m after
-  reaching_skip m g = record { within = g.within; less = omega (arith, i.less, g.less); same = i.same ∙ g.same after; ends = g.ends ∙ i.ends }
-
   pub reaching_declare : (m : Cursor) (e : EnvEntry) (l : ℕ) → Leads s n (step.Declare m e l)
       → Reaching s c env m (set after l (first_entry (get_or after l no_entry) (Some e)))
   unfolding declare

@@ -14,7 +14,6 @@ use borrow.Author.Tests.{ne_eqb, lt-ltb, le-ltb, ltb-true, ltb-false}
 use Rattle.types.specs.declared.ColumnDescriptor.{ColumnDescriptor}
 use Rattle.column.specs.Column.{sda_column}
 use Rattle.column.specs.Group.{entry_of, no_entry, lid_column}
-use Rattle.triplets.specs.declared.Cursor.{Cursor}
 use Rattle.triplets.specs.declared.Cursor.TheVariants as cursor
 use Rattle.triplets.specs.Triplets.{Triplet, triplet, reading, breaks_off}
 use Rattle.triplets.specs.Descriptors.{Environment, last_of, pending_after, declare, environment_after, sda_columns, outer_sda, lid_columns, inner_columns, group_columns, triplet_columns, columns_from}
@@ -35,18 +34,7 @@ module _ (s : List ℕ) (a e : ℕ) (h : e ≤ length s) where
 pub no_data : (s : List ℕ) (a e : ℕ) → a ≡ e → slice a e s ≡ []
 no_data s a e q = rw q (slice_empty e s)
 
-pub last_byte : (s : List ℕ) (a e : ℕ) → a < e → e ≤ length s → last_of (slice a e s) ≡ Some (get_or s (e - 1) 0)
-unfolding last_of
-last_byte s a e h k =
-    let q : a + (e - a - 1) ≡ e - 1 = omega arith in
-    rw (some_data s a e k h, length-slice a e s k, get_d_slice a e (e - a - 1) s 0 (omega arith), q)
-
 -- ---- where outer triplets end
-pub outer_within : (s : List ℕ) (c : Cursor) → CursorWithin s c → outer_at c ≤ length s
-outer_within s (cursor.Outer p at) h = h
-outer_within s (cursor.Lids at e) h = h.1
-outer_within s (cursor.Inner at e) h = h.1
-
 pub end_here : (s : List ℕ) (i : ℕ) → i ≤ length s → (reading 2 (slice i (length s) s)).unread ≡ slice i (length s) s → i ≡ end_from s i
 unfolding end_from
 end_here s i h e = let l = length-slice i (length s) s (omega arith) in rw e (omega arith)

@@ -3,8 +3,9 @@
 // Triplets are named by places and not by slices: a cursor keeps a place from one step to the next, and a slice would need its place beside it.
 #![tactic(auto)]
 
-ghost use Rattle.std.specs.Prelude.{◌≡◌, List, ℕ, ◌+◌, ◌≤◌, ◌<◌, length, get_or};
+ghost use Rattle.std.specs.Prelude.{◌≡◌, List, ℕ, ◌+◌, ◌≤◌, ◌<◌, cond, ◌&&◌, length, ltb, get_or, IfSome};
 ghost use Rattle.std.proofs.Math.Seq.{slice};
+ghost use Rattle.refusal.specs.declared.Refusal.TheVariants.{QrydscBrokenOff, TooManyColumns};
 ghost use Rattle.column.specs.Column.{sda_column};
 ghost use Rattle.column.specs.Said.{said_column};
 ghost use Rattle.triplets.specs.declared.Cursor.{Cursor};
@@ -13,14 +14,19 @@ ghost use Rattle.triplets.specs.Descriptors.{last_of};
 ghost use Rattle.triplets.specs.Steps.{next_of, group_at, end_from, outer_at, CursorWithin, start_in, SourceWithin, column_at, Leads, Reaches};
 
 use column::{EnvEntry, LID_COUNT, Said};
+use refusal::Refusal;
 use types::ColumnDescriptor;
 
-// The types of the triplets by which a description is read. Others describe nothing.
+// The types of the triplets by which a description is read. Others describe nothing; so the types stay numbers, as the definitions have them, and an enum would
+// need a case for each other number.
 pub const TRIPLET_TYPE_SDA: u8 = 0x70;
 
 pub const TRIPLET_TYPE_GDA: u8 = 0x76;
 
 pub const TRIPLET_TYPE_MDD: u8 = 0x78;
+
+// The first byte of a group that lists its columns by LIDs.
+pub const COMPACT_GDA: u8 = 0xD0;
 
 // Where the reading stands: before an outer triplet, with the type that an MDD left for the SDA after it; among the threes of a D0 group (Q5); or before an inner triplet of any other group (Q7). The group
 // ends at `end`.
@@ -68,13 +74,15 @@ pub struct Triplet {
 pub fn next_triplet(data: &[u8], at: usize, end: usize, least: usize) -> Option<Triplet>
     requires at_le_end { (at ≤ end) × (end ≤ length «data».now) }
     requires le_least { 2 ≤ least }
-    ensures { result ≡ next_of least (slice at end «data».now) at }
+    ensures value { result ≡ next_of least (slice at end «data».now) at }
+    ensures within { IfSome result (λ t. (at + 2 ≤ t.end) × (t.end ≤ end)) }
 {
+    // A test for each way that none begins: the size is read only behind the first.
     let remain = end - at;
     if remain < least {
         return None;
     }
-    let size = data[at] as usize;
+    let size = usize::from(data[at]);
     if size < 2 {
         return None;
     }
@@ -101,7 +109,7 @@ fn group_at(data: &[u8], start: usize, end: usize) -> Cursor
     requires { (start ≤ end) × (end ≤ length «data».now) }
     ensures { result ≡ group_at «data».now start end }
 {
-    if start < end && data[start] == 0xD0 {
+    if start < end && data[start] == COMPACT_GDA {
         Cursor::Lids { at: start + 1, end }
     } else {
         Cursor::Inner { at: start, end }
@@ -117,36 +125,37 @@ fn outer_step(data: &[u8], at: usize, pending: Option<u8>) -> Step
     };
     let start = at + 2;
     let body = &data[start..end];
-    let next = Cursor::Outer {
+    let behind = Cursor::Outer {
         pending: None,
         at: end,
     };
-    if kind == TRIPLET_TYPE_SDA {
-        if start == end {
-            return Step::Skip(next);
-        }
-        let Some(mdd) = pending else {
-            return Step::Column {
-                next,
-                source: Source::Sda { start, end },
+    match kind {
+        TRIPLET_TYPE_SDA => {
+            if start == end {
+                return Step::Skip(behind);
+            }
+            let Some(mdd) = pending else {
+                return Step::Column {
+                    next: behind,
+                    source: Source::Sda { start, end },
+                };
             };
-        };
-        let entry = column::parse_environmental_sda(body, mdd);
-        let lid = data[start];
-        return Step::Declare { next, entry, lid };
-    }
-    if kind == TRIPLET_TYPE_GDA {
-        return Step::Skip(group_at(data, start, end));
-    }
-    if kind == TRIPLET_TYPE_MDD {
-        let left = pending_of(body);
-        return Step::Skip(Cursor::Outer {
-            pending: left,
+            let entry = column::parse_environmental_sda(body, mdd);
+            let lid = data[start];
+            Step::Declare {
+                next: behind,
+                entry,
+                lid,
+            }
+        }
+        TRIPLET_TYPE_GDA => Step::Skip(group_at(data, start, end)),
+        TRIPLET_TYPE_MDD => Step::Skip(Cursor::Outer {
+            pending: pending_of(body),
             at: end,
-        });
+        }),
+        // RLOs and triplets of unknown types.
+        _ => Step::Skip(behind),
     }
-    // RLOs and triplets of unknown types.
-    Step::Skip(next)
 }
 
 // What it says holds of every description that is long enough.
@@ -205,11 +214,12 @@ pub fn outer_at(cursor: Cursor) -> usize
     ensures { result ≡ outer_at cursor }
 {
     match cursor {
-        Cursor::Outer { at, pending: _ } => at,
-        Cursor::Lids { at: _, end } | Cursor::Inner { at: _, end } => end,
+        Cursor::Outer { at, .. } => at,
+        Cursor::Lids { end, .. } | Cursor::Inner { end, .. } => end,
     }
 }
 
+// No `for`: each step begins where the triplet that was read ends.
 // Where the outer triplets from a place on end: the place of the first byte that they leave unread, or the description's end.
 pub fn outer_end(data: &[u8], start: usize) -> usize
     requires { start ≤ length «data».now }
@@ -222,13 +232,26 @@ pub fn outer_end(data: &[u8], start: usize) -> usize
     at
 }
 
+// The refusal of more columns than a list holds, where the outer triplets before `start` are read. Where only whole descriptions are taken, the others are
+// read to their end first.
+pub fn too_many(data: &[u8], start: usize, whole: bool) -> Refusal
+    requires { start ≤ length «data».now }
+    ensures { result ≡ cond (whole && ltb (end_from «data».now start) (length «data».now)) QrydscBrokenOff TooManyColumns }
+{
+    if whole && outer_end(data, start) < data.len() {
+        Refusal::QrydscBrokenOff
+    } else {
+        Refusal::TooManyColumns
+    }
+}
+
 // The LID of a column, or the type code of an SDA: the place of the environment whose entry the column may need.
 pub fn lid_at(data: &[u8], source: Source) -> u8
     requires { SourceWithin «data».now source }
     ensures { result ≡ get_or «data».now (start_in source) 0 }
 {
     match source {
-        Source::Sda { start, end: _ } | Source::Lid { start } => data[start],
+        Source::Sda { start, .. } | Source::Lid { start } => data[start],
     }
 }
 
@@ -249,10 +272,11 @@ pub fn column_at(data: &[u8], source: Source, entry: Option<EnvEntry>) -> Column
     requires { SourceWithin «data».now source }
     ensures { result ≡ column_at «data».now entry source }
 {
-    let said = said_at(data, source, entry);
-    column::column(said)
+    ColumnDescriptor::from(said_at(data, source, entry))
 }
 
+// No Option: the end's place is handed out, and the caller compares it with the length (docs/DECISIONS.md, 67). A cursor is written out where it is made, since each
+// place says that nothing is pending.
 // What a reading comes to: where the next column is described, with the environment's entry for its LID and the cursor behind it; or no column, and
 // the place of the first byte that the outer triplets leave unread.
 #[derive(Clone, Copy)]
@@ -265,6 +289,7 @@ pub enum Reached {
     },
 }
 
+// No struct of the three: the caller lends the environment, an array of its own, and keeps the cursor.
 // Reads on from a cursor to the next column. The environment takes the entries that are declared before it. It is compiled into each caller's loop.
 #[inline(always)]
 pub fn next_column(
@@ -286,13 +311,13 @@ pub fn next_column(
                 at = after;
             }
             Step::Declare { next, entry, lid } => {
-                let place = lid as usize;
+                let place = usize::from(lid);
                 environment[place] = EnvEntry::first(environment[place], Some(entry));
                 at = next;
             }
             Step::Column { next, source } => {
                 let lid = lid_at(data, source);
-                let entry = environment[lid as usize];
+                let entry = environment[usize::from(lid)];
                 return Reached::Column {
                     next,
                     source,

@@ -2,17 +2,19 @@
 // questions that a type or a column answers by itself. It reads no description and no row.
 #![tactic(auto)]
 
-ghost use Rattle.std.specs.Prelude.{◌≡◌};
+ghost use Rattle.std.specs.Prelude.{◌≡◌, []};
 ghost use Rattle.types.specs.Types.{from_drda_type};
 ghost use Rattle.types.specs.FixedLength.{fixed_length};
 ghost use Rattle.types.specs.Names.{graphic_length_is_character_count, graphic_unit, is_dec_float};
 ghost use Rattle.types.specs.Kinds.{kind_in, of_kind};
+ghost use Rattle.types.specs.Places.{column_list, covered};
 
 // How many columns a list has places for. specs/Places.antt calls it max_columns.
 pub const MAX_COLUMNS: usize = 128;
 
-// The type of a column, with the numbers that it holds (the Rust: types.rs).
-#[derive(Clone, Copy, PartialEq, Eq)]
+// The type of a column, with the numbers that it holds (the Rust: types.rs). What is the default here and below is that of an
+// unused place: specs/Places.antt, blank_column and blank_value.
+#[derive(Clone, Copy, Default, PartialEq, Eq)]
 pub enum Db2Type {
     SmallInt,
     Integer,
@@ -42,6 +44,7 @@ pub enum Db2Type {
     RowId(u16),
     Boolean,
     Xml,
+    #[default]
     Null,
 }
 
@@ -53,16 +56,18 @@ pub struct DrdaType {
 }
 
 // The order of the bytes of a number in the row.
-#[derive(Clone, Copy, PartialEq, Eq)]
+#[derive(Clone, Copy, Default, PartialEq, Eq)]
 pub enum ByteOrder {
+    #[default]
     BigEndian,
     LittleEndian,
 }
 
 // Where a description has a column from: an SDA, or a LID of a D0 group, which an environment entry declares or none does. The Rust does not keep it, and
 // nothing is decoded by it.
-#[derive(Clone, Copy, PartialEq, Eq)]
+#[derive(Clone, Copy, Default, PartialEq, Eq)]
 pub enum Origin {
+    #[default]
     Sda,
     UndeclaredLid,
     DeclaredLid,
@@ -70,7 +75,7 @@ pub enum Origin {
 
 // The origin stands in a byte that would else be padding, so that the struct does not grow by it. The byte order stands before the reference length. Behind
 // it, its load waited for bytes that were just stored in another width (seen in a profile of Integer columns).
-#[derive(Clone, Copy, PartialEq, Eq)]
+#[derive(Clone, Copy, Default, PartialEq, Eq)]
 pub struct ColumnDescriptor {
     pub column_index: u8,
     pub drda_type: u8,
@@ -86,11 +91,34 @@ pub struct ColumnDescriptor {
     pub extdta_reference_length: Option<u16>,
 }
 
-// The columns in order, and how many they are. The places after them are unused.
+// The columns in order, and how many they are. The places after them are unused. An array and a count, since the library has no heap; callers make lists of
+// their own by both fields, and the row call refuses a count above 128 (3).
 #[derive(Clone, Copy)]
 pub struct Columns {
     pub columns: [ColumnDescriptor; MAX_COLUMNS],
     pub count: usize,
+}
+
+// No column. By hand, since an array has no Default of its own.
+impl Default for Columns {
+    ghost is_default = { λ list. list ≡ column_list [] };
+
+    #[tactic(auto, unfolding(crate::specs::Places::column_list, crate::specs::Places::filled, crate::specs::Places::blank_column))]
+    fn default() -> Columns {
+        Columns {
+            columns: [ColumnDescriptor::default(); MAX_COLUMNS],
+            count: 0,
+        }
+    }
+}
+
+impl Columns {
+    // As many of the columns as the count says, and all where it says more.
+    pub fn list(&self) -> &[ColumnDescriptor]
+        ensures { result.now ≡ covered self.now }
+    {
+        &self.columns[..self.count.min(MAX_COLUMNS)]
+    }
 }
 
 // Where bytes lie, in the row or in the text buffer.
@@ -102,8 +130,9 @@ pub struct Place {
 
 // A value. A text is a place in the text buffer; a Binary or a Blob is a place in the row. Real and Double hold every float that is no NaN,
 // RealNan and DoubleNan the bits of one that is.
-#[derive(Clone, Copy, PartialEq)]
+#[derive(Clone, Copy, Default, PartialEq)]
 pub enum Db2Value {
+    #[default]
     Null,
     SmallInt(i16),
     Integer(i32),
@@ -127,14 +156,14 @@ pub enum Db2Value {
 }
 
 // A column's value, and whether the value refers to data outside the row.
-#[derive(Clone, Copy, PartialEq)]
+#[derive(Clone, Copy, Default, PartialEq)]
 pub struct ValuePlace {
     pub value: Db2Value,
     pub external: bool,
 }
 
 // What the row call answers, where it refuses nothing: a value place for each column, how many bytes of the input were used, and how many U+FFFD its texts'
-// conversions put in.
+// conversions put in. The places are as many as the columns of the list, and no slice, since the library has no heap.
 #[derive(Clone, Copy)]
 pub struct Row {
     pub places: [ValuePlace; MAX_COLUMNS],
@@ -278,7 +307,9 @@ const BASE_CODES: [BaseCode; BASE_CODE_COUNT] = [
 fn kind_in(table: [BaseCode; BASE_CODE_COUNT], base: u8) -> Kind
     ensures { result ≡ kind_in table base }
 {
-    for entry in &table {
+    // By index: with `for entry in &table` the table was made in memory for each column, 85 instructions a code and not 26.
+    for i in 0..BASE_CODE_COUNT {
+        let entry = table[i];
         if entry.code == base {
             return entry.kind;
         }
@@ -315,25 +346,23 @@ impl Db2Type {
     pub fn from_drda_type(type_code: u8, length: u16, precision: u8, scale: u8) -> DrdaType
         ensures { result ≡ from_drda_type type_code length precision scale }
     {
-        if type_code == 0x50 {
-            return DrdaType {
+        match type_code {
+            0x50 => DrdaType {
                 db2_type: Db2Type::LobBytes(length),
                 nullable: false,
-            };
-        }
-        if type_code == 0x51 {
-            return DrdaType {
+            },
+            0x51 => DrdaType {
                 db2_type: Db2Type::LobChar(length),
                 nullable: false,
-            };
-        }
-        let low = type_code % 2;
-        let base = type_code - low;
-        let kind = kind_in(BASE_CODES, base);
-        let db2_type = of_kind(kind, length, precision, scale);
-        DrdaType {
-            db2_type,
-            nullable: low == 1,
+            },
+            _ => {
+                let low = type_code % 2;
+                let kind = kind_in(BASE_CODES, type_code - low);
+                DrdaType {
+                    db2_type: of_kind(kind, length, precision, scale),
+                    nullable: low == 1,
+                }
+            }
         }
     }
 
@@ -342,26 +371,21 @@ impl Db2Type {
         ensures { result ≡ fixed_length self }
     {
         match self {
-            Db2Type::SmallInt => Some(2),
-            Db2Type::Integer => Some(4),
-            Db2Type::BigInt => Some(8),
-            Db2Type::Real => Some(4),
-            Db2Type::Double => Some(8),
-            Db2Type::Decimal {
-                precision,
-                scale: _,
-            } => Some((precision as usize + 2) / 2),
-            Db2Type::DecFloat(digits) => { if digits == 34 { Some(16) } else { Some(8) } }
-            Db2Type::Char(len) => Some(len as usize),
-            Db2Type::Date => Some(10),
-            Db2Type::Time => Some(8),
-            Db2Type::Timestamp => Some(26),
             Db2Type::Boolean => Some(1),
-            Db2Type::BlobLocator | Db2Type::ClobLocator | Db2Type::DbClobLocator => { Some(4) }
-            Db2Type::Binary(len) => Some(len as usize),
-            Db2Type::Graphic(len) => Some(len as usize * 2),
-            Db2Type::LobBytes(len) | Db2Type::LobChar(len) => { Some(len as usize % 0x8000) }
-            Db2Type::RowId(len) => Some(len as usize),
+            Db2Type::SmallInt => Some(2),
+            Db2Type::Integer
+            | Db2Type::Real
+            | Db2Type::BlobLocator
+            | Db2Type::ClobLocator
+            | Db2Type::DbClobLocator => Some(4),
+            Db2Type::BigInt | Db2Type::Double | Db2Type::Time => Some(8),
+            Db2Type::Date => Some(10),
+            Db2Type::Timestamp => Some(26),
+            Db2Type::DecFloat(digits) => { if digits == 34 { Some(16) } else { Some(8) } }
+            Db2Type::Decimal { precision, .. } => Some((usize::from(precision) + 2) / 2),
+            Db2Type::Char(n) | Db2Type::Binary(n) | Db2Type::RowId(n) => Some(usize::from(n)),
+            Db2Type::Graphic(n) => Some(usize::from(n) * 2),
+            Db2Type::LobBytes(n) | Db2Type::LobChar(n) => Some(usize::from(n) % 0x8000),
             _ => None,
         }
     }
@@ -372,11 +396,7 @@ impl ColumnDescriptor {
     pub fn graphic_length_is_character_count(self) -> bool
         ensures { result ≡ graphic_length_is_character_count self }
     {
-        let order = self.byte_order;
-        match order {
-            ByteOrder::BigEndian => false,
-            ByteOrder::LittleEndian => self.ccsid == 1200,
-        }
+        self.byte_order == ByteOrder::LittleEndian && self.ccsid == 1200
     }
 
     // The bytes of a unit that a length of a graphic column counts: of a character, or one.
@@ -393,10 +413,6 @@ impl ColumnDescriptor {
     pub fn is_dec_float(self) -> bool
         ensures { result ≡ is_dec_float self }
     {
-        let t = self.db2_type;
-        match t {
-            Db2Type::DecFloat(_) => true,
-            _ => false,
-        }
+        matches!(self.db2_type, Db2Type::DecFloat(_))
     }
 }

@@ -9,7 +9,7 @@ use borrow.Author.Tests.{ltb-true, ltb-false, lt-ltb, le-leb, lt-leb, leb-false,
 use lib.Bits.{bit_or, or_add_and, and_le_l, and_le_r}
 use lib.Dec.{T, ltb, leb}
 use lib.ListN.{length, take, drop, get_or, length-drop, length-append}
-use lib.Seq.{take-suc, take-add, take_all, drop-drop, take-append_seam, drop-append_seam}
+use lib.Seq.{take-append-le, take-suc, take-add, take_all, drop-drop, take-append_seam, drop-append_seam}
 use Rattle.unicode_standard.specs.Ascii.{all_ascii}
 use Rattle.unicode_standard.proofs.Ranges.{never}
 use Rattle.utf.specs.Ascii.{AsciiRun}
@@ -92,14 +92,27 @@ run_block i e s r h k q =
     let z : i + (e - i) ≡ e = omega arith in
     record { fits = k; ascii = rw (← z, take-add i (e - i) s) (ascii_append (take i s) (take (e - i) (drop i s)) r.ascii q) }
 
+-- a chunk that is there
+pub chunk_fits : (n m : ℕ) (s block rest : List ℕ) → drop n s ≡ block ++ rest → length block ≡ m → n ≤ length s → n + m ≤ length s
+chunk_fits n m s block rest e k h = omega (arith, ap length e, length-append block rest, length-drop n s)
+
+-- what is left after it
+pub chunk_rest : (n m : ℕ) (s block rest : List ℕ) → drop n s ≡ block ++ rest → length block ≡ m → rest ≡ drop (n + m) s
+chunk_rest n m s block rest e k =
+    let back : drop m (drop n s) ≡ rest = rw (e, ← k) (drop-append_seam block rest) in
+    sym back ∙ drop-drop m n s
+
 -- a chunk more
 pub run_chunk : (n m : ℕ) (s : List ℕ) → AsciiRun n s → (block rest : List ℕ) → drop n s ≡ block ++ rest → length block ≡ m → all_ascii block ≡ true → (rest ≡ drop (n + m) s) × AsciiRun (n + m) s
 run_chunk n m s r block rest e k q =
-    let front : take m (drop n s) ≡ block = rw (e, ← k) (take-append_seam block rest) in
-    let back : drop m (drop n s) ≡ rest = rw (e, ← k) (drop-append_seam block rest) in (
-      sym back ∙ drop-drop m n s,
+    let front : take m (drop n s) ≡ block = rw (e, ← k) (take-append_seam block rest) in (
+      chunk_rest n m s block rest e k,
       run_more n m s r (record { fits = omega (arith, ap length e, length-append block rest, k); ascii = rw front q }),
     )
+
+-- a run of the front
+pub run_longer : (k : ℕ) (block more : List ℕ) → AsciiRun k block → AsciiRun k (block ++ more)
+run_longer k block more r = record { fits = omega (arith, length-append block more, r.fits); ascii = rw (take-append-le k block more r.fits) r.ascii }
 
 -- a byte more
 pub run_byte : (i : ℕ) (s : List ℕ) → AsciiRun i s → i < length s → get_or s i 0 < 0x80 → AsciiRun (i + 1) s

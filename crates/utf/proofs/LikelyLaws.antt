@@ -12,6 +12,7 @@ use Rattle.unicode_standard.specs.Unicode.{Piece, scalar, malformed, utf8, first
 use Rattle.utf.specs.Utf8Code.{first_at, trail_at, is_scalar}
 use Rattle.unicode_standard.specs.Likely.{is_control, is_tab_or_line_end, likely_piece, all_likely, likely_text}
 use Rattle.std.specs.Prelude.{Some, None}
+use Rattle.std.specs.Bool.{then_some}
 use Rattle.utf.specs.LikelyCode.{LikelyAt}
 use Rattle.unicode_standard.proofs.Reading.{read_cons}
 use Rattle.unicode_standard.proofs.ScalarBytes.{utf8_one, utf8_two, utf8_three, utf8_four}
@@ -35,6 +36,10 @@ module _ (s : List ℕ) (e : ℕ) (h : e < length s) where
   pub likely : (n : ℕ) → n ≡ suc (first_at s e).more → likely_piece (first_at s e).piece ≡ true → LikelyAt s e (Some n)
   unfolding first_at
   likely n k q = (omega arith, (omega (arith, more_length (get_or s e 0) (drop (suc e) s), length-drop (suc e) s), likely_next s e h ∙ rw (q, k)))
+
+  pub likely_if : (x : Bool) (n : ℕ) → n ≡ suc (first_at s e).more → likely_piece (first_at s e).piece ≡ x → LikelyAt s e (then_some x n)
+  likely_if true n k q = likely n k q
+  likely_if false n k q = unlikely q
 
 -- ---- ASCII
 

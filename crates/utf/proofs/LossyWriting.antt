@@ -20,9 +20,10 @@ use Rattle.unicode_standard.proofs.Ranges.{never, inside}
 use Rattle.unicode_standard.proofs.Reading.{read_most}
 use Rattle.unicode_standard.proofs.Utf8Bytes.{first_text}
 use Rattle.utf.specs.Utf8Code.{is_scalar, first_at, PieceAt, Good}
-use Rattle.utf.proofs.AsciiLaws.{rest, rest_length}
+use Rattle.utf.specs.Ascii.{AsciiRun}
+use Rattle.utf.proofs.AsciiLaws.{rest, rest_length, run_longer}
 use Rattle.utf.proofs.Utf8Laws.{step_none}
-use Rattle.utf.proofs.Utf8Runs.{text_end, count_end, more_length, good_text, good_count, piece_text_lem, piece_count, piece_fits}
+use Rattle.utf.proofs.Utf8Runs.{ascii_good, text_end, count_end, more_length, good_text, good_count, piece_text_lem, piece_count, piece_fits}
 use Rattle.utf.specs.Lossy.{Wrote}
 
 pub wrote_none : (s d : List ℕ) → length (utf8_text s) ≤ length d → Wrote s d d 0 0 0
@@ -161,6 +162,14 @@ module _ (s d out : List ℕ) (i o r : ℕ) (w : Wrote s d out i o r) (m : ℕ) 
   copied_lent ys k l g q =
       let v = wrote_lent s d out i o r w ys k k 0 (copied (take (length s - i) (drop i s)) (take (length out - o) (drop o out)) ys (wrote_room s d out i o r w) m k (omega (arith, rest_length s i)) l g q) in
       record { fits = v.fits; filling = v.filling; parts = omega (arith, v.parts) }
+
+  -- of a chunk
+  pub copied_chunk : (block more : List ℕ) → drop i s ≡ block ++ more → length block ≡ m → (ys : List ℕ) → ys ≡ overwritten (take m block) (take (length out - o) (drop o out)) → (k : ℕ) → k ≤ m → AsciiRun k block
+      → Wrote s d (take o out ++ (ys ++ drop (length out - o) (drop o out))) (i + k) (o + k) r
+  copied_chunk block more e z ys q k l a =
+      let front : take m (take (length s - i) (drop i s)) ≡ take m block = rw (rest s i, e) (take-append-le m block more (omega arith)) in
+      let run : AsciiRun k (take (length s - i) (drop i s)) = rw (rest s i, e) (run_longer k block more a) in
+      copied_lent ys k l (ascii_good k _ run) (rw front q)
 
 -- ---- the piece at i was written into the rest of the buffer
 

@@ -15,7 +15,7 @@ use Rattle.unicode_standard.specs.Unicode.{range, within, trail, table_3_7}
 use Rattle.unicode_standard.proofs.Ranges.{never, inside, is_inside, is_above, outside}
 use Rattle.utf.specs.Utf8Code.{trail_at, ranges, PieceAt, fit_after, Good}
 use Rattle.utf.specs.Utf8Blocks.{wanted, Follows, Each, Joined, Ends, led}
-use Rattle.utf.proofs.Utf8Laws.{Passed, dummy, step_row, there, last_2, last_3, last_4}
+use Rattle.utf.proofs.Utf8Laws.{Passed, dummy, step_row, there, first_fits, next_fits, all_fit}
 use Rattle.utf.proofs.Utf8Runs.{good_none, good_first, good_more, good_at}
 
 -- ---- what the code's tests say
@@ -170,18 +170,18 @@ module _ (s : List ℕ) (n : ℕ) (v : Lead (get_or s 0 0) n) where
 piece_2 : (d e : ℕ) (l : List ℕ) (v : Lead d 0) → within e (range v.low v.high) ≡ true → PieceAt (d ∷ e ∷ l) 0 2 true
 piece_2 d e l v h =
     let s : List ℕ = d ∷ e ∷ l in
-    by_lead s 0 v 1 (last_2 s 0 v.low v.high 0 (stands s 1 v.low v.high (omega arith) h) refl)
+    by_lead s 0 v 1 (all_fit s 0 v.low v.high 0 0 (first_fits s 0 v.low v.high 0 (stands s 1 v.low v.high (omega arith) h)) refl)
 
 piece_3 : (d e f : ℕ) (l : List ℕ) (v : Lead d 1) → within e (range v.low v.high) ≡ true → within f trail ≡ true → PieceAt (d ∷ e ∷ f ∷ l) 0 3 true
 piece_3 d e f l v h k =
     let s : List ℕ = d ∷ e ∷ f ∷ l in
-    by_lead s 1 v 2 (last_3 s 0 v.low v.high 1 (stands s 1 v.low v.high (omega arith) h) (there s 2 (omega arith) k) refl)
+    by_lead s 1 v 2 (all_fit s 0 v.low v.high 1 1 (next_fits s 0 v.low v.high 1 0 (omega arith) (first_fits s 0 v.low v.high 1 (stands s 1 v.low v.high (omega arith) h)) (there s 2 (omega arith) k)) refl)
 
 piece_4 : (d e f g : ℕ) (l : List ℕ) (v : Lead d 2) → within e (range v.low v.high) ≡ true → within f trail ≡ true → within g trail ≡ true
     → PieceAt (d ∷ e ∷ f ∷ g ∷ l) 0 4 true
 piece_4 d e f g l v h k j =
     let s : List ℕ = d ∷ e ∷ f ∷ g ∷ l in
-    by_lead s 2 v 3 (last_4 s 0 v.low v.high 2 (stands s 1 v.low v.high (omega arith) h) (there s 2 (omega arith) k) (there s 3 (omega arith) j) refl)
+    by_lead s 2 v 3 (all_fit s 0 v.low v.high 2 2 (next_fits s 0 v.low v.high 2 1 (omega arith) (next_fits s 0 v.low v.high 2 0 (omega arith) (first_fits s 0 v.low v.high 2 (stands s 1 v.low v.high (omega arith) h)) (there s 2 (omega arith) k)) (there s 3 (omega arith) j)) refl)
 
 -- ---- the law: n bytes that each follow the three before them are whole sequences, where a trail byte is wanted neither before them nor after them
 

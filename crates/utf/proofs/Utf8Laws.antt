@@ -1,12 +1,14 @@
 -- Laws of the UTF-8 definitions of specs/Unicode.antt, for the loops over them. Assumes nothing.
-use Prim.Native.Nat.{ℕ, zero, suc, ◌+◌, ◌≤◌, ◌<◌}
+use Prim.Native.Nat.{ℕ, zero, suc, ◌+◌, ◌-◌, ◌≤◌, ◌<◌}
 use mathlib.Core.Bool.{Bool, true, false, cond}
 use mathlib.Core.List.{List, [], ◌∷◌}
 use mathlib.Core.Option.{none, some}
-use Rattle.std.specs.Prelude.{Some}
+use Rattle.std.specs.Prelude.{Option, Some, None, is_some, IfSome, MatchOption}
+use Rattle.std.proofs.Common.{Bor}
+use Rattle.std.proofs.lemmas.Grind.{get_or_default_zero}
 use mathlib.Core.Path.{◌≡◌, refl, sym, ap, ◌∙◌}
 use native.Mathlib.Omega.{arith}
-use native.Mathlib.Numerals.{add-one, add-two, add-three}
+use native.Mathlib.Numerals.{add-one}
 use borrow.Author.Tests.{ltb-true, ltb-false, lt-ltb, le-leb, lt-leb, ne_eqb, eqb-true, eqb-false}
 use lib.Dec.{leb, ltb, eqb}
 use lib.ListN.{replicate, length, drop, get_or, drop_of_length-le, length-replicate}
@@ -114,32 +116,31 @@ module _ (s : List ℕ) (i low high n : ℕ) where
   unfolding ranges
   stop_2 e = sym (rw (fit_at (range low high) (replicate n trail) s (suc i), ← add-one i, e))
 
-  module _ (e1 : trail_at s (i + 1) low high ≡ true) where
-    first_fits : fit_after s i low high n ≡ suc (fit (replicate n trail) (drop (i + 2) s))
-    unfolding ranges
-    first_fits = rw (add-two i, fit_at (range low high) (replicate n trail) s (suc i), ← add-one i, e1)
+  -- the first fits, and k of the others: of those that are left as many fit as from there on
+  abbrev pub After : ℕ → Type 0
+  After k = fit_after s i low high n ≡ suc (k + fit (replicate (n - k) trail) (drop (i + 2 + k) s))
 
-    pub last_2 : n ≡ 0 → Fit 1
-    unfolding fit
-    last_2 z = sym (first_fits ∙ rw z)
+  pub first_fits : trail_at s (i + 1) low high ≡ true → After 0
+  unfolding ranges
+  first_fits e =
+      let z : i + 2 + 0 ≡ suc (suc i) = omega arith in
+      let y : n - 0 ≡ n = omega arith in
+      let q : fit_after s i low high n ≡ suc (fit (replicate (n - 0) trail) (drop (i + 2 + 0) s)) = rw (z, y, fit_at (range low high) (replicate n trail) s (suc i), ← add-one i, e) in
+      omega (arith, q)
 
-    pub stop_3 : trail_at s (i + 2) 0x80 0xBF ≡ false → Fit 1
-    stop_3 e2 = sym (first_fits ∙ ap suc (trail_stops s (i + 2) n e2))
+  pub next_fits : (k : ℕ) → k < n → After k → trail_at s (i + 2 + k) 0x80 0xBF ≡ true → After (k + 1)
+  next_fits k h a e =
+      let z : n - k ≡ suc (n - (k + 1)) = omega arith in
+      let y : suc (i + 2 + k) ≡ i + 2 + (k + 1) = omega arith in
+      let q : fit (replicate (n - k) trail) (drop (i + 2 + k) s) ≡ suc (fit (replicate (n - (k + 1)) trail) (drop (i + 2 + (k + 1)) s)) = rw (z, trail_fits s (i + 2 + k) (n - (k + 1)) e, y) in
+      omega (arith, a, q)
 
-    module _ (e2 : trail_at s (i + 2) 0x80 0xBF ≡ true) where
-      second_fits : (m : ℕ) → n ≡ suc m → fit_after s i low high n ≡ suc (suc (fit (replicate m trail) (drop (i + 3) s)))
-      second_fits m z = first_fits ∙ ap suc (rw (z, trail_fits s (i + 2) m e2, add-two i, add-three i))
+  pub next_stops : (k : ℕ) → After k → trail_at s (i + 2 + k) 0x80 0xBF ≡ false → Fit (k + 1)
+  next_stops k a e = omega (arith, a, trail_stops s (i + 2 + k) (n - k) e)
 
-      pub last_3 : n ≡ 1 → Fit 2
-      unfolding fit
-      last_3 z = sym (second_fits 0 z)
-
-      pub stop_4 : trail_at s (i + 3) 0x80 0xBF ≡ false → n ≡ 2 → Fit 2
-      stop_4 e3 z = sym (second_fits 1 z ∙ ap (λ (k : ℕ). suc (suc k)) (trail_stops s (i + 3) 1 e3))
-
-      pub last_4 : trail_at s (i + 3) 0x80 0xBF ≡ true → n ≡ 2 → Fit 3
-      unfolding fit
-      last_4 e3 z = sym (second_fits 1 z ∙ ap (λ (k : ℕ). suc (suc k)) (trail_fits s (i + 3) 0 e3))
+  pub all_fit : (k : ℕ) → After k → k ≡ n → Fit (n + 1)
+  unfolding fit
+  all_fit k a e = let z : n - k ≡ 0 = omega arith in let q : fit (replicate (n - k) trail) (drop (i + 2 + k) s) ≡ 0 = rw z in omega (arith, a, q)
 
 -- no more fit than are wanted
 fit_count : (rs : List Range) (bs : List ℕ) → fit rs bs ≤ length rs
@@ -235,15 +236,23 @@ there s j h e = rw (lt-ltb j (length s) h) e
 module _ (s : List ℕ) (i : ℕ) (e1 : trail_at s (i + 1) 0x80 0xBF ≡ true) where
   pub common_2 : 0xC2 ≤ get_or s i 0 → get_or s i 0 < 0xE0 → Common s i (Some 2)
   unfolding ranges
-  common_2 h k = (omega arith, (omega arith, step_row s i 1 0x80 0xBF 0 1 (omega arith) refl (last_2 s i 0x80 0xBF 0 e1 refl)))
+  common_2 h k = (omega arith, (omega arith, step_row s i 1 0x80 0xBF 0 1 (omega arith) refl (all_fit s i 0x80 0xBF 0 0 (first_fits s i 0x80 0xBF 0 e1) refl)))
 
   pub common_3 : trail_at s (i + 2) 0x80 0xBF ≡ true → 0xE1 ≤ get_or s i 0 → get_or s i 0 < 0xF0 → (get_or s i 0 ≡ 0xED → ⊥) → Common s i (Some 3)
   unfolding ranges
   common_3 e2 h k l = (omega arith, (omega arith, go (ltb (get_or s i 0) 0xED) refl))
     where
       a : 2 ≡ fit_after s i 0x80 0xBF 1
-      a = last_3 s i 0x80 0xBF 1 e1 e2 refl
+      a = let z : i + 2 + 0 ≡ i + 2 = omega arith in all_fit s i 0x80 0xBF 1 1 (next_fits s i 0x80 0xBF 1 0 (omega arith) (first_fits s i 0x80 0xBF 1 e1) (rw z e2)) refl
 
       go : (t : Bool) → ltb (get_or s i 0) 0xED ≡ t → PieceAt s i 3 true
       go true p = let q : get_or s i 0 < 0xED = ltb-true (get_or s i 0) 0xED p in step_row s i 3 0x80 0xBF 1 2 (omega arith) refl a
       go false p = let q : 0xED ≤ get_or s i 0 = ltb-false (get_or s i 0) 0xED p in step_row s i 5 0x80 0xBF 1 2 (omega arith) refl a
+
+-- the byte at j, where there is one, by what is asked of it
+pub trail_by : (s : List ℕ) (j low high : ℕ) (r : Option (Bor ℕ)) (b : Bool) → is_some r ≡ ltb j (length s) → IfSome r (λ x. x.now ≡ get_or s j x.now) → MatchOption r (b ≡ false) (λ x. b ≡ within x.now (range low high)) → b ≡ trail_at s j low high
+unfolding trail_at
+trail_by s j low high None b h f q = rw (← h) q
+trail_by s j low high (Some x) b h f q =
+    let k : x.now ≡ get_or s j 0 = f ∙ get_or_default_zero s j x.now (ltb-true j (length s) (sym h)) in
+    rw (← h, ← k) q

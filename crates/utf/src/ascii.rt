@@ -1,5 +1,5 @@
 // Runs of ASCII.
-ghost use Rattle.std.specs.Prelude.{◌≡◌, true, false, not, ◌≤◌, length, take};
+ghost use Rattle.std.specs.Prelude.{◌≡◌, true, false, not, ◌<◌, ◌≤◌, length, take};
 ghost use Rattle.buffer.specs.Buffer.{overwritten};
 ghost use Rattle.unicode_standard.specs.Unicode.{utf8_text};
 ghost use Rattle.unicode_standard.specs.Ascii.{all_ascii};
@@ -9,6 +9,8 @@ ghost use Rattle.utf.specs.Lossy.{Wrote};
 use buffer::copy;
 
 // A byte of s is 80 or above. The loop takes the largest byte and has no way out but its end, so that it is compiled to vector code.
+// No plainer as one function with any_high, any_unshown, any_broken and lone_leads: each keeps another thing (the largest byte, a bound, what four neighbours say,
+// a count beside).
 pub fn has_high(s: &[u8]) -> bool
     ensures { result ≡ not (all_ascii s.now) }
 {
@@ -22,7 +24,7 @@ pub fn has_high(s: &[u8]) -> bool
 }
 
 // The same for a short block, save that 7F counts too: with a bound inside ASCII the compiler tests all bytes at once, and does not first make one of them.
-fn any_high(s: &[u8]) -> bool
+pub fn any_high(s: &[u8]) -> bool
     ensures { result ≡ false → all_ascii s.now ≡ true }
 {
     let mut high = false;
@@ -30,34 +32,6 @@ fn any_high(s: &[u8]) -> bool
         high = (*b >= 0x7F) | high;
     }
     high
-}
-
-// The length of a run of ASCII at the beginning of s, in whole blocks of 1,024 bytes: for long texts that are ASCII throughout.
-pub fn ascii_long_blocks(s: &[u8]) -> usize
-    ensures { AsciiRun result s.now }
-{
-    let mut n = 0;
-    for block in s.chunks_exact(1024) {
-        if has_high(block) {
-            return n;
-        }
-        n += 1024;
-    }
-    n
-}
-
-// The same in whole blocks of 32 bytes, for what is left, and for texts that are shorter.
-pub fn ascii_short_blocks(s: &[u8]) -> usize
-    ensures { AsciiRun result s.now }
-{
-    let mut n = 0;
-    for block in s.chunks_exact(32) {
-        if any_high(block) {
-            return n;
-        }
-        n += 32;
-    }
-    n
 }
 
 // The first eight bytes of s are ASCII, or nothing is said. Their bitwise or has no branch for each.
@@ -70,33 +44,33 @@ fn ascii_8(s: &[u8]) -> bool
     (a | b) < 0x80
 }
 
-// The length of a run of ASCII at the beginning of s, in whole blocks of eight bytes.
-fn ascii_blocks(s: &[u8]) -> usize
+// The length of a run of ASCII at the beginning of s, in whole blocks of N bytes, by a test of each. No plainer by enumerate: the length
+// is N * i at one return and s.len() / N * N at the other.
+pub fn ascii_blocks<const N: usize, F: Fn(&[u8]) -> bool>(s: &[u8], is_ascii: F) -> usize
+    requires some { 0 < N }
+    requires calls { (block : _) → length block.now ≡ N → F.pre is_ascii block }
+    requires tells { (block : _) → length block.now ≡ N → F.post is_ascii block true → all_ascii block.now ≡ true }
     ensures { AsciiRun result s.now }
 {
-    let mut i = 0;
-    loop {
-        if s.len() - i < 8 {
-            return i;
+    let mut n = 0;
+    for chunk in s.chunks_exact(N) {
+        if !is_ascii(chunk) {
+            return n;
         }
-        if !ascii_8(&s[i..]) {
-            return i;
-        }
-        i += 8;
+        n += N;
     }
+    n
 }
 
-// The length of the run of ASCII at the beginning of s. Where there is none, no block is looked at.
+// The length of the run of ASCII at the beginning of s. Where there is none, no block is looked at. No plainer by position: the length is
+// the place in s, and position would answer it from the blocks' end on, or nothing.
 pub fn ascii_run(s: &[u8]) -> usize
     ensures { AsciiRun result s.now }
 {
-    if s.len() == 0 {
+    if s.first().is_none_or(|&b| b >= 0x80) {
         return 0;
     }
-    if s[0] >= 0x80 {
-        return 0;
-    }
-    for i in ascii_blocks(s)..s.len() {
+    for i in ascii_blocks::<8, _>(s, ascii_8)..s.len() {
         if s[i] >= 0x80 {
             return i;
         }
@@ -118,7 +92,8 @@ fn ascii_in_8(s: &[u8]) -> usize
     n
 }
 
-// Copies N bytes. They go through an array, so that all are read before one is written: one load and one store.
+// Copies N bytes. They go through an array, so that all are read before one is written: one load and one store. No plainer
+// by first_chunk and first_chunk_mut: they answer Options, and both would be unwrapped.
 fn copy_array<const N: usize>(s: &[u8], out: &mut [u8])
     requires { (N ≤ length s.now) × (N ≤ length out.old) }
     ensures { out.new ≡ overwritten (take N s.now) out.old }
@@ -128,25 +103,24 @@ fn copy_array<const N: usize>(s: &[u8], out: &mut [u8])
     copy(&block, out);
 }
 
-// The functions that follow copy ASCII at the beginning of s, and return how many bytes of it.
+// The functions that follow copy ASCII at the beginning of s, and return how many bytes of it. No plainer with out and its room as one struct, here and in lossy:
+// each writes into another part of out, and the struct would be made anew for each.
 
 // In whole blocks of 32 bytes.
 fn copy_ascii_32s(s: &[u8], out: &mut [u8]) -> usize
-    requires { length (utf8_text s.now) ≤ length out.old }
-    ensures { Wrote s.now out.old out.new result result 0 }
+    requires { length s.now ≤ length out.old }
+    ensures run { AsciiRun result s.now }
+    ensures bytes { out.new ≡ overwritten (take result s.now) out.old }
 {
-    let mut i = 0;
-    loop {
-        if s.len() - i < 32 {
-            return i;
+    let mut n = 0;
+    for block in s.chunks_exact(32) {
+        if any_high(block) {
+            return n;
         }
-        let e = i + 32;
-        if any_high(&s[i..e]) {
-            return i;
-        }
-        copy_array::<32>(&s[i..], &mut out[i..]);
-        i = e;
+        copy_array::<32>(block, &mut out[n..]);
+        n += 32;
     }
+    n
 }
 
 // In blocks of eight bytes, up to the first byte that is not ASCII or to the last seven. A block is copied before it is looked at: what of it is not ASCII
@@ -155,17 +129,15 @@ fn copy_ascii_8s(s: &[u8], out: &mut [u8]) -> usize
     requires { length (utf8_text s.now) ≤ length out.old }
     ensures { Wrote s.now out.old out.new result result 0 }
 {
-    let mut i = 0;
-    loop {
-        if s.len() - i < 8 {
-            return i;
+    let mut n = 0;
+    for block in s.chunks_exact(8) {
+        copy_array::<8>(block, &mut out[n..]);
+        if !ascii_8(block) {
+            return n + ascii_in_8(block);
         }
-        copy_array::<8>(&s[i..], &mut out[i..]);
-        if !ascii_8(&s[i..]) {
-            return i + ascii_in_8(&s[i..]);
-        }
-        i += 8;
+        n += 8;
     }
+    n
 }
 
 // Byte by byte, up to the first that is not ASCII.

@@ -5,13 +5,15 @@ ghost use Rattle.unicode_standard.specs.Unicode.{within, range};
 ghost use Rattle.utf.specs.Utf8Code.{Good};
 ghost use Rattle.utf.specs.Utf8Blocks.{wanted, Follows, Each, Joined, JoinedPart, Ends, led};
 
+// By & and no range: the blocks' loops want no branch, and `(low..=high).contains(&x)` is longer.
 pub fn between(x: u8, low: u8, high: u8) -> bool
     ensures { result ≡ within x (range low high) }
 {
     (low <= x) & (x <= high)
 }
 
-// After a, b and c the sequence goes on.
+// After a, b and c the sequence goes on. Neighbouring bytes are single numbers, here and below, as the definitions take them (wanted, Follows, and After of the
+// trait).
 fn wants(a: u8, b: u8, c: u8) -> bool
     ensures { result ≡ wanted a b c }
 {
@@ -56,7 +58,8 @@ impl Succession for WellFormed {
     ghost follows = { λ a b c d h. h };
 }
 
-// A byte of s, from the fourth on, may not follow the three before it.
+// A byte of s, from the fourth on, may not follow the three before it. By index: by array_windows the loop has no number of its turn, and the proof did not
+// close.
 fn any_broken<T: Succession>(s: &[u8]) -> bool
     requires { 3 ≤ length s.now }
     ensures { result ≡ false → Each T.After s.now (length s.now - 3) }
@@ -69,7 +72,8 @@ fn any_broken<T: Succession>(s: &[u8]) -> bool
     bad
 }
 
-// The first i bytes each follow those before them: where the last whole sequence among them ends.
+// The first i bytes each follow those before them: where the last whole sequence among them ends. No plainer as one expression: one test for each
+// length that goes on.
 pub fn last_end(s: &[u8], i: usize) -> usize
     requires { (3 ≤ i) × (i ≤ length s.now) × Joined (led s.now) i }
     ensures { (result ≤ i) × Ends (led s.now) result }
@@ -86,7 +90,8 @@ pub fn last_end(s: &[u8], i: usize) -> usize
     i
 }
 
-// The length of the next block: k, or what is left of it in whole thirty-twos, so that vector code takes all of it.
+// The length of the next block: k, or what is left of it in whole thirty-twos, so that vector code takes all of it. That k is not
+// 0 is a clause: no plainer with NonZeroUsize, since block_len and longer would take out and make anew what their callers give as 32 and 128.
 pub fn block_len(rest: usize, k: usize) -> usize
     requires { (32 ≤ rest) × (0 < k) }
     ensures { (0 < result) × (result ≤ rest) }
@@ -121,7 +126,7 @@ pub fn joined_blocks<T: Succession>(s: &[u8], least: usize, first: usize) -> usi
     }
     let mut i = 3;
     let mut k = first;
-    // The blocks grow.
+    // The blocks grow: no iterator of the library gives them.
     loop {
         let rest = s.len() - i;
         if rest < 32 {

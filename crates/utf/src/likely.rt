@@ -7,7 +7,9 @@ ghost use Rattle.utf.specs.LikelyCode.{LikelyAt};
 use super::likely_blocks::likely_start;
 use super::utf8::{Standing, step_at, trail_at};
 
-// A likely text may hold the ASCII character b.
+// A likely text may hold the ASCII character b. By a branch for what is below a space, most often not taken; by is_control, the blocks' test without one, a text
+// of up to 64 bytes took 1.1 of the instructions, and up to 1.77. By matches! the proof has a case for each pattern, and did not
+// close.
 fn shown(b: u8) -> bool
     requires { b < 0x80 }
     ensures { result ≡ likely_piece (scalar b) }
@@ -25,10 +27,7 @@ fn likely_at(s: &[u8], e: usize) -> Option<usize>
 {
     let b = s[e];
     if b < 0x80 {
-        if shown(b) {
-            return Some(1);
-        }
-        return None;
+        return shown(b).then_some(1);
     }
     let Standing::WellFormed(n) = step_at(s, e) else {
         return None;

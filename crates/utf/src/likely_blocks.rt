@@ -24,13 +24,14 @@ fn any_unshown(s: &[u8]) -> bool
     bad
 }
 
-// The length of a likely part at the beginning of s that is ASCII, in blocks that grow.
+// The length of a likely part at the beginning of s that is ASCII, in blocks that grow. The loop is that of joined_blocks without the three bytes before a
+// block and without last_end; what they share, block_len and longer, is called.
 fn shown_blocks(s: &[u8]) -> usize
     ensures { LikelyRun result s.now }
 {
     let mut i = 0;
     let mut k = 32;
-    // The blocks grow.
+    // The blocks grow: no iterator of the library gives them.
     loop {
         let rest = s.len() - i;
         if rest < 32 {

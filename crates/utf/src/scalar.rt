@@ -3,23 +3,8 @@ ghost use Rattle.std.specs.Prelude.{◌≡◌, ◌<◌, ◌≤◌, length};
 ghost use Rattle.buffer.specs.Buffer.{overwritten};
 ghost use Rattle.unicode_standard.specs.Unicode.{utf8};
 
-// Its length.
-pub fn scalar_len(v: u32) -> usize
-    ensures { (result ≡ length (utf8 v)) × (result ≤ 4) }
-{
-    if v < 0x80 {
-        return 1;
-    }
-    if v < 0x800 {
-        return 2;
-    }
-    if v < 0x10000 {
-        return 3;
-    }
-    4
-}
-
-// Writes it into out, from its first byte, and returns its length.
+// Writes it into out, from its first byte, and returns its length. By hand: encode_utf8 takes a char, and v is any number below 110000, so that
+// from_u32 would ask again. No plainer by a match on ranges: the same four groups of stores. By `as`, of what fits: u8 has no From of a u32.
 pub fn write_scalar(v: u32, out: &mut [u8]) -> usize
     requires { (v < 0x110000) × (length (utf8 v) ≤ length out.old) }
     ensures count { result ≡ length (utf8 v) }

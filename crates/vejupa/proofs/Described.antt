@@ -1,7 +1,7 @@
 -- What the description calls promise, at each of their ways out. Assumes nothing.
 use Prim.Native.Nat.{ℕ, ◌*◌, ◌≤◌, ◌<◌}
 use mathlib.Core.Path.{◌≡◌, refl, sym, ap, subst, ◌∙◌}
-use mathlib.Core.Bool.{Bool, true, false, cond, not}
+use mathlib.Core.Bool.{Bool, true, false, cond, ◌&&◌}
 use mathlib.Core.List.{List, []}
 use mathlib.Core.Logic.{◌⊎◌, inl, inr}
 use native.Mathlib.Omega.{arith}
@@ -23,7 +23,7 @@ use Rattle.triplets.proofs.StepLaws.{breaks_before}
 use Rattle.qrydsc.specs.Qrydsc.{DescriptionTold, numbered, refused_description, list_answer, max_qrydsc}
 use Rattle.qrydsc.specs.Entries.{entry_answer, full_answer}
 use Rattle.qrydsc.proofs.Lists.{length_numbered}
-use Rattle.qrydsc.proofs.Entries.{too_long, answer_within, within_limit, full_entry}
+use Rattle.qrydsc.proofs.Entries.{too_long, answer_within, within_limit, full_entry, told_full}
 use Rattle.description_words.specs.Counted.{Counted}
 use Rattle.rules.specs.Row.{covered}
 use Rattle.words.specs.Words.{pack_columns}
@@ -33,7 +33,12 @@ use Rattle.vejupa.proofs.RowCall.{covered_list}
 -- what a call hands out: a number, a count, whether the description breaks off, and the words
 abbrev pub Promised : DescriptionTold → List ℕ → ℕ → ℕ → ℕ → List ℕ → Type 0
 Promised d w r n b out =
-    (r ≡ description_number d w) × ((n ≡ d.columns.count) × ((b ≡ broken_off_number d w) × (out ≡ description_words d w)))
+    record {
+      number : r ≡ description_number d w;
+      count : n ≡ d.columns.count;
+      broken_off : b ≡ broken_off_number d w;
+      words : out ≡ description_words d w;
+    }
 
 -- a list of columns in its places
 unfoldable pub listing : List ColumnDescriptor → Columns
@@ -84,14 +89,15 @@ module _ (s : List ℕ) where
 
 -- ---- the refusal's number, once the columns are counted
 
-module _ (whole : Bool) (s : List ℕ) (short : length s ≤ max_qrydsc) (n end : ℕ) (c : Counted s n end) where
-  abbrev number_of : DescriptionTold → ℕ
-  number_of d = told_number d.outcome
+abbrev number_of : DescriptionTold → ℕ
+number_of d = told_number d.outcome
 
-  pub counted_full : max_columns < n → {r : ℕ} → r ≡ number_of (full_answer whole (end_from s end) (length s)) → r ≡ number_of (entry_answer whole s)
+module _ {s : List ℕ} (short : length s ≤ max_qrydsc) {n end : ℕ} (c : Counted s n end) where
+  pub counted_full : (whole : Bool) → max_columns < n → {r : Refusal} → r ≡ cond (whole && ltb (end_from s end) (length s)) QrydscBrokenOff TooManyColumns
+      → refusal_number r ≡ number_of (entry_answer whole s)
   unfolding list_answer
-  counted_full h e =
-      e
+  counted_full whole h {r} e =
+      ap number_of (told_full whole (end_from s end) (length s) r e)
       ∙ ap (λ (m : ℕ). number_of (full_answer whole m (length s))) c.ends
       ∙ ap number_of (full_entry whole s short (λ b. rw (lt-ltb max_columns (length (columns_of s)) (c.more h))))
 
@@ -103,29 +109,17 @@ module _ (whole : Bool) (s : List ℕ) (short : length s ≤ max_qrydsc) (n end 
     breaks : ltb end (length s) ≡ breaks_off s
     breaks = ap (λ (m : ℕ). ltb m (length s)) (c.ended few) ∙ breaks_before s
 
-    at_end : (b : Bool) → ltb end (length s) ≡ b → answer_within whole b s ≡ entry_answer whole s
-    at_end b t = subst (λ (f : Bool). answer_within whole f s ≡ entry_answer whole s) (sym breaks ∙ t) (within_limit whole s short)
+    at_end : (whole b : Bool) → ltb end (length s) ≡ b → answer_within whole b s ≡ entry_answer whole s
+    at_end whole b t = subst (λ (f : Bool). answer_within whole f s ≡ entry_answer whole s) (sym breaks ∙ t) (within_limit whole s short)
 
-    pub counted_broken : not whole ≡ false → end < length s → 15 ≡ number_of (entry_answer whole s)
-    counted_broken w h = go whole w ∙ ap number_of (at_end true (lt-ltb end (length s) h))
-      where
-        go : (x : Bool) → not x ≡ false → 15 ≡ number_of (answer_within x true s)
-        go true e = refl
-        go false e = let z : ◌≡◌ {A = ℕ} 0 1 = cc in absurd (omega arith)
+    pub counted_broken : (whole : Bool) → whole ≡ true → end < length s → 15 ≡ number_of (entry_answer whole s)
+    counted_broken whole w h = rw w (ap number_of (at_end true true (lt-ltb end (length s) h)))
 
-    pub counted_whole : length s ≤ end → 0 ≡ number_of (entry_answer whole s)
-    counted_whole h = go whole ∙ ap number_of (at_end false (le-ltb end (length s) h))
-      where
-        go : (x : Bool) → 0 ≡ number_of (answer_within x false s)
-        go true = none_refused false
-        go false = none_refused false
-
-    pub counted_any : not whole ≡ true → 0 ≡ number_of (entry_answer whole s)
-    counted_any w = go whole w ∙ ap number_of (within_limit whole s short)
-      where
-        go : (x : Bool) → not x ≡ true → 0 ≡ number_of (answer_within x (breaks_off s) s)
-        go true e = let z : ◌≡◌ {A = ℕ} 0 1 = cc in absurd (omega arith)
-        go false e = none_refused (breaks_off s)
+    -- it breaks off and any is taken, or it is whole
+    pub counted_end : (whole : Bool) → ((whole ≡ true) × (length s ≤ end)) ⊎ (whole ≡ false) → 0 ≡ number_of (entry_answer whole s)
+    counted_end true (inl h) = none_refused false ∙ ap number_of (at_end true false (le-ltb end (length s) h.1))
+    counted_end true (inr w) = let z : ◌≡◌ {A = ℕ} 0 1 = cc in absurd (omega arith)
+    counted_end false h = none_refused (breaks_off s) ∙ ap number_of (within_limit false s short)
 
 -- a refusal's number is not 0
 pub refusal_some : (r : Refusal) → refusal_number r ≡ 0 → ⊥
@@ -150,20 +144,7 @@ taken_is e h = rw e at h
 
 -- ---- the ways out
 
-module _ (whole : Bool) (s w : List ℕ) where
-  pub refused_call : (m : ℕ) → m ≡ told_number (entry_answer whole s).outcome → (m ≡ 0 → ⊥) → Promised (entry_answer whole s) w m 0 0 w
-  unfolding column_list
-  refused_call m e z = go (sorted s whole)
-    where
-      go : Sorted s (entry_answer whole s) → Promised (entry_answer whole s) w m 0 0 w
-      go (inl r) =
-          let q : m ≡ r.number = e ∙ ap (λ (d : DescriptionTold). told_number d.outcome) r.said in
-          subst (λ (d : DescriptionTold). Promised d w m 0 0 w) (sym r.said) (q, (refl, (rw (le-ltb (length w) (2 * 0) (omega arith)), refl)))
-      go (inr a) = absurd (z (e ∙ ap (λ (d : DescriptionTold). told_number d.outcome) a.said))
-
-  pub too_long_call : max_qrydsc < length s → Promised (entry_answer whole s) w 1 0 0 w
-  too_long_call h = refused_call 1 (ap (λ (d : DescriptionTold). told_number d.outcome) (too_long whole s h)) (λ z. omega arith)
-
+module _ (whole : Bool) (s : List ℕ) where
   pub accepting : 0 ≡ told_number (entry_answer whole s).outcome → Accepts s (entry_answer whole s)
   accepting e = go (sorted s whole)
     where
@@ -174,7 +155,7 @@ module _ (whole : Bool) (s w : List ℕ) where
           absurd (omega arith)
       go (inr a) = a
 
-  module _ (a : Accepts s (entry_answer whole s)) (n end : ℕ) (c : Counted s n end) where
+  module _ (a : Accepts s (entry_answer whole s)) {n end : ℕ} (c : Counted s n end) where
     within_list : n ≤ max_columns
     within_list = go (ltb max_columns n) refl
       where
@@ -185,18 +166,33 @@ module _ (whole : Bool) (s w : List ℕ) where
     pub all_counted : (n ≡ length (columns_of s)) × (n ≤ max_columns)
     all_counted = (c.all within_list, within_list)
 
+module _ (whole : Bool) (s w : List ℕ) where
+  pub refused_call : (m : ℕ) → m ≡ told_number (entry_answer whole s).outcome → (m ≡ 0 → ⊥) → Promised (entry_answer whole s) w m 0 0 w
+  unfolding column_list
+  refused_call m e z = go (sorted s whole)
+    where
+      go : Sorted s (entry_answer whole s) → Promised (entry_answer whole s) w m 0 0 w
+      go (inl r) =
+          let q : m ≡ r.number = e ∙ ap (λ (d : DescriptionTold). told_number d.outcome) r.said in
+          rw r.said (record { number = q; count = refl; broken_off = rw (le-ltb (length w) (2 * 0) (omega arith)); words = refl })
+      go (inr a) = absurd (z (e ∙ ap (λ (d : DescriptionTold). told_number d.outcome) a.said))
+
+  pub too_long_call : max_qrydsc < length s → Promised (entry_answer whole s) w 1 0 0 w
+  too_long_call h = refused_call 1 (ap (λ (d : DescriptionTold). told_number d.outcome) (too_long whole s h)) (λ z. omega arith)
+
+  module _ (a : Accepts s (entry_answer whole s)) {n end : ℕ} (c : Counted s n end) where
     pub too_few_lem : length w < 2 * n → Promised (entry_answer whole s) w 101 n 0 w
     too_few_lem f =
         let k = count_listing (columns_of s) in
-        let e = c.all within_list in
+        let e = c.all (within_list whole s a c) in
         let t : too_few (listing (columns_of s)) w ≡ true = lt-ltb (length w) (2 * (listing (columns_of s)).count) (omega arith) in
-        rw (a.said, t) (refl, (e ∙ sym k, (refl, refl)))
+        rw (a.said, t) (record { number = refl; count = e ∙ sym k; broken_off = refl; words = refl })
 
     pub all_written : 2 * n ≤ length w → (out : List ℕ) → out ≡ overwritten (pack_columns (numbered 0 (columns_of s))) w
         → (b : ℕ) → b ≡ cond (ltb end (length s)) 1 0 → Promised (entry_answer whole s) w 0 n b out
     all_written f out q b g =
         let k = count_listing (columns_of s) in
-        let e = c.all within_list in
+        let e = c.all (within_list whole s a c) in
         let t : too_few (listing (columns_of s)) w ≡ false = le-ltb (length w) (2 * (listing (columns_of s)).count) (omega arith) in
-        let t2 : ltb end (length s) ≡ breaks_off s = ap (λ (m : ℕ). ltb m (length s)) (c.ended within_list) ∙ breaks_before s in
-        rw (a.said, t) (refl, (e ∙ sym k, (g ∙ ap (λ (f : Bool). cond f 1 0) t2, q ∙ rw (columns_listing (columns_of s)))))
+        let t2 : ltb end (length s) ≡ breaks_off s = ap (λ (m : ℕ). ltb m (length s)) (c.ended (within_list whole s a c)) ∙ breaks_before s in
+        rw (a.said, t) (record { number = refl; count = e ∙ sym k; broken_off = g ∙ ap (λ (f : Bool). cond f 1 0) t2; words = q ∙ rw (columns_listing (columns_of s)) })

@@ -3,6 +3,7 @@ use Prim.Native.Nat.{ℕ, ◌-◌, ◌*◌, ◌/◌, ◌≤◌, ◌<◌}
 use mathlib.Core.Path.{◌≡◌, refl, sym, ap, ◌∙◌}
 use mathlib.Core.Bool.{Bool, true, false}
 use mathlib.Core.List.{List}
+use Rattle.std.proofs.Common.{rules}
 use Rattle.std.specs.Prelude.{Option, Some, None, Ok, Err}
 use native.Mathlib.Omega.{arith}
 use borrow.Author.Tests.{lt-ltb, le-ltb}
@@ -48,21 +49,30 @@ found None k h = let z : ◌≡◌ {A = ℕ} 0 1 = cc in absurd (omega arith)
 -- what the call hands out: its number, the bytes used, the texts' length, refusal 8's values, the words of values, the text buffer and how many U+FFFD were put in
 abbrev pub Handed : ℕ → OnWords → List ℕ → List ℕ → ℕ → ℕ → ℕ → ℕ → ℕ → List ℕ → List ℕ → ℕ → Type 0
 Handed release e v d r n m x y words out k =
-    (r ≡ (row_numbers release e).returned) × ((n ≡ (row_numbers release e).used) × ((m ≡ (row_numbers release e).text_length) × ((x ≡ (row_numbers release e).expected) × ((y ≡ (row_numbers release e).actual) × ((words ≡ words_left release e v) × ((out ≡ text_left release e d) × (k ≡ (row_numbers release e).replaced)))))))
+    record {
+      number : r ≡ (row_numbers release e).returned;
+      used : n ≡ (row_numbers release e).used;
+      length : m ≡ (row_numbers release e).text_length;
+      expected : x ≡ (row_numbers release e).expected;
+      actual : y ≡ (row_numbers release e).actual;
+      values : words ≡ words_left release e v;
+      text : out ≡ text_left release e d;
+      replaced : k ≡ (row_numbers release e).replaced;
+    }
 
 module _ (release : ℕ) (w s v d : List ℕ) where
   pub unknown : is_release release ≡ false → Handed release (words_decision release w s v d) v d 22 0 0 0 0 v d 0
   unfolding words_decision text_after
-  unknown h = rw h (refl, (refl, (refl, (refl, (refl, (refl, (refl, refl)))))))
+  unknown h = rw h (search rules)
 
   pub too_many : is_release release ≡ true → max_columns < length w / 2 → Handed release (words_decision release w s v d) v d 3 0 0 0 0 v d 0
   unfolding words_decision text_after
-  too_many known h = rw (known, lt-ltb max_columns (length w / 2) h) (refl, (refl, (refl, (refl, (refl, (refl, (refl, refl)))))))
+  too_many known h = rw (known, lt-ltb max_columns (length w / 2) h) (search rules)
 
   module _ (known : is_release release ≡ true) (few : length w / 2 ≤ max_columns) where
     pub too_few_lem : length v < 3 * (length w / 2) → Handed release (words_decision release w s v d) v d too_few_number 0 0 0 0 v d 0
     unfolding words_decision text_after
-    too_few_lem h = rw (known, le-ltb max_columns (length w / 2) few, lt-ltb (length v) (3 * (length w / 2)) h) (refl, (refl, (refl, (refl, (refl, (refl, (refl, refl)))))))
+    too_few_lem h = rw (known, le-ltb max_columns (length w / 2) few, lt-ltb (length v) (3 * (length w / 2)) h) (search rules)
 
     module _ (room : 3 * (length w / 2) ≤ length v) where
       by_columns : words_decision release w s v d ≡ decision_for release (read_columns w) s d
@@ -71,7 +81,7 @@ module _ (release : ℕ) (w s v d : List ℕ) where
 
       pub no_column : None ≡ checked_of (read_columns w) → Handed release (words_decision release w s v d) v d no_column_number 0 0 0 0 v d 0
       unfolding text_after
-      no_column h = rw (by_columns, no_columns (read_columns w) h) (refl, (refl, (refl, (refl, (refl, (refl, (refl, refl)))))))
+      no_column h = rw (by_columns, no_columns (read_columns w) h) (search rules)
 
       module _ (k : Bool) (h : Some k ≡ checked_of (read_columns w)) where
         here : Found (read_columns w) k
@@ -91,7 +101,7 @@ module _ (release : ℕ) (w s v d : List ℕ) where
         unfolding row_decision text_after
         too_long l =
             rw (as_row, le-ltb max_columns (column_list here.columns).count count_fits, lt-ltb input_limit (length s) l)
-            (refl, (refl, (refl, (refl, (refl, (refl, (refl, refl)))))))
+            (search rules)
 
         module _ (short : length s ≤ input_limit) where
           pub dec_float : k ≡ true → Handed release (words_decision release w s v d) v d 5 0 0 0 0 v d 0
@@ -99,7 +109,7 @@ module _ (release : ℕ) (w s v d : List ℕ) where
           dec_float l =
               let e : any_dec_float (covered (column_list here.columns)) ≡ true = rw (covered_list here.columns) (sym here.floats ∙ l) in
               rw (as_row, le-ltb max_columns (column_list here.columns).count count_fits, le-ltb input_limit (length s) short, e)
-              (refl, (refl, (refl, (refl, (refl, (refl, (refl, refl)))))))
+              (search rules)
 
           module _ (l : k ≡ false) where
             as_body : words_decision release w s v d ≡ decided (body_decision (conversions_of release) (columns_named w) (skip_of s) s d)
@@ -115,10 +125,10 @@ module _ (release : ℕ) (w s v d : List ℕ) where
               pub accepted_row_lem : (t : Taken) → Says release (Ok t) (body_decision (conversions_of release) (columns_named w) (skip_of s) s d) → Handed release (words_decision release w s v d) v d 0 t.used t.written 0 0 words out t.replaced
               accepted_row_lem t a =
                   let e = a.1.0 in
-                  rw (as_body, e) (refl, (refl, (a.1.1.0, (refl, (refl, (rw e at vs, (rw e at ts, a.1.1.1)))))))
+                  rw (as_body, e) (record { number = refl; used = refl; length = a.1.1.0; expected = refl; actual = refl; values = rw e at vs; text = rw e at ts; replaced = a.1.1.1 })
 
               pub too_short_lem : (x y : ℕ) → Says release (Err (TooShort x y)) (body_decision (conversions_of release) (columns_named w) (skip_of s) s d) → Handed release (words_decision release w s v d) v d 8 0 0 x y words out 0
-              too_short_lem x y e = rw (as_body, e) (refl, (refl, (refl, (refl, (refl, (rw e at vs, (rw e at ts, refl)))))))
+              too_short_lem x y e = rw (as_body, e) (record { number = refl; used = refl; length = refl; expected = refl; actual = refl; values = rw e at vs; text = rw e at ts; replaced = refl })
 
               pub text_short : (x : ℕ) → Says release (Err (TextTooShort x)) (body_decision (conversions_of release) (columns_named w) (skip_of s) s d) → Handed release (words_decision release w s v d) v d 9 0 x 0 0 words out 0
-              text_short x e = rw (as_body, e) (refl, (refl, (refl, (refl, (refl, (rw e at vs, (rw e at ts, refl)))))))
+              text_short x e = rw (as_body, e) (record { number = refl; used = refl; length = refl; expected = refl; actual = refl; values = rw e at vs; text = rw e at ts; replaced = refl })

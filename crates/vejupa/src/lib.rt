@@ -5,16 +5,15 @@
 #![tactic(auto)]
 
 ghost use Rattle.std.specs.Prelude.{◌≡◌, cond, ◌≤◌, length};
-ghost use Rattle.refusal.specs.Refusal.{refusal_number, told, told_number};
+ghost use Rattle.refusal.specs.Refusal.{told, told_number};
 ghost use Rattle.buffer.specs.Buffer.{unreplaced, told_text};
 ghost use Rattle.unicode_standard.specs.Likely.{likely_text};
 ghost use Rattle.conversion.specs.Conversion.{characters_by, graphics_by, locator_text, row_id_text};
 ghost use Rattle.text.specs.Text.{conversion_answer, conversion_buffer, release_answer, release_buffer};
 ghost use Rattle.decimal.specs.Decimal.{decimal_answer, decimal_buffer};
 ghost use Rattle.decimal.specs.Whole.{whole_answer};
-ghost use Rattle.triplets.specs.Steps.{end_from};
 ghost use Rattle.qrydsc.specs.Qrydsc.{max_qrydsc, description, whole_description};
-ghost use Rattle.qrydsc.specs.Entries.{entry_answer, full_answer};
+ghost use Rattle.qrydsc.specs.Entries.{entry_answer};
 ghost use Rattle.description_words.specs.Counted.{Counted};
 ghost use Rattle.words.specs.Words.{read_type};
 ghost use Rattle.vejupa.specs.Answers.{length_told};
@@ -31,7 +30,7 @@ use refusal::{
 use row::value_bytes;
 use row_words::RowError;
 use types::MAX_COLUMNS;
-use words::value_named;
+use words::ValueWords;
 
 // What a function answers beside the refusals (D1): the lent words are too few; a word is no type's; words are no column's.
 const TOO_FEW_WORDS: u32 = 101;
@@ -48,7 +47,7 @@ pub fn vejupa_version_0_6_0() -> u32
     600
 }
 
-// A Boolean as 1 and 0.
+// A Boolean as 1 and 0, as C is told it. A function, since three wrong programs are refused in it.
 fn flag(b: bool) -> u32
     ensures { result ≡ cond b 1 0 }
 {
@@ -193,38 +192,21 @@ pub fn vejupa_raw_bytes_are_likely_text(bytes: &[u8]) -> u32
     flag(text::bytes_are_likely_text(bytes))
 }
 
-// The refusal of more columns than a list holds, where the triplets before `end` are read. Where only
-// whole descriptions are taken, they are read on to their end first.
-fn too_many(data: &[u8], end: usize, whole: bool) -> Refusal
-    requires { end ≤ length «data».now }
-    ensures { refusal_number result ≡ told_number (full_answer whole (end_from «data».now end) (length «data».now)).outcome }
-{
-    if !whole {
-        return Refusal::TooManyColumns;
-    }
-    if triplets::outer_end(data, end) < data.len() {
-        return Refusal::QrydscBrokenOff;
-    }
-    Refusal::TooManyColumns
-}
-
 // Whether a description within the length limit is taken, whose columns are counted.
 fn refusal_of(data: &[u8], columns: usize, end: usize, whole: bool) -> Result<(), Refusal>
     requires { (length «data».now ≤ max_qrydsc) × Counted «data».now columns end }
     ensures { told_number (told result) ≡ told_number (entry_answer whole «data».now).outcome }
 {
     if MAX_COLUMNS < columns {
-        return Err(too_many(data, end, whole));
+        return Err(triplets::too_many(data, end, whole));
     }
-    if !whole {
-        return Ok(());
-    }
-    if end < data.len() {
+    if whole && end < data.len() {
         return Err(Refusal::QrydscBrokenOff);
     }
     Ok(())
 }
 
+// Numbers, and no Result within: C's places are set on every way, and an inner answer would be matched once, to set the same places.
 // Both description calls in one, with the places of C. It reads the description twice, to count and to write (once where it has no columns), and makes no column list.
 fn parse(
     data: &[u8],
@@ -243,6 +225,7 @@ fn parse(
     if MAX_QRYDSC < data.len() {
         return QRYDSC_TOO_LONG;
     }
+    // Two numbers, as the definition Counted takes them: each is also used alone below.
     let counted = description_words::count_columns(data);
     let n = counted.columns;
     let end = counted.end;
@@ -391,5 +374,6 @@ pub fn vejupa_raw_value_bytes<'a>(
         *bytes = &[];
         return;
     };
-    *bytes = value_bytes(value_named(kind, number, len).value, data, text);
+    let place = ValueWords { kind, number, len }.value_place();
+    *bytes = value_bytes(place.value, data, text);
 }

@@ -1,14 +1,10 @@
 -- Which numbers a type of each name holds: the tests of `holds`, as the definition has them. Assumes nothing.
-use Prim.Native.Nat.{ℕ, ◌+◌, ◌*◌, ◌/◌, ◌%◌, ◌≤◌}
+use Prim.Native.Nat.{ℕ, ◌+◌, ◌*◌, ◌/◌, ◌%◌}
 use mathlib.Core.Path.{◌≡◌, refl, sym}
 use mathlib.Core.Bool.{Bool, true, false}
 use native.Mathlib.Omega.{arith}
 use borrow.Author.Tests.{eq-eqb, ne_eqb, ltb-true, ltb-false, eqb-true, eqb-false}
 use lib.Dec.{ltb, eqb}
-use lib.ListN.{get_or-eq_default}
-use Rattle.types.specs.declared.Db2Type.TheVariants as type
-use Rattle.words.specs.Words.{pack_type, types_with, type_named}
-use Rattle.words.proofs.TypeWords.{NoneBelow, none_below}
 
 -- a type of place k that holds no number
 pub no_numbers : (k n : ℕ) → eqb n 0 ≡ eqb k (k + n * 256)
@@ -33,11 +29,3 @@ small_number n = by (ltb n 256) refl
     by : (b : Bool) → ltb n 256 ≡ b → b ≡ eqb (6 + n % 256 * 256) (6 + n * 256)
     by true e = let z = ltb-true n 256 e in sym (eq-eqb (6 + n % 256 * 256) (6 + n * 256) (omega arith))
     by false e = let z = ltb-false n 256 e in sym (ne_eqb (6 + n % 256 * 256) (6 + n * 256) (λ q. omega arith))
-
--- no type has this place: it is read as Null, whose place is another
-pub no_name : (tag n : ℕ) → NoneBelow tag 29 → false ≡ eqb (pack_type (type_named tag n)) (tag + n * 256)
-unfolding type_named
-no_name tag n h =
-    let m = none_below tag 29 h in
-    let k : 28 ≤ tag = omega arith in
-    rw (get_or-eq_default (types_with n) type.Null k) (sym (ne_eqb 28 (tag + n * 256) (λ q. omega arith)))

@@ -1,6 +1,5 @@
 pub mod TypeWords
 pub mod Fields
-mod Bits
 mod Holding
 pub mod Bitwise
 pub mod Columns

@@ -1,5 +1,6 @@
 // Inner. Types, columns and values as plain words of 64 bits, for the calls of C and Rust: specs/Words.antt and specs/Values.antt have the
-// layout, specs/Reading.antt and specs/ValueReading.antt what words say. It reads no description and no row.
+// layout, specs/Reading.antt and specs/ValueReading.antt what words say. It reads no description and no row. A part of a word is taken by `as` behind a
+// remainder that fits; From has none for that, nor between usize and u64.
 #![tactic(auto)]
 
 ghost use Rattle.std.specs.Prelude.{◌≡◌, cond, ◌+◌, ◌*◌, ◌/◌, ◌%◌, ◌<◌, ◌≤◌, ◌^◌, eqb};
@@ -13,7 +14,7 @@ ghost use Rattle.words.specs.Reading.{order_named, reference_named, origin_named
 ghost use Rattle.words.specs.Values.{sort_word, number_word, length_word, kind_word};
 ghost use Rattle.words.specs.ValueReading.{variant_named, value_named};
 
-use numbers::{double_of, real_of, signed16, signed32, signed64};
+use numbers::{double_of, real_of};
 use types::{ByteOrder, ColumnDescriptor, Db2Type, Db2Value, Origin, Place, ValuePlace};
 
 // The two words of a column.
@@ -41,10 +42,7 @@ fn tag(t: Db2Type) -> u8
         Db2Type::BigInt => 2,
         Db2Type::Real => 3,
         Db2Type::Double => 4,
-        Db2Type::Decimal {
-            precision: _,
-            scale: _,
-        } => 5,
+        Db2Type::Decimal { .. } => 5,
         Db2Type::DecFloat(_) => 6,
         Db2Type::Char(_) => 7,
         Db2Type::VarChar(_) => 8,
@@ -76,8 +74,8 @@ fn own_numbers(t: Db2Type) -> u16
     ensures { result ≡ own_numbers t }
 {
     match t {
-        Db2Type::Decimal { precision, scale } => (precision as u16) + (scale as u16) * 256,
-        Db2Type::DecFloat(digits) => digits as u16,
+        Db2Type::Decimal { precision, scale } => u16::from(precision) + u16::from(scale) * 256,
+        Db2Type::DecFloat(digits) => u16::from(digits),
         Db2Type::Char(n)
         | Db2Type::VarChar(n)
         | Db2Type::Binary(n)
@@ -95,7 +93,7 @@ fn own_numbers(t: Db2Type) -> u16
 pub fn type_word(t: Db2Type) -> u64
     ensures { (result ≡ pack_type t) × (result < 2 ^ 24) }
 {
-    (tag(t) as u64) + (own_numbers(t) as u64) * 0x100
+    u64::from(tag(t)) + u64::from(own_numbers(t)) * 0x100
 }
 
 // A function, as value_words is: by a From the clauses would say the same behind from_gives.
@@ -104,21 +102,21 @@ pub fn column_words(c: ColumnDescriptor) -> ColumnWords
 {
     let reference = c.extdta_reference_length;
     let first = type_word(c.db2_type)
-        + (c.drda_type as u64) * 0x100_0000
-        + (c.column_index as u64) * 0x1_0000_0000
+        + u64::from(c.drda_type) * 0x100_0000
+        + u64::from(c.column_index) * 0x1_0000_0000
         + u64::from(c.nullable) * 0x1_0000_0000_0000
         + u64::from(c.byte_order == ByteOrder::LittleEndian) * 0x2_0000_0000_0000
         + u64::from(reference.is_some()) * 0x4_0000_0000_0000
         + (c.origin as u64) * 0x8_0000_0000_0000;
-    let second = (c.length as u64)
-        + (c.precision as u64) * 0x1_0000
-        + (c.scale as u64) * 0x100_0000
-        + (c.ccsid as u64) * 0x1_0000_0000
-        + (reference.unwrap_or(0) as u64) * 0x1_0000_0000_0000;
+    let second = u64::from(c.length)
+        + u64::from(c.precision) * 0x1_0000
+        + u64::from(c.scale) * 0x100_0000
+        + u64::from(c.ccsid) * 0x1_0000_0000
+        + u64::from(reference.unwrap_or(0)) * 0x1_0000_0000_0000;
     ColumnWords { first, second }
 }
 
-// The type of this name, with these numbers.
+// The type of this name, with these numbers. A match, since the names are the layout's numbers.
 #[tactic(auto, unfolding(crate::specs::Words::type_named))]
 fn type_named(tag: u8, n: u16) -> Db2Type
     ensures { result ≡ type_named tag n }
@@ -280,7 +278,7 @@ impl ColumnWords {
     }
 
     // Whether the two words are a column's. A column's number has 8 bits of its 16, there are three origins and nothing stands above them, and a reference length
-    // is 0 where there is none.
+    // is 0 where there is none. A test for each part of this: as one `&&` of four it is no plainer.
     pub fn is_column(self) -> bool
         ensures { result ≡ is_column self.first self.second }
     {
@@ -300,6 +298,7 @@ impl ColumnWords {
     }
 }
 
+// Two functions, since is_nan and to_bits are methods of each type: a trait would have the same bodies in its impls.
 #[tactic(auto, unfolding(types::specs::Held::float_bits))]
 fn real_bits(x: f32) -> u32
     ensures { result ≡ float_bits binary32 x }
@@ -347,11 +346,11 @@ fn number_word(value: Db2Value) -> u64
 {
     match value {
         Db2Value::Null => 0,
-        Db2Value::SmallInt(z) => (z as i64).cast_unsigned(),
-        Db2Value::Integer(z) => (z as i64).cast_unsigned(),
+        Db2Value::SmallInt(z) => i64::from(z).cast_unsigned(),
+        Db2Value::Integer(z) => i64::from(z).cast_unsigned(),
         Db2Value::BigInt(z) => z.cast_unsigned(),
-        Db2Value::Real(x) => real_bits(x) as u64,
-        Db2Value::RealNan(n) => n as u64,
+        Db2Value::Real(x) => u64::from(real_bits(x)),
+        Db2Value::RealNan(n) => u64::from(n),
         Db2Value::Double(x) => double_bits(x),
         Db2Value::DoubleNan(n) => n,
         Db2Value::Boolean(b) => u64::from(b),
@@ -369,6 +368,7 @@ fn number_word(value: Db2Value) -> u64
     }
 }
 
+// No function for a value's place, to be shared with number_word: that matches each kind anyway.
 fn length_word(value: Db2Value) -> u64
     ensures { result ≡ length_word value }
 {
@@ -400,47 +400,50 @@ pub fn value_words(place: ValuePlace) -> ValueWords
     }
 }
 
-// The value of the variant that has this place in the enum, by the second and the third of its words; Null where there is none.
-#[tactic(auto, unfolding(crate::specs::ValueReading::variant_named))]
-fn variant_named(sort: u8, number: u64, len: u64) -> Db2Value
-    ensures { result ≡ variant_named sort number len }
-{
-    let p = Place {
-        start: number as usize,
-        len: len as usize,
-    };
-    match sort {
-        0 => Db2Value::Null,
-        1 => Db2Value::SmallInt(signed16((number % 0x1_0000) as u16)),
-        2 => Db2Value::Integer(signed32((number % 0x1_0000_0000) as u32)),
-        3 => Db2Value::BigInt(signed64(number)),
-        4 => real_of((number % 0x1_0000_0000) as u32),
-        5 => Db2Value::RealNan((number % 0x1_0000_0000) as u32),
-        6 => double_of(number),
-        7 => Db2Value::DoubleNan(number),
-        8 => Db2Value::Decimal(p),
-        9 => Db2Value::Char(p),
-        10 => Db2Value::VarChar(p),
-        11 => Db2Value::Binary(p),
-        12 => Db2Value::Blob(p),
-        13 => Db2Value::Clob(p),
-        14 => Db2Value::RowId(p),
-        15 => Db2Value::Date(p),
-        16 => Db2Value::Time(p),
-        17 => Db2Value::Timestamp(p),
-        18 => Db2Value::Boolean(number == 1),
-        19 => Db2Value::Xml(p),
-        _ => Db2Value::Null,
+impl ValueWords {
+    // The value of the variant whose place in the enum is the first word's low byte, by the second and the third word; Null where there is none.
+    #[tactic(auto, unfolding(crate::specs::ValueReading::variant_named))]
+    fn variant(self) -> Db2Value
+        ensures { result ≡ variant_named (self.kind % 2 ^ 8) self.number self.len }
+    {
+        let n = self.number;
+        let p = Place {
+            start: n as usize,
+            len: self.len as usize,
+        };
+        match self.kind % 0x100 {
+            0 => Db2Value::Null,
+            1 => Db2Value::SmallInt(((n % 0x1_0000) as u16).cast_signed()),
+            2 => Db2Value::Integer(((n % 0x1_0000_0000) as u32).cast_signed()),
+            3 => Db2Value::BigInt(n.cast_signed()),
+            4 => real_of((n % 0x1_0000_0000) as u32),
+            5 => Db2Value::RealNan((n % 0x1_0000_0000) as u32),
+            6 => double_of(n),
+            7 => Db2Value::DoubleNan(n),
+            8 => Db2Value::Decimal(p),
+            9 => Db2Value::Char(p),
+            10 => Db2Value::VarChar(p),
+            11 => Db2Value::Binary(p),
+            12 => Db2Value::Blob(p),
+            13 => Db2Value::Clob(p),
+            14 => Db2Value::RowId(p),
+            15 => Db2Value::Date(p),
+            16 => Db2Value::Time(p),
+            17 => Db2Value::Timestamp(p),
+            18 => Db2Value::Boolean(n == 1),
+            19 => Db2Value::Xml(p),
+            _ => Db2Value::Null,
+        }
     }
-}
 
-// The value that three words name, and whether it is external.
-#[tactic(auto, unfolding(crate::specs::ValueReading::value_named))]
-pub fn value_named(kind: u64, number: u64, len: u64) -> ValuePlace
-    ensures { result ≡ value_named kind number len }
-{
-    ValuePlace {
-        value: variant_named((kind % 0x100) as u8, number, len),
-        external: kind / 0x100 % 2 == 1,
+    // The value that the three words name, and whether it is external.
+    #[tactic(auto, unfolding(crate::specs::ValueReading::value_named))]
+    pub fn value_place(self) -> ValuePlace
+        ensures { result ≡ value_named self.kind self.number self.len }
+    {
+        ValuePlace {
+            value: self.variant(),
+            external: self.kind / 0x100 % 2 == 1,
+        }
     }
 }

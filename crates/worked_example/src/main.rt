@@ -79,6 +79,7 @@ fn print_order(out: Stdout, columns: &Columns, row: &[u8]) -> Result<(), Failure
         let replaced = order.replaced;
         println!(out; "beware: {replaced} malformed in its texts, shown as U+FFFD")?;
     }
+    // One by one, with the place that each has, in the order in which they are shown: a loop over places would ask again whether each is one of 128.
     print_value(out, "order", order.places[0], row, &text)?;
     print_value(out, "pattern", order.places[1], row, &text)?;
     print_value(out, "width", order.places[3], row, &text)?;

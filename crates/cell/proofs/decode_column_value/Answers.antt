@@ -1,23 +1,7 @@
 use mathlib.Core.Path.{refl}
-use native.Mathlib.Omega.{arith}
 use Rattle.numbers.specs.Number.{small_int_in, integer_in, big_int_in, real_in, double_in}
 use Rattle.cell.proofs.NumberLaws.{number_need, number_is}
 use Rattle.cell.proofs.decode_column_value.Goals as goal
-
-pub small_int-requires : goal.small_int-requires
-small_int-requires c = omega (arith, number_need c.args.column c.in-SmallInt.is 2 refl c.args.rest.now, c.requires)
-
-pub integer-requires : goal.integer-requires
-integer-requires c = omega (arith, number_need c.args.column c.in-Integer.is 4 refl c.args.rest.now, c.requires)
-
-pub big_int-requires : goal.big_int-requires
-big_int-requires c = omega (arith, number_need c.args.column c.in-BigInt.is 8 refl c.args.rest.now, c.requires)
-
-pub real-requires : goal.real-requires
-real-requires c = omega (arith, number_need c.args.column c.in-Real.is 4 refl c.args.rest.now, c.requires)
-
-pub double-requires : goal.double-requires
-double-requires c = omega (arith, number_need c.args.column c.in-Double.is 8 refl c.args.rest.now, c.requires)
 
 pub returns-in-SmallInt : goal.returns-in-SmallInt
 returns-in-SmallInt c = λ release. (number_is c.args.column c.in-SmallInt.is 2 refl release c.args.rest.now (small_int_in c.args.column.byte_order) (λ l. refl) (λ l. refl) _ c.small_int.ensures, number_need c.args.column c.in-SmallInt.is 2 refl c.args.rest.now)

@@ -5,7 +5,7 @@ use Rattle.codepage.specs.CodePage.{byte_text}
 use Rattle.codepage.proofs.Dense.{Loose}
 use Rattle.codepage.proofs.dense_write.Given as goal
 
-abbrev pub invariant-loop-i : goal.invariant-loop-i
-invariant-loop-i g l =
+abbrev pub invariant-loop-b : goal.invariant-loop-b
+invariant-loop-b g l =
     let point = g.P.CodePage.point in
-    (l.last + 1 ≡ length l.s) × Loose (byte_text point l.s) l.initial.out (byte_text point (drop l.i l.s)) l.out l.o
+    (l.last + 1 ≡ length l.s) × Loose (byte_text point l.s) l.initial.out (byte_text point (drop l.b-index l.s)) l.out l.o

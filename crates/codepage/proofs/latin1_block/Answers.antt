@@ -18,6 +18,6 @@ returns-then-k-eq0 c =
 pub dense_write-requires : goal.dense_write-requires
 dense_write-requires c =
     let s = c.args.s.now in (
-      omega (arith, c.if-s-k.true, c.high_count-k.ensures, highs_most s (λ j. omega (arith, c.shared_slice_known-1.given j))),
+      omega (arith, c.if-s-k.true, c.high_count-k.ensures, highs_most s (λ j. omega (arith, c.type_inv.s j))),
       c.requires.1,
     )

@@ -1,17 +1,11 @@
-use mathlib.Core.Logic.{inl, inr}
-use borrow.Author.Tests.{ne_eqb}
-use Rattle.conversion.specs.Conversion.{is_utf16}
-use Rattle.conversion.specs.Picked.{character_conversion, graphic_conversion}
+use mathlib.Core.Path.{sym, ◌∙◌}
+use Rattle.std.proofs.lemmas.Bool.{not-true}
+use Rattle.conversion.proofs.Guesses.{is_guess, none_of, no_test}
+use Rattle.conversion.proofs.is_guessed.Goals.{then-is_none, else-is_none}
 use Rattle.conversion.proofs.is_guessed.Goals as goal
 
-pub returns-in_default : goal.returns-in_default
-unfolding character_conversion is_utf16 graphic_conversion
-returns-in_default c = λ e.
-    let h = c.in_default.in_default-own.rest.1 in
-    let no37 = ne_eqb c.args.ccsid 37 (λ k. h (inl k)) in
-    let no500 = ne_eqb c.args.ccsid 500 (λ k. h (inr (inl k))) in
-    let no819 = ne_eqb c.args.ccsid 819 (λ k. h (inr (inr (inl k)))) in
-    let no1200 = ne_eqb c.args.ccsid 1200 (λ k. h (inr (inr (inr (inl k))))) in
-    let no1208 = ne_eqb c.args.ccsid 1208 (λ k. h (inr (inr (inr (inr (inl k)))))) in
-    let no13488 = ne_eqb c.args.ccsid 13488 (λ k. h (inr (inr (inr (inr (inr k)))))) in
-    record { characters = λ s. simp (no37, no500, no819, no1208, e); graphics = λ s. simp (no37, no500, no819, no1200, no1208, no13488, e) }
+pub returns-then-not-is_utf16 : goal.returns-then-not-is_utf16
+returns-then-not-is_utf16 c = elim c.if-is_none.branch [
+  | then-is_none w ↦ λ e. is_guess _ _ (sym c.named.ensures ∙ none_of _ w.if-is_none.ensures) (sym w.is_utf16.ensures ∙ not-true _ (sym w.value-is ∙ c.if-not-is_utf16.true)) e
+  | else-is_none w ↦ no_test (sym c.if-not-is_utf16.true ∙ w.value-is ∙ w.if-is_none.false)
+]

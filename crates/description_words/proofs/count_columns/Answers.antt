@@ -13,56 +13,21 @@ pub returns-in_default : goal.returns-in_default
 returns-in_default c =
     let s = c.args.«data».now in
     let l = c.loop-count in
-    let n = c.next_triplet.ensures in
+    let n = c.next_triplet.ensures.value in
     let t = c.in_default.is in
     counting_end l.invariant (next_none 2 s l.at (length s) n t) (next_unread 2 s l.at (length s) n t)
-
-pub slice_bounds-body-count : goal.slice_bounds-body-count
-slice_bounds-body-count c =
-    let s = c.args.«data».now in
-    let l = c.loop-count in
-    let f = next_some 2 s l.at (length s) c.next_triplet.ensures l.invariant.within (omega arith) c.in-Some.is in
-    omega (arith, f.low, f.high)
-
-pub slice_bounds-body-start : goal.slice_bounds-body-start
-slice_bounds-body-start c =
-    let s = c.args.«data».now in
-    let l = c.loop-count in
-    let f = next_some 2 s l.at (length s) c.next_triplet.ensures l.invariant.within (omega arith) c.in-Some.is in
-    omega (arith, f.low, f.high)
-
-pub slice_bounds-body-end : goal.slice_bounds-body-end
-slice_bounds-body-end c =
-    let s = c.args.«data».now in
-    let l = c.loop-count in
-    let f = next_some 2 s l.at (length s) c.next_triplet.ensures l.invariant.within (omega arith) c.in-Some.is in
-    omega (arith, f.low, f.high)
-
-pub loop-count-smaller-in-112 : goal.loop-count-smaller-in-112
-loop-count-smaller-in-112 c =
-    let s = c.args.«data».now in
-    let l = c.loop-count in
-    let f = next_some 2 s l.at (length s) c.next_triplet.ensures l.invariant.within (omega arith) c.in-Some.is in
-    omega (arith, f.low, f.high)
 
 pub loop-count-preserved-in-112 : goal.loop-count-preserved-in-112
 loop-count-preserved-in-112 c =
     let s = c.args.«data».now in
     let l = c.loop-count in
-    let f = next_some 2 s l.at (length s) c.next_triplet.ensures l.invariant.within (omega arith) c.in-Some.is in
+    let f = next_some 2 s l.at (length s) c.next_triplet.ensures.value l.invariant.within (omega arith) c.in-Some.is in
     rw c.pending_after-pending.ensures
     (counting_more l.invariant _ _ _ f _ (part_slice (l.at + 2) _ s f.low f.high) c.count_triplet-count.ensures)
-
-pub loop-count-smaller : goal.loop-count-smaller
-loop-count-smaller c =
-    let s = c.args.«data».now in
-    let l = c.loop-count in
-    let f = next_some 2 s l.at (length s) c.next_triplet.ensures l.invariant.within (omega arith) c.in-Some.is in
-    omega (arith, f.low, f.high)
 
 pub loop-count-preserved : goal.loop-count-preserved
 loop-count-preserved c =
     let s = c.args.«data».now in
     let l = c.loop-count in
-    let f = next_some 2 s l.at (length s) c.next_triplet.ensures l.invariant.within (omega arith) c.in-Some.is in
+    let f = next_some 2 s l.at (length s) c.next_triplet.ensures.value l.invariant.within (omega arith) c.in-Some.is in
     counting_silent l.invariant _ _ f c.in_default-kind.in_default-kind-own.rest.1

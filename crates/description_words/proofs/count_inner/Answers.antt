@@ -9,43 +9,15 @@ use Rattle.description_words.proofs.count_inner.Goals as goal
 pub loop-kind-init : goal.loop-kind-init
 loop-kind-init c = inner_start c.args.body.now
 
-pub slice_bounds-count_sda-count : goal.slice_bounds-count_sda-count
-slice_bounds-count_sda-count c =
-    let s = c.args.body.now in
-    let l = c.loop-kind in
-    let f = next_some 3 s l.at (length s) c.next_triplet.ensures l.invariant.high (omega arith) c.in-Some.is in
-    omega (arith, f.low, f.high)
-
-pub slice_bounds-count_sda-start : goal.slice_bounds-count_sda-start
-slice_bounds-count_sda-start c =
-    let s = c.args.body.now in
-    let l = c.loop-kind in
-    let f = next_some 3 s l.at (length s) c.next_triplet.ensures l.invariant.high (omega arith) c.in-Some.is in
-    omega (arith, f.low, f.high)
-
-pub slice_bounds-count_sda-end : goal.slice_bounds-count_sda-end
-slice_bounds-count_sda-end c =
-    let s = c.args.body.now in
-    let l = c.loop-kind in
-    let f = next_some 3 s l.at (length s) c.next_triplet.ensures l.invariant.high (omega arith) c.in-Some.is in
-    omega (arith, f.low, f.high)
-
-pub loop-kind-smaller : goal.loop-kind-smaller
-loop-kind-smaller c =
-    let s = c.args.body.now in
-    let l = c.loop-kind in
-    let f = next_some 3 s l.at (length s) c.next_triplet.ensures l.invariant.high (omega arith) c.in-Some.is in
-    omega (arith, f.low, f.high)
-
 pub loop-kind-preserved : goal.loop-kind-preserved
 loop-kind-preserved c =
     let s = c.args.body.now in
     let l = c.loop-kind in
-    let f = next_some 3 s l.at (length s) c.next_triplet.ensures l.invariant.high (omega arith) c.in-Some.is in
+    let f = next_some 3 s l.at (length s) c.next_triplet.ensures.value l.invariant.high (omega arith) c.in-Some.is in
     inner_more l.invariant _ _ _ f _ (part_slice (l.at + 2) _ s f.low f.high) c.count_sda-count.ensures
 
 pub returns : goal.returns
 returns c =
     let s = c.args.body.now in
     let l = c.loop-kind in
-    inner_end l.invariant (next_none 3 s l.at (length s) c.next_triplet.ensures c.in_default.is)
+    inner_end l.invariant (next_none 3 s l.at (length s) c.next_triplet.ensures.value c.in_default.is)

@@ -1,5 +1,6 @@
 use mathlib.Core.Path.{◌≡◌, sym, ap, ◌∙◌, refl}
 use native.Mathlib.Omega.{arith}
+use Rattle.std.proofs.Common.{rules}
 use lib.ListN.{length, length-drop}
 use Rattle.rules.specs.Walk.{Walk, done, walk_body}
 use Rattle.rules.proofs.Walks.{pieces_of}
@@ -25,7 +26,7 @@ overflow_add-end c = omega (arith, ends c.args.release c.args.columns.now c.args
 
 pub returns-then-end-start : goal.returns-then-end-start
 returns-then-end-start c =
-    let bound = named_bound c.args.release c.args.columns.now c.args.start c.args.«data».now c.args.end c.requires.start c.requires.whole (λ j. omega (arith, c.shared_slice_known-2-1.given j)) in
+    let bound = named_bound c.args.release c.args.columns.now c.args.start c.args.«data».now c.args.end c.requires.start c.requires.whole (search rules) in
     record { needed = needed_none c.args.room _ (texts_of c.args.release (walk_body (columns_named c.args.columns.now) c.args.start c.args.«data».now)) refl (omega (arith, bound, c.if-end-start.true)); marks = c.requires.marks }
 
 pub loop-i-init : goal.loop-i-init
@@ -40,7 +41,7 @@ overflow_add-at c = omega (arith, measuring_there _ _ _ _ _ _ c.loop-i.invariant
 pub overflow_add-total : goal.overflow_add-total
 overflow_add-total c =
     let e = ends c.args.release c.args.columns.now c.args.start c.args.«data».now c.args.end c.requires.start c.requires.whole in
-    let bound = named_bound c.args.release c.args.columns.now c.args.start c.args.«data».now c.args.end c.requires.start c.requires.whole (λ j. omega (arith, c.shared_slice_known-2-1.given j)) in
+    let bound = named_bound c.args.release c.args.columns.now c.args.start c.args.«data».now c.args.end c.requires.start c.requires.whole (search rules) in
     let m = measuring_bound _ _ _ _ _ _ c.loop-i.invariant.0 c.column-column.result (named_at _ _ (omega arith) c.words_at.ensures c.column-column.ensures) _ (rest_is c.args.«data».now c.loop-i.at) _ c.piece_length-p.ensures.len in
     omega (arith, m, bound, e, ap length (texts_are c.args.release (walk_body (columns_named c.args.columns.now) c.args.start c.args.«data».now)), c.requires.count, c.requires.limit)
 

@@ -12,10 +12,10 @@ pub loop-end-preserved : goal.loop-end-preserved
 unfolding no_entry
 loop-end-preserved c =
     let g = (rw c.in-Declare.is at c.next_step.ensures) in
-    rw c.first.ensures (reaching_declare c.loop-end.invariant _ _ _ g)
+    rw (c.first.ensures, c.from-place.ensures) (reaching_declare c.loop-end.invariant _ _ _ g)
 
 pub returns-in-Column : goal.returns-in-Column
 unfolding no_entry
 returns-in-Column c =
     let g = (rw c.in-Column.is at c.next_step.ensures) in
-    rw c.lid_at-lid.ensures (g.0, reaching_column c.loop-end.invariant _ _ g.1)
+    rw (c.from.ensures, c.lid_at-lid.ensures) (g.0, reaching_column c.loop-end.invariant _ _ g.1)

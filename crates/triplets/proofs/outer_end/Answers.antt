@@ -9,18 +9,11 @@ pub returns : goal.returns
 returns c =
     let s = c.args.«data».now in
     let l = c.loop-triplet in
-    end_here s l.at l.invariant.0 (next_unread 2 s l.at (length s) c.next_triplet.ensures c.in_default.is) ∙ l.invariant.1
-
-pub loop-triplet-smaller : goal.loop-triplet-smaller
-loop-triplet-smaller c =
-    let s = c.args.«data».now in
-    let l = c.loop-triplet in
-    let f = next_some 2 s l.at (length s) c.next_triplet.ensures l.invariant.0 (omega arith) c.in-Some.is in
-    omega (arith, f.low, f.high)
+    end_here s l.at l.invariant.0 (next_unread 2 s l.at (length s) c.next_triplet.ensures.value c.in_default.is) ∙ l.invariant.1
 
 pub loop-triplet-preserved : goal.loop-triplet-preserved
 loop-triplet-preserved c =
     let s = c.args.«data».now in
     let l = c.loop-triplet in
-    let f = next_some 2 s l.at (length s) c.next_triplet.ensures l.invariant.0 (omega arith) c.in-Some.is in
+    let f = next_some 2 s l.at (length s) c.next_triplet.ensures.value l.invariant.0 (omega arith) c.in-Some.is in
     (f.high, end_after f ∙ l.invariant.1)

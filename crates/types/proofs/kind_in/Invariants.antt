@@ -3,5 +3,5 @@ use lib.ListN.{drop}
 use Rattle.types.specs.Kinds.{kind_in}
 use Rattle.types.proofs.kind_in.Given as goal
 
-abbrev pub invariant-loop-entry : goal.invariant-loop-entry
-invariant-loop-entry l = kind_in (drop l.entry-index l.fn.table) l.base ≡ kind_in l.fn.table l.base
+abbrev pub invariant-loop-i : goal.invariant-loop-i
+invariant-loop-i l = kind_in (drop l.i l.fn.table) l.base ≡ kind_in l.fn.table l.base

@@ -10,5 +10,5 @@ returns-in_default c = rw (lt-ltb (length c.args.value_words.now) 3 c.in_default
 pub returns : goal.returns
 unfolding words_bytes
 returns c =
-    rw (le-ltb (length c.args.value_words.now) 3 c.in-len3-up.len_at_least, ← c.value_named.ensures)
+    rw (le-ltb (length c.args.value_words.now) 3 c.in-len3-up.len_at_least, ← c.value_place-place.ensures)
     c.value_bytes.ensures

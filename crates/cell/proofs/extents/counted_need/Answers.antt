@@ -11,4 +11,4 @@ returns-then-s-lt2 c = (rw (lt-leb 2 _ c.if-s-lt2.true), (omega arith, omega ari
 
 pub returns : goal.returns
 unfolding need
-returns c = (rw (le-leb 2 _ c.if-s-lt2.false, c.u16_of.ensures), (omega arith, omega (arith, mul-le-mul_right c.u16_of.result c.requires)))
+returns c = (rw (le-leb 2 _ c.if-s-lt2.false, c.from.ensures, c.u16_of.ensures), (omega arith, omega (arith, c.from.ensures, mul-le-mul_right c.from.result c.requires)))

@@ -1,11 +1,7 @@
-use mathlib.Core.Path.{sym, ◌∙◌}
-use Rattle.conversion.proofs.Picks.{plain_picked, utf8_picked, locator_picked, row_id_picked, characters_by_lem, graphics_by_lem}
+use Rattle.conversion.proofs.Picks.{utf8_picked, locator_picked, row_id_picked, characters_by_lem, graphics_by_lem}
 use Rattle.piece.proofs.items.conversion_of.Goals as goal
 
 -- `piece::items::conversion_of` meets its contract: in each arm the encoding is known. Assumes nothing.
-pub returns-then-plain : goal.returns-then-plain
-returns-then-plain c = plain_picked c.args.s.now ∙ sym (c.requires c.if-plain.true)
-
 pub returns-in-Characters : goal.returns-in-Characters
 returns-in-Characters c = rw c.in-Characters.is (characters_by_lem _ c.in-Characters.ccsid c.args.s.now c.character_conversion.ensures)
 

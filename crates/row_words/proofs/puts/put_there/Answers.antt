@@ -13,15 +13,15 @@ use Rattle.row_words.proofs.puts.put_there.Goals as goal
 
 -- `row_words::puts::put_there` meets its contract: a number, or another value as the column decoder found it. Assumes nothing.
 pub decode_number-v-requires : goal.decode_number-v-requires
-decode_number-v-requires c = record { tag = c.if-words-lt5.true; there = c.requires.there }
+decode_number-v-requires c = record { tag = c.if-words-lt-DECIMAL.true; there = c.requires.there }
 
-pub returns-then-words-lt5 : goal.returns-then-words-lt5
-returns-then-words-lt5 c =
-    let o = c.decode_number-v.ensures.value c.args.release in
-    let text = number_text c.args.release c.decode_number-v.result.value (column_named c.args.words.first c.args.words.second) c.args.rest.now o in record { used = c.decode_number-v.ensures.used; count = sym (ap length text); bytes = ap (λ (t : List ℕ). overwritten t c.args.out.now) (sym text); values = c.put_value.ensures ∙ ap (three_set c.args.values.now c.args.place) (number_place_lem c.args.release c.decode_number-v.result.value (column_named c.args.words.first c.args.words.second) c.args.rest.now o c.args.at c.args.next); replaced = sym (number_replaced c.args.release c.decode_number-v.result.value (column_named c.args.words.first c.args.words.second) c.args.rest.now o) }
+pub returns-then-words-lt-DECIMAL : goal.returns-then-words-lt-DECIMAL
+returns-then-words-lt-DECIMAL c =
+    let o = c.decode_number-v.ensures.value c.args.release c.args.words.second in
+    let text = number_text c.args.release c.decode_number-v.result.value (column_named c.args.words.first c.args.words.second) c.args.rest.now o in record { used = c.decode_number-v.ensures.used c.args.words.second; count = sym (ap length text); bytes = ap (λ (t : List ℕ). overwritten t c.args.out.now) (sym text); values = c.put_value.ensures ∙ ap (three_set c.args.values.now c.args.place) (number_place_lem c.args.release c.decode_number-v.result.value (column_named c.args.words.first c.args.words.second) c.args.rest.now o c.args.at c.args.next); replaced = sym (number_replaced c.args.release c.decode_number-v.result.value (column_named c.args.words.first c.args.words.second) c.args.rest.now o) }
 
 pub decode_other-d-requires : goal.decode_other-d-requires
-decode_other-d-requires c = record { there = c.requires.there; other = no_number_lem c.args.words.first c.if-words-lt5.false }
+decode_other-d-requires c = record { there = c.requires.there; other = no_number_lem c.args.words.first c.if-words-lt-DECIMAL.false }
 
 pub other_write-p-requires : goal.other_write-p-requires
 other_write-p-requires c =

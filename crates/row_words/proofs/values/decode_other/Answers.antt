@@ -17,7 +17,7 @@ pub returns-in-5 : goal.returns-in-5
 returns-in-5 c = λ release. rw c.within_row.ensures (within_row_lem release (column_named c.args.words.first c.args.words.second) (decimal_is c.args.words.first c.args.words.second c.in-5.is) (Fixed (packed_length ((type_numbers c.args.words.first) % 2 ^ 8))) refl c.args.rest.now c.decimal_need-n.result (c.decimal_need-n.ensures.0 ∙ ap packed_length c.precision.ensures ∙ fixed (packed_length ((type_numbers c.args.words.first) % 2 ^ 8)) c.args.rest.now) c.requires.there c.decimal_item.result (λ l q. subst (λ (z : ℕ). Holds release c.decimal_item.result l (type_item (conversions_of release) (type.Decimal ((type_numbers c.args.words.first) % 2 ^ 8) z) (column_named c.args.words.first c.args.words.second) l)) c.scale.ensures (c.decimal_item.ensures ((type_numbers c.args.words.first) % 2 ^ 8) release (column_named c.args.words.first c.args.words.second) l q)) (λ l. refl))
 
 pub returns-in-7 : goal.returns-in-7
-returns-in-7 c = λ release. rw c.within_row-in-7.ensures (within_row_lem release (column_named c.args.words.first c.args.words.second) (char_is c.args.words.first c.args.words.second c.in-7.is) (Fixed (type_numbers c.args.words.first)) refl c.args.rest.now c.type_numbers-n.result (c.type_numbers-n.ensures ∙ fixed (type_numbers c.args.words.first) c.args.rest.now) c.requires.there c.characters.result (λ l q. c.characters.ensures.char (type_numbers c.args.words.first) refl refl release (column_named c.args.words.first c.args.words.second) l (ccsid_is c.args.words.first c.args.words.second c.ccsid_of.ensures) q) (λ l. refl))
+returns-in-7 c = λ release. rw c.within_row-in-7.ensures (within_row_lem release (column_named c.args.words.first c.args.words.second) (char_is c.args.words.first c.args.words.second c.in-7.is) (Fixed (type_numbers c.args.words.first)) refl c.args.rest.now c.from-n.result (c.from-n.ensures ∙ c.type_numbers.ensures ∙ fixed (type_numbers c.args.words.first) c.args.rest.now) c.requires.there c.characters.result (λ l q. c.characters.ensures.char (type_numbers c.args.words.first) refl refl release (column_named c.args.words.first c.args.words.second) l (ccsid_is c.args.words.first c.args.words.second c.ccsid_of.ensures) q) (λ l. refl))
 
 pub returns-in-15 : goal.returns-in-15
 returns-in-15 c = λ release. rw c.within_row-in-15.ensures (within_row_lem release (column_named c.args.words.first c.args.words.second) (date_is c.args.words.first c.args.words.second c.in-15.is) (Fixed 10) refl c.args.rest.now 10 (fixed 10 c.args.rest.now) c.requires.there c.characters-in-15.result (λ l q. c.characters-in-15.ensures.date refl refl release (column_named c.args.words.first c.args.words.second) l (ccsid_is c.args.words.first c.args.words.second c.ccsid_of-in-15.ensures) q) (λ l. refl))
@@ -27,6 +27,3 @@ returns-in-16 c = λ release. rw c.within_row-in-16.ensures (within_row_lem rele
 
 pub returns-in-17 : goal.returns-in-17
 returns-in-17 c = λ release. rw c.within_row-in-17.ensures (within_row_lem release (column_named c.args.words.first c.args.words.second) (timestamp_is c.args.words.first c.args.words.second c.in-17.is) (Fixed (cond (eqb (column_named c.args.words.first c.args.words.second).length 0) 26 (column_named c.args.words.first c.args.words.second).length)) refl c.args.rest.now c.timestamp_need-n.result (c.timestamp_need-n.ensures.0 ∙ ap (λ (n : ℕ). cond (eqb n 0) 26 n) (sym (length_is c.args.words.first c.args.words.second c.length_of.ensures)) ∙ fixed (cond (eqb (column_named c.args.words.first c.args.words.second).length 0) 26 (column_named c.args.words.first c.args.words.second).length) c.args.rest.now) c.requires.there c.characters-in-17.result (λ l q. c.characters-in-17.ensures.timestamp refl refl release (column_named c.args.words.first c.args.words.second) l (ccsid_is c.args.words.first c.args.words.second c.ccsid_of-in-17.ensures) q) (λ l. refl))
-
-pub returns-in_default : goal.returns-in_default
-returns-in_default c = λ release. rw c.same_value.ensures (c.decode_made.ensures release)

@@ -10,7 +10,7 @@ pub decode_made-requires : goal.decode_made-requires
 decode_made-requires c = record { there = c.requires.there; other = no_number_lem c.args.words.first (omega (arith, c.requires.tag)) }
 
 pub returns-then-is_header : goal.returns-then-is_header
-returns-then-is_header c = λ release. rw c.same_value.ensures (c.decode_made.ensures release)
+returns-then-is_header c = λ release. c.decode_made.ensures release
 
 pub returns : goal.returns
 returns c = λ release.

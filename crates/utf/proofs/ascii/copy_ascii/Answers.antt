@@ -5,7 +5,7 @@ use lib.ListN.{length, take, drop}
 use Rattle.utf.specs.Lossy.{Wrote}
 use Rattle.utf.proofs.AsciiLaws.{rest_length}
 use Rattle.utf.proofs.Utf8Runs.{ascii_good}
-use Rattle.utf.proofs.LossyWriting.{wrote_lent, text_least, copied, copied_lent}
+use Rattle.utf.proofs.LossyWriting.{wrote_lent, wrote_room, text_least, copied, copied_lent}
 use Rattle.utf.proofs.ascii.copy_ascii.Goals as goal
 
 pub returns-then-s-lt8 : goal.returns-then-s-lt8
@@ -22,13 +22,27 @@ returns-then-not-ascii_8 c =
     let k = c.ascii_in_8.result in
     copied c.args.s.now c.args.out.now _ c.requires 8 k c.if-s-lt8.false c.ascii_in_8.ensures.1 (ascii_good k _ c.ascii_in_8.ensures.0) c.copy_array.ensures
 
+pub copy_ascii_32s-n-requires : goal.copy_ascii_32s-n-requires
+copy_ascii_32s-n-requires c = omega (arith, text_least c.args.s.now, c.requires)
+
+pub copy_ascii_8s-requires : goal.copy_ascii_8s-requires
+copy_ascii_8s-requires c =
+    let S : List ℕ = c.args.s.now in
+    let D : List ℕ = c.args.out.now in
+    let N : ℕ = c.copy_ascii_32s-n.result in
+    let Ys : List ℕ = c.copy_ascii_32s-n.new.out in
+    let run = c.copy_ascii_32s-n.ensures.run in
+    let w : Wrote S D Ys N N 0 = copied S D Ys c.requires N N run.fits (omega arith) (ascii_good N S run) c.copy_ascii_32s-n.ensures.bytes in
+    wrote_room S D Ys N N 0 w
+
 pub returns-then-s-m-ge8 : goal.returns-then-s-m-ge8
 returns-then-s-m-ge8 c =
     let S : List ℕ = c.args.s.now in
     let D : List ℕ = c.args.out.now in
     let N : ℕ = c.copy_ascii_32s-n.result in
     let Ys : List ℕ = c.copy_ascii_32s-n.new.out in
-    let w : Wrote S D Ys N N 0 = c.copy_ascii_32s-n.ensures in
+    let run = c.copy_ascii_32s-n.ensures.run in
+    let w : Wrote S D Ys N N 0 = copied S D Ys c.requires N N run.fits (omega arith) (ascii_good N S run) c.copy_ascii_32s-n.ensures.bytes in
     let M : ℕ = N + c.copy_ascii_8s.result in
     let Zs : List ℕ = take N Ys ++ (c.copy_ascii_8s.new.out ++ drop (length Ys - N) (drop N Ys)) in
     let w₁ : Wrote S D Zs M M 0 = wrote_lent S D Ys N N 0 w _ _ _ 0 c.copy_ascii_8s.ensures in
@@ -40,7 +54,8 @@ returns c =
     let D : List ℕ = c.args.out.now in
     let N : ℕ = c.copy_ascii_32s-n.result in
     let Ys : List ℕ = c.copy_ascii_32s-n.new.out in
-    let w : Wrote S D Ys N N 0 = c.copy_ascii_32s-n.ensures in
+    let run = c.copy_ascii_32s-n.ensures.run in
+    let w : Wrote S D Ys N N 0 = copied S D Ys c.requires N N run.fits (omega arith) (ascii_good N S run) c.copy_ascii_32s-n.ensures.bytes in
     let M : ℕ = N + c.copy_ascii_8s.result in
     let Zs : List ℕ = take N Ys ++ (c.copy_ascii_8s.new.out ++ drop (length Ys - N) (drop N Ys)) in
     let w₁ : Wrote S D Zs M M 0 = wrote_lent S D Ys N N 0 w _ _ _ 0 c.copy_ascii_8s.ensures in

@@ -1,14 +1,11 @@
 use mathlib.Core.Path.{sym, ap, ◌∙◌}
 use Rattle.unicode_standard.specs.Likely.{likely_piece}
 use Rattle.utf.proofs.Utf8Laws.{step_ascii}
-use Rattle.utf.proofs.LikelyLaws.{unlikely, likely, ascii_piece, malformed_piece, other_piece, control_piece, no_control_piece}
+use Rattle.utf.proofs.LikelyLaws.{unlikely, likely, likely_if, ascii_piece, malformed_piece, other_piece, control_piece, no_control_piece}
 use Rattle.utf.proofs.likely.likely_at.Goals as goal
 
-pub returns-then-shown : goal.returns-then-shown
-returns-then-shown c = likely _ _ c.requires 1 (step_ascii _ _ c.if-b-lt128.true).0 (ap likely_piece (ascii_piece c.args.s.now c.args.e c.if-b-lt128.true) ∙ sym c.shown.ensures ∙ c.if-shown.true)
-
 pub returns-then-b-lt128 : goal.returns-then-b-lt128
-returns-then-b-lt128 c = unlikely _ _ c.requires (ap likely_piece (ascii_piece c.args.s.now c.args.e c.if-b-lt128.true) ∙ sym c.shown.ensures ∙ c.if-shown.false)
+returns-then-b-lt128 c = rw c.then_some.ensures (likely_if _ _ c.requires c.shown.result 1 (step_ascii _ _ c.if-b-lt128.true).0 (ap likely_piece (ascii_piece c.args.s.now c.args.e c.if-b-lt128.true) ∙ sym c.shown.ensures))
 
 pub returns-in_default : goal.returns-in_default
 returns-in_default c =

@@ -7,7 +7,7 @@ use Rattle.utf.proofs.utf16.block_extra.Goals as goal
 pub loop-i-preserved : goal.loop-i-preserved
 loop-i-preserved c =
     let n =
-    next c.args.s.now (λ j. omega (arith, c.shared_slice_known-in-loop-i-3-1.given j)) c.loop-i.i c.loop-i.k c.extra-k.result
+    next c.args.s.now (λ j. omega (arith, c.type_inv.s j)) c.loop-i.i c.loop-i.k c.extra-k.result
     c.requires.1 c.loop-i-test.true (rw c.requires.0 at c.extra-k.ensures) c.loop-i.invariant.1 c.loop-i.invariant.2 in
     (omega arith, n.0, n.1)
 

@@ -29,7 +29,7 @@ returns c =
     let w₀ : Filling (utf16_text S) c.args.out.now (utf16_text (drop (K + 2) S)) c.write_scalar-n.new.out c.write_scalar-n.result = let nx = c.next_at-t.ensures in rw on at (loosened (wrote_first (utf16_text S) c.args.out.now c.requires (utf8 c.next_at-t.result.value) _ nx.here c.write_scalar-n.new.out c.write_scalar-n.ensures.bytes c.write_scalar-n.result c.write_scalar-n.ensures.count)) in
     let first : replacements (utf16_pieces S) ≡ c.next_at-t.result.replaced + replacements (utf16_pieces (drop (K + 2) S)) = rw on at c.next_at-t.ensures.part in
     let e : K + c.write_blocks-v.result.read + 2 ≡ K + 2 + c.write_blocks-v.result.read = omega arith in
-    let b = rw e at (lent_after S K _ c.write_blocks-v.new.out c.write_blocks-v.result.read c.write_blocks-v.result.written c.write_blocks-v.ensures.0) in (
+    let b = rw e at (lent_after S K _ c.write_blocks-v.new.out c.write_blocks-v.result.read c.write_blocks-v.result.len c.write_blocks-v.ensures.0) in (
       wrote_filling w₀ b.0,
       (
         omega (arith, c.write_blocks-v.ensures.1, rest_length S K, c.next_at-t.ensures.fits, c.next_at-t.ensures.some),

@@ -12,13 +12,13 @@ returns-then-s-le64 c = good_none _
 pub returns-then-s-e-lt64 : goal.returns-then-s-e-lt64
 returns-then-s-e-lt64 c =
     let S : List ℕ = c.args.s.now in
-    let E : ℕ = c.ascii_long_blocks-e.result + c.ascii_short_blocks-e.result in
-    let run : Good E S = let n = c.ascii_long_blocks-e.result in good_more n c.ascii_short_blocks-e.result S (ascii_good n S c.ascii_long_blocks-e.ensures) (ascii_good_at S n c.ascii_short_blocks-e.result c.ascii_short_blocks-e.ensures) in
+    let E : ℕ = c.ascii_blocks-e.result + c.ascii_blocks-e-2.result in
+    let run : Good E S = let n = c.ascii_blocks-e.result in good_more n c.ascii_blocks-e-2.result S (ascii_good n S c.ascii_blocks-e.ensures) (ascii_good_at S n c.ascii_blocks-e-2.result c.ascii_blocks-e-2.ensures) in
     run
 
 pub returns : goal.returns
 returns c =
     let S : List ℕ = c.args.s.now in
-    let E : ℕ = c.ascii_long_blocks-e.result + c.ascii_short_blocks-e.result in
-    let run : Good E S = let n = c.ascii_long_blocks-e.result in good_more n c.ascii_short_blocks-e.result S (ascii_good n S c.ascii_long_blocks-e.ensures) (ascii_good_at S n c.ascii_short_blocks-e.result c.ascii_short_blocks-e.ensures) in
+    let E : ℕ = c.ascii_blocks-e.result + c.ascii_blocks-e-2.result in
+    let run : Good E S = let n = c.ascii_blocks-e.result in good_more n c.ascii_blocks-e-2.result S (ascii_good n S c.ascii_blocks-e.ensures) (ascii_good_at S n c.ascii_blocks-e-2.result c.ascii_blocks-e-2.ensures) in
     good_more E c.good_blocks.result S run (rw (rest S E) at c.good_blocks.ensures)

@@ -1,8 +1,0 @@
-use mathlib.Core.Path.{◌≡◌}
-use lib.ListN.{drop}
-use Rattle.std.specs.Slice.Iter.{chunks_exact_rest, chunks_exact_size}
-use Rattle.utf.specs.Ascii.{AsciiRun}
-use Rattle.utf.proofs.ascii.ascii_short_blocks.Given as goal
-
-abbrev pub invariant-loop-block : goal.invariant-loop-block
-invariant-loop-block l = (chunks_exact_size l.block-iterator ≡ 32) × (chunks_exact_rest l.block-iterator ≡ drop l.n l.s) × AsciiRun l.n l.s

@@ -3,6 +3,18 @@ ghost use Rattle.std.specs.Prelude.{◌≡◌, ◌<◌, ◌≤◌, length};
 ghost use Rattle.buffer.specs.Buffer.{overwritten};
 ghost use Rattle.unicode_standard.specs.Unicode.{utf8};
 
+// Its length, for a caller that measures before it writes.
+pub fn scalar_len(v: u32) -> usize
+    ensures { (result ≡ length (utf8 v)) × (result ≤ 4) }
+{
+    match v {
+        0..=0x7F => 1,
+        0x80..=0x7FF => 2,
+        0x800..=0xFFFF => 3,
+        _ => 4,
+    }
+}
+
 // Writes it into out, from its first byte, and returns its length. By hand: encode_utf8 takes a char, and v is any number below 110000, so that
 // from_u32 would ask again. No plainer by a match on ranges: the same four groups of stores. By `as`, of what fits: u8 has no From of a u32.
 pub fn write_scalar(v: u32, out: &mut [u8]) -> usize

@@ -1,12 +1,13 @@
 -- Blocks of a text with one code point a byte, and their bytes from 80 on. Assumes nothing.
-use Prim.Native.Nat.{ℕ, suc, ◌+◌, ◌/◌, ◌≤◌, ◌<◌}
+use Prim.Native.Nat.{ℕ, suc, ◌+◌, ◌-◌, ◌/◌, ◌≤◌, ◌<◌}
 use mathlib.Core.Bool.{Bool, true, false}
 use mathlib.Core.List.{List, [], ◌∷◌, ◌++◌, append_assoc}
 use mathlib.Core.Path.{◌≡◌, refl, sym, ap, ◌∙◌}
 use native.Mathlib.Omega.{arith}
 use borrow.Author.Tests.{ltb-true, ltb-false}
 use lib.Dec.{ltb}
-use lib.ListN.{length, drop, get_or, length-append}
+use lib.ListN.{length, take, drop, get_or, length-append, take-append-drop}
+use lib.Seq.{drop-drop}
 use Rattle.unicode_standard.specs.Unicode.{utf8, pieces_text, piece_text}
 use Rattle.unicode_standard.proofs.ScalarBytes.{utf8_one, utf8_two}
 use Rattle.buffer.proofs.Writing.{next}
@@ -25,6 +26,18 @@ pub highs_append : (a b : List ℕ) → highs (a ++ b) ≡ highs a + highs b
 unfolding highs
 highs_append [] b = sym (omega arith)
 highs_append (x ∷ a) b = omega (arith, highs_append a b)
+
+module _ (s : List ℕ) (i e : ℕ) (h : i ≤ e) where
+  pub block : drop i s ≡ take (e - i) (drop i s) ++ drop e s
+  block =
+      let k : i + (e - i) ≡ e = omega arith in
+      sym (take-append-drop (e - i) (drop i s)) ∙ ap (λ (l : List ℕ). take (e - i) (drop i s) ++ l) (drop-drop (e - i) i s ∙ ap (λ (n : ℕ). drop n s) k)
+
+  pub block_text : (f : ℕ → ℕ) → byte_text f (drop i s) ≡ byte_text f (take (e - i) (drop i s)) ++ byte_text f (drop e s)
+  block_text f = ap (byte_text f) block ∙ byte_append f (take (e - i) (drop i s)) (drop e s)
+
+  pub block_highs : highs (drop i s) ≡ highs (take (e - i) (drop i s)) + highs (drop e s)
+  block_highs = ap highs block ∙ highs_append (take (e - i) (drop i s)) (drop e s)
 
 -- ---- the bytes from 80 on
 

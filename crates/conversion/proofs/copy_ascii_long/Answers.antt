@@ -18,6 +18,6 @@ loop-block-preserved c =
     let Block : List ℕ = c.in-Some.block.now in
     let steps = c.in-Some.ensures.steps in
     let at = c.loop-block.invariant in
-    let next = run_chunk N 1024 S at.2 Block (chunks_exact_rest c.next.new.self) (sym at.1 ∙ steps.1.0) (steps.1.1 ∙ at.0) (none_high _ _ c.has_high.ensures c.if-has_high.false) in
+    let next = run_chunk N 1024 S at.2 Block (chunks_exact_rest c.next.new.self) (sym at.1 ∙ steps.1.0) (steps.1.1 ∙ at.0) (none_high _ _ c.has_high.ensures (search rules)) in
     let split : drop N S ≡ Block ++ drop (N + 1024) S = sym at.1 ∙ steps.1.0 ∙ ap (λ (l : List ℕ). Block ++ l) next.0 in
     (steps.0 ∙ at.0, next.0, next.1, wrote_rest at.3 Block (drop (N + 1024) S) split c.copy.new.out c.copy.ensures.bytes 1024 (sym (steps.1.1 ∙ at.0)))

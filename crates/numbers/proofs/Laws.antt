@@ -14,6 +14,10 @@ use mir.Syntax.{Width}
 use mir.Val.{Fits, SFits, to_z, of_z}
 use mir.ValLaws.{to_z-Fits, to_z-of_z}
 
+-- a signed number that was handed over is the one whose bits these are
+pub signed_is : (w : Width) (n : ℕ) → Fits w n → (z : ℤ) → z ≡ to_z w n → (m : ℕ) → n ≡ m → to_z w (of_z w z) ≡ to_z w m
+signed_is w n f z e m d = to_z-of_z w z (subst (SFits w) (sym e) (to_z-Fits w n f)) ∙ e ∙ ap (to_z w) d
+
 -- ---- the test for a NaN's pattern: one comparison
 pub a_nan : (f : Format) (n : ℕ) → ones f * hid f < n % top f → nan_bits f n ≡ true
 a_nan f n h = nan_bits_above f n ∙ lt-ltb _ _ h

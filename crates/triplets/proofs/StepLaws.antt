@@ -34,6 +34,12 @@ module _ (s : List ℕ) (a e : ℕ) (h : e ≤ length s) where
 pub no_data : (s : List ℕ) (a e : ℕ) → a ≡ e → slice a e s ≡ []
 no_data s a e q = rw q (slice_empty e s)
 
+pub last_byte : (s : List ℕ) (a e : ℕ) → a < e → e ≤ length s → last_of (slice a e s) ≡ Some (get_or s (e - 1) 0)
+unfolding last_of
+last_byte s a e h k =
+    let q : a + (e - a - 1) ≡ e - 1 = omega arith in
+    rw (some_data s a e k h, length-slice a e s k, get_d_slice a e (e - a - 1) s 0 (omega arith), q)
+
 -- ---- where outer triplets end
 pub end_here : (s : List ℕ) (i : ℕ) → i ≤ length s → (reading 2 (slice i (length s) s)).unread ≡ slice i (length s) s → i ≡ end_from s i
 unfolding end_from

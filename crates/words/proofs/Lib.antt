@@ -1,5 +1,6 @@
 pub mod TypeWords
 pub mod Fields
+mod Bits
 mod Holding
 pub mod Bitwise
 pub mod Columns

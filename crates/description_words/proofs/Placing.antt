@@ -12,7 +12,7 @@ use Rattle.types.specs.Places.{max_columns}
 use Rattle.triplets.specs.declared.Cursor.{Cursor}
 use Rattle.triplets.specs.declared.Cursor.TheVariants as cursor
 use Rattle.triplets.specs.Descriptors.{Environment, no_entries, columns_of}
-use Rattle.triplets.specs.Steps.{to_come, CursorWithin, Comes}
+use Rattle.triplets.specs.Steps.{to_come, CursorWithin, Goes, Comes}
 use Rattle.qrydsc.specs.Qrydsc.{with_index, numbered}
 use Rattle.qrydsc.proofs.Progress.{all_to_come}
 use Rattle.words.specs.Words.{first_word, second_word, pack_columns}
@@ -44,6 +44,11 @@ module _ {s d out : List ℕ} {k : ℕ} {env : Environment} {c : Cursor} (i : Pl
   pub placing_end : to_come s env c ≡ [] → out ≡ overwritten (words_from 0 (columns_of s)) d
   unfolding pack_columns numbered
   placing_end none = end i.writing (rw none)
+
+  -- no column, and another environment
+  pub placing_on : {n : Cursor} (after : Environment → Environment) → Goes s c n (λ e. to_come s (after e) n) → Placing s d out k (after env) n
+  placing_on after g =
+      record { within = g.within; total = (rw (g.same env) at i.total); writing = (rw (g.same env) at i.writing) }
 
   -- a column more
   module _ {n : Cursor} {after : Environment} {x : ColumnDescriptor} (g : Comes s c env n after x) where

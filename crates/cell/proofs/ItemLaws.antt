@@ -1,23 +1,24 @@
--- Laws of items that the code rests on: all bytes from a place on, what a reference begins with.
+-- Laws of items that the code rests on: looking for a byte that is not zero one byte on, all bytes from a place on, what a reference begins with.
 -- Assumes nothing.
 use Rattle.std.specs.Prelude.{None, Option}
 use Prim.Native.Nat.{ℕ, ◌+◌, ◌-◌, ◌≤◌, ◌<◌}
 use mathlib.Core.Path.{◌≡◌, refl, sym, ◌∙◌, subst}
 use mathlib.Core.Bool.{Bool, true, false, cond, ◌&&◌, true≢false}
 use mathlib.Core.List.{List, []}
+use native.Mathlib.Numerals.{add-one}
 use native.Mathlib.Omega.{arith}
 use native.Mathlib.Nat.{sub-zero}
 use lib.ListN.{length, get_or, take, drop}
-use lib.Seq.{length-take-le}
+use lib.Seq.{drop-cons, length-take-le}
 use lib.Dec.{leb, eqb}
-use borrow.Author.Tests.{leb-true}
+use borrow.Author.Tests.{leb-true, eq-eqb, ne_eqb}
 use Rattle.types.specs.declared.Db2Type.{Db2Type}
 use Rattle.types.specs.declared.ColumnDescriptor.{ColumnDescriptor}
 use Rattle.refusal.specs.Refusal.{most_bytes}
 use Rattle.types.specs.FixedLength.{packed_length}
 use Rattle.rules.specs.declared.Extent.TheVariants.{Fixed, Counted, Inline, Locator}
 use Rattle.rules.specs.Extent.{be32, is_reference, reference_mark, lob_need, need, lob_extent, length_extent, type_extent, extent_of}
-use Rattle.rules.specs.Meaning.{ByteSort, Item, lob_empty, lob_reference, lob_inline, type_item, item_in}
+use Rattle.rules.specs.Meaning.{ByteSort, Item, all_zero, lob_empty, lob_reference, lob_inline, type_item, item_in}
 use Rattle.rules.specs.Conversions.{conversions_of}
 use Rattle.rules.proofs.Extents.{cuts}
 use Rattle.cell.specs.declared.CellItem.{CellItem}
@@ -26,6 +27,15 @@ use Rattle.cell.specs.declared.LobText.{LobText}
 use Rattle.cell.specs.declared.LobText.TheVariants as lobs
 use Rattle.cell.specs.Cell.{text_sort, lob_sort, lob_of, Holds}
 use Rattle.buffer.specs.Buffer.{unreplaced}
+
+module _ (s : List ℕ) (i : ℕ) (h : i < length s) where
+  pub zero_step : get_or s i 0 ≡ 0 → all_zero (drop i s) ≡ all_zero (drop (i + 1) s)
+  unfolding all_zero
+  zero_step e = rw (add-one, drop-cons s i 0 h, eq-eqb _ _ e)
+
+  pub nonzero_step : (get_or s i 0 ≡ 0 → ⊥) → all_zero (drop i s) ≡ false
+  unfolding all_zero
+  nonzero_step e = rw (drop-cons s i 0 h, ne_eqb _ _ e)
 
 pub reference_nine : (s : List ℕ) → is_reference s ≡ true → 9 ≤ length s
 unfolding is_reference

@@ -9,13 +9,15 @@ use Rattle.types.specs.declared.ColumnDescriptor.{ColumnDescriptor}
 use Rattle.types.specs.declared.Db2Value.{Db2Value}
 use Rattle.types.specs.declared.ValuePlace.{ValuePlace}
 use Rattle.rules.specs.Meaning.{Item, item_in}
-use Rattle.rules.specs.Row.{value_of, item_text, item_replaced, cell_item, cell_value}
+use Rattle.rules.specs.Row.{place, text_value, value_of, item_text, item_replaced, cell_item, cell_value}
 use Rattle.rules.specs.Conversions.{conversions_of}
 use Rattle.buffer.specs.Buffer.{Converted, unreplaced}
 use Rattle.cell.specs.declared.CellItem.{CellItem}
 use Rattle.cell.specs.declared.CellItem.TheVariants.{Nothing, Boolean, Part, Text}
+use Rattle.cell.specs.declared.TextSort.{TextSort}
+use Rattle.cell.specs.declared.Reading.{Reading}
 use Rattle.cell.specs.declared.OtherValue.{OtherValue}
-use Rattle.cell.specs.Cell.{Holds, taken, NumberIs, OtherIs}
+use Rattle.cell.specs.Cell.{text_sort, Holds, taken, NumberIs, OtherIs}
 use Rattle.cell.specs.Inner.{WidthOf}
 use Rattle.piece.specs.Piece.{LiesWithin, made_of, text_held, replaced_held, item_value, number_place, place_of, value_in, value_text, value_replaced, text_start, PlainCell}
 
@@ -45,6 +47,14 @@ holds_value release Nothing s i at next h = ap (λ (y : Item). value_of y at nex
 holds_value release (Boolean b) s i at next h = ap (λ (y : Item). value_of y at next) (sym h)
 holds_value release (Part k from len) s i at next h = ap (λ (y : Item). value_of y at next) (sym h.0)
 holds_value release (Text k reading from len) s i at next h = ap (λ (y : Item). value_of y at next) (sym h.0)
+
+-- ---- an item that is a text
+
+module _ (release : ℕ) (x : CellItem) (s : List ℕ) (k : TextSort) (reading : Reading) (from len : ℕ) (e : x ≡ Text k reading from len) (w : LiesWithin x s) where
+  pub text_value_lem : (at next n : ℕ) → n ≡ length (text_held release x s) → text_value (text_sort k) (place next n) ≡ item_value release x s at next
+  text_value_lem at next n h =
+      ap (λ (m : ℕ). text_value (text_sort k) (place next m)) (h ∙ ap (λ (y : CellItem). length (text_held release y s)) e)
+      ∙ ap (λ (y : CellItem). item_value release y s at next) (sym e)
 
 -- ---- a text that is the bytes themselves, all from a place on, with none replaced
 

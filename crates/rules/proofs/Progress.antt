@@ -1,10 +1,11 @@
 -- The laws of the loops that go through a row's columns: of the columns cs, i are passed, and the next byte is at place `at` of the input s.
+--     Seeking     is there a DecFloat column? None is among the columns passed
 --     Walking     going through the columns for the first time: does each have its bytes?
 --     Going       going through them again, where the walk is done
 --     Measuring   going again, adding the lengths of the texts
 --     Placing     going again, writing the texts into a buffer one after the other, and adding how many U+FFFD were put in
 -- Each has a law for its start, for a turn and for its end. A turn is given the column c, by `drop i cs ≡ c ∷ drop (i + 1) cs`, and the rest of the row r, by
--- `r ≡ drop at s`; drop_more, covered_at and rest_is give these two. Assumes nothing.
+-- `r ≡ drop at s`; column_at_lem, covered_at and rest_is give these two. Assumes nothing.
 use Prim.Native.Nat.{ℕ, suc, ◌+◌, ◌-◌, ◌≤◌, ◌<◌}
 use mathlib.Core.Path.{◌≡◌, refl, sym, ap, ◌∙◌}
 use mathlib.Core.Bool.{Bool, true, false, cond, false≢true}
@@ -19,25 +20,51 @@ pub use Rattle.std.proofs.lemmas.List.{take_rest as rest_is}
 use Rattle.std.proofs.lemmas.List.{drop_more}
 use Rattle.types.specs.declared.ColumnDescriptor.{ColumnDescriptor}
 use Rattle.types.specs.declared.ValuePlace.{ValuePlace}
+use Rattle.types.specs.Names.{is_dec_float}
 use Rattle.types.specs.Places.{max_columns, filled, blank_value}
 use Rattle.buffer.specs.Buffer.{overwritten}
 use Rattle.buffer.proofs.Writing as writing
 use Rattle.rules.specs.Extent.{extent_of}
 use Rattle.rules.specs.Meaning.{Conversions}
 use Rattle.rules.specs.Walk.{column_need, Cell, absent, present, cell_of, Walk, done, short, cons_cell, cell_short, walk, walk_body}
-use Rattle.rules.specs.Row.{item_text, item_replaced, cell_item, cell_value, row_values, row_texts, row_replaced}
+use Rattle.rules.specs.Row.{item_text, item_replaced, cell_item, cell_value, row_values, row_texts, row_replaced, any_dec_float}
 use Rattle.rules.proofs.Walks.{is_done, used_of, pieces_of, walk_step, walk_first, walk_used}
 
 -- ---- what a turn is given
 
+pub column_at_lem : (cs : List ColumnDescriptor) (i : ℕ) (d : ColumnDescriptor) → i < length cs → drop i cs ≡ get_or cs i d ∷ drop (i + 1) cs
+column_at_lem cs i d h = drop_more cs i d h
+
 -- the first n of a longer list
 pub covered_at : (cs : List ColumnDescriptor) (n i : ℕ) (d : ColumnDescriptor) → n ≤ length cs → i < n → drop i (take n cs) ≡ get_or cs i d ∷ drop (i + 1) (take n cs)
 covered_at cs n i d h k =
-    drop_more (take n cs) i d (omega (arith, length-take-le n cs h))
+    column_at_lem (take n cs) i d (omega (arith, length-take-le n cs h))
     ∙ ap (λ (c : ColumnDescriptor). c ∷ drop (i + 1) (take n cs)) (get_or-take n cs i d k)
 
 abbrev pub piece_at : ColumnDescriptor → ℕ → List ℕ → Cell
 piece_at c at r = cell_of c.nullable c at (take (column_need c r) r)
+
+-- ---- looking for a DecFloat column
+
+module _ (cs : List ColumnDescriptor) where
+  pub record Seeking (i : ℕ) : Type 0 where
+    pub same : any_dec_float cs ≡ any_dec_float (drop i cs)
+
+  pub seeking_start : Seeking 0
+  seeking_start = record { same = refl }
+
+  module _ {i : ℕ} (g : Seeking i) (c : ColumnDescriptor) (e : drop i cs ≡ c ∷ drop (i + 1) cs) where
+    pub seeking_found : is_dec_float c ≡ true → any_dec_float cs ≡ true
+    unfolding any_dec_float
+    seeking_found h = g.same ∙ rw (e, h)
+
+    pub seeking_step : is_dec_float c ≡ false → Seeking (i + 1)
+    unfolding any_dec_float
+    seeking_step h = record { same = g.same ∙ rw (e, h) }
+
+  pub seeking_end : {i : ℕ} → Seeking i → length cs ≤ i → any_dec_float cs ≡ false
+  unfolding any_dec_float
+  seeking_end g h = g.same ∙ rw (drop_of_length-le cs h)
 
 -- ---- walks and what is put before them
 

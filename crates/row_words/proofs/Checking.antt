@@ -71,10 +71,14 @@ module _ (ws : List ℕ) where
                 (added_more n (eqb 6 (a % 2 ^ 8)) (column_named a b) (dec_float_read a b k) (read_columns (drop (2 * (i + 1)) ws)));
           }
 
+    -- a word is left over
+    pub checking_odd : 2 * i ≤ length ws → (2 * i ≡ length ws → ⊥) → length ws ≤ 2 * i + 1 → None ≡ checked_of (read_columns ws)
+    checking_odd w d h = let e : 2 * i + 1 ≡ length ws = omega (arith, d, w) in sym (c.so_far ∙ rw (read_odd ws (2 * i) e))
+
     pub checking_end : length ws / 2 ≤ i → i ≤ length ws / 2 → then_some (eqb (length ws % 2) 0) n ≡ checked_of (read_columns ws)
     unfolding any_dec_float
     checking_end k l = by (eqb (length ws % 2) 0) refl
       where
         by : (t : Bool) → eqb (length ws % 2) 0 ≡ t → then_some t n ≡ checked_of (read_columns ws)
         by true e = let d : 2 * i ≡ length ws = omega (arith, eqb-true (length ws % 2) 0 e) in sym (c.so_far ∙ rw (read_end_lem ws (2 * i) d, or_false n))
-        by false e = let d : 2 * i + 1 ≡ length ws = omega (arith, eqb-false (length ws % 2) 0 e) in sym (c.so_far ∙ rw (read_odd ws (2 * i) d))
+        by false e = checking_odd (omega arith) (λ q. eqb-false (length ws % 2) 0 e (omega arith)) (omega arith)

@@ -1,5 +1,5 @@
 -- A column of a known type, by its words: the type, and what is then said of its value. Assumes nothing.
-use Prim.Native.Nat.{ℕ, zero, suc, ◌/◌, ◌%◌, ◌^◌, ◌≤◌}
+use Prim.Native.Nat.{ℕ, zero, suc, ◌/◌, ◌%◌, ◌^◌, ◌≤◌, ◌<◌}
 use mathlib.Core.Path.{◌≡◌, refl, sym, ap, ◌∙◌}
 use mathlib.Core.Bool.{Bool, true, false, not, ◌&&◌, true≢false}
 use mathlib.Core.List.{List, [], ◌∷◌}
@@ -19,6 +19,7 @@ use Rattle.rules.specs.Conversions.{conversions_of}
 use Rattle.cell.specs.declared.CellItem.{CellItem}
 use Rattle.cell.specs.Cell.{is_number, Holds, taken, OtherIs}
 use Rattle.cell.proofs.ItemLaws.{holds_by}
+use Rattle.cell.proofs.NumberLaws.{number_need}
 use Rattle.cell.proofs.ReferLaws.{plain_in}
 use Rattle.words.specs.Words.{types_with, type_named}
 use Rattle.words.specs.Reading.{order_named, column_named}
@@ -132,6 +133,18 @@ module _ (a b : ℕ) where
 pub fixed : (n : ℕ) (s : List ℕ) → n ≡ need (Fixed n) s
 unfolding need
 fixed n s = refl
+
+-- of numbers the first word alone says how many bytes they take
+pub number_same : (a : ℕ) → a % 2 ^ 8 < 5 → (b d : ℕ) (s : List ℕ) → need (extent_of (column_named a b)) s ≡ need (extent_of (column_named a d)) s
+number_same a h b d s = by (a % 2 ^ 8) refl h
+  where
+    by : (k : ℕ) → a % 2 ^ 8 ≡ k → k < 5 → need (extent_of (column_named a b)) s ≡ need (extent_of (column_named a d)) s
+    by zero e l = sym (number_need (column_named a b) (small_int_is a b e) 2 refl s) ∙ number_need (column_named a d) (small_int_is a d e) 2 refl s
+    by (suc zero) e l = sym (number_need (column_named a b) (integer_is a b e) 4 refl s) ∙ number_need (column_named a d) (integer_is a d e) 4 refl s
+    by (suc (suc zero)) e l = sym (number_need (column_named a b) (big_int_is a b e) 8 refl s) ∙ number_need (column_named a d) (big_int_is a d e) 8 refl s
+    by (suc (suc (suc zero))) e l = sym (number_need (column_named a b) (real_is a b e) 4 refl s) ∙ number_need (column_named a d) (real_is a d e) 4 refl s
+    by (suc (suc (suc (suc zero)))) e l = sym (number_need (column_named a b) (double_is a b e) 8 refl s) ∙ number_need (column_named a d) (double_is a d e) 8 refl s
+    by (suc (suc (suc (suc (suc k))))) e l = absurd (omega arith)
 
 -- a VarChar within the row
 pub counted_is : (c : ColumnDescriptor) (n : ℕ) → bit8000 n ≡ false → type_extent (type.VarChar n) c ≡ Counted 1

@@ -129,6 +129,17 @@ fn copy_common(s: &[u8], i: usize, n: usize, out: &mut [u8])
     out[2] = s[i + 2];
 }
 
+// Copies the bytes of a sequence, one by one. By buffer's copy, which calls the C library for these few bytes, texts with malformed parts among characters
+// that begin E0 or ED took 1.2 to 1.6 of the time.
+fn copy_bytes(s: &[u8], out: &mut [u8])
+    requires { length s.now ≤ length out.old }
+    ensures { out.new ≡ overwritten s.now out.old }
+{
+    for (i, b) in s.iter().enumerate() {
+        out[i] = *b;
+    }
+}
+
 // No sequence begins with b: it is malformed by itself.
 fn begins_none(b: u8) -> bool
     ensures { result ≡ true → ((s : List ℕ) (i : ℕ) → get_or s i 0 ≡ b → PieceAt s i 1 false) }
@@ -149,7 +160,7 @@ fn write_sequence(s: &[u8], i: usize, out: &mut [u8]) -> Standing
     match first_at(s, i) {
         Standing::WellFormed(n) => {
             let e = i + n;
-            copy(&s[i..e], out);
+            copy_bytes(&s[i..e], out);
             Standing::WellFormed(n)
         }
         Standing::Malformed(n) => {

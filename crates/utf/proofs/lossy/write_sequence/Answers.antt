@@ -27,8 +27,8 @@ overflow_add-e c =
     let fits : I + N ≤ length S = piece_fits S I N true c.requires.0 piece in
     omega (arith, fits)
 
-pub slice_bounds-copy-end : goal.slice_bounds-copy-end
-slice_bounds-copy-end c =
+pub slice_bounds-copy_bytes-end : goal.slice_bounds-copy_bytes-end
+slice_bounds-copy_bytes-end c =
     let S : List ℕ = c.args.s.now in
     let I : ℕ = c.args.i in
     let N : ℕ = c.in-WellFormed.n in
@@ -36,8 +36,8 @@ slice_bounds-copy-end c =
     let fits : I + N ≤ length S = piece_fits S I N true c.requires.0 piece in
     fits
 
-pub copy-requires : goal.copy-requires
-copy-requires c =
+pub copy_bytes-requires : goal.copy_bytes-requires
+copy_bytes-requires c =
     let S : List ℕ = c.args.s.now in
     let I : ℕ = c.args.i in
     let N : ℕ = c.in-WellFormed.n in
@@ -58,7 +58,7 @@ returns-in-WellFormed c =
     let N : ℕ = c.in-WellFormed.n in
     let piece : PieceAt S I N true = (rw c.in-WellFormed.is at c.first_at.ensures) in
     let text : piece_text (first_at S I).piece ≡ take N (drop I S) = whole_text S I N c.requires.0 piece in
-    let q : I + N - I ≡ N = omega arith in record { piece = piece; bytes = c.copy.ensures.bytes ∙ rw (q, text) }
+    let q : I + N - I ≡ N = omega arith in record { piece = piece; bytes = c.copy_bytes.ensures ∙ rw (q, text) }
 
 pub returns-in-Malformed : goal.returns-in-Malformed
 returns-in-Malformed c =

@@ -2,15 +2,16 @@
 use Prim.Native.Nat.{ℕ, zero, suc, ◌-◌, ◌^◌, ◌<◌, ◌≤◌}
 use mathlib.Core.Bool.{Bool, true, false, cond}
 use mathlib.Core.List.{List}
-use mathlib.Core.Path.{◌≡◌, refl, sym, ap, ◌∙◌}
+use mathlib.Core.Path.{◌≡◌, refl, sym, ap, ◌∙◌, subst}
 use native.Mathlib.Omega.{arith}
+use native.Mathlib.Nat.{zero-add}
 use borrow.Author.Tests.{lt-ltb, le-ltb, le-leb, lt-leb, ne_eqb, ltb-false}
 use lib.Dec.{ltb}
-use lib.IntN.{ℤ, pos, neg_ℤ}
+use lib.IntN.{ℤ, pos, negsuc, neg_ℤ, ◌-ℤ◌, +ℤ_idl}
 use lib.ListN.{length}
 use mir.Syntax.{w64}
 use mir.Val.{SFits, to_z, of_z}
-use mir.ValLaws.{to_z-of_z}
+use mir.ValLaws.{to_z_pos, to_z-of_z}
 use Rattle.std.specs.Prelude.{Option, Some, None, Result, Ok, Err}
 use Rattle.std.specs.Option.{SomeIff}
 use Rattle.std.specs.Result.{OkIff, result_ok}
@@ -44,7 +45,29 @@ unfolding ranged_answer
 within_below scale zero h = refl
 within_below scale (suc n) h = rw (le-leb n (2 ^ 63 - 1) (omega arith))
 
--- what a sign and the digits' number make
+-- ---- -n as -1 - (n - 1), which is made within the range where n is 1 at least
+
+minus_one : (k : ℕ) → negsuc 0 -ℤ pos k ≡ negsuc k
+minus_one zero = refl
+minus_one (suc k) = ap (λ (j : ℕ). negsuc (suc j)) (zero-add k)
+
+negated : (n : ℕ) → (n ≡ 0 → ⊥) → negsuc (n - 1) ≡ neg_ℤ (pos n)
+negated zero z = absurd (z refl)
+negated (suc n) z = let e : suc n - 1 ≡ n = omega arith in ap negsuc e
+
+module _ (n : ℕ) (z : n ≡ 0 → ⊥) (h : n ≤ 2 ^ 63) where
+  below_zero : negsuc 0 -ℤ to_z w64 (n - 1) ≡ negsuc (n - 1)
+  below_zero = ap (λ (y : ℤ). negsuc 0 -ℤ y) (to_z_pos w64 (n - 1) (omega (arith, z))) ∙ minus_one (n - 1)
+
+  pub made_fits : SFits w64 (negsuc 0 -ℤ to_z w64 (n - 1))
+  made_fits = subst (SFits w64) (sym below_zero) (record { sfits = omega (arith, z) })
+
+  pub made_is : to_z w64 (of_z w64 (negsuc 0 -ℤ to_z w64 (n - 1))) ≡ neg_ℤ (pos n)
+  made_is = to_z-of_z w64 _ made_fits ∙ below_zero ∙ negated n z
+
+-- ---- what a sign and the digits' number make
+
+-- the number that they make
 abbrev pub made : coded.Sign → ℕ → ℤ
 made Plus n = pos n
 made Minus n = neg_ℤ (pos n)
@@ -60,9 +83,36 @@ ranged scale n Plus = (λ f. within scale n f.sfits, λ h. above scale n (omega 
 ranged scale zero Minus = (λ f. within_below scale 0 (omega arith), λ h. absurd (h (record { sfits = omega arith })))
 ranged scale (suc n) Minus = (λ f. within_below scale (suc n) (omega (arith, f.sfits)), λ h. below scale (suc n) (omega (arith, λ (a : n < 2 ^ 63). h (record { sfits = a }))))
 
-pub ok_some : {E : Type 0} (r : Result ℤ E) (p : Type 0) (z : ℤ) → OkIff r p z → SomeIff (result_ok r) p z
-ok_some (Ok x) p z h = h
-ok_some (Err e) p z h = h
+-- A number that is n, or is beyond the range as n is, is put into the type where n is. The code's is n itself; a program that hands on another is proved where
+-- that changes no answer, and refused where it does.
+pub put_in : {E : Type 0} (n m : ℕ) (r : Result ℤ E) → OkIff r (SFits w64 (pos m)) (pos m) → (n < 2 ^ 63 → m ≡ n) → (m < 2 ^ 63 → n < 2 ^ 63) → SomeIff (result_ok r) (SFits w64 (pos n)) (pos n)
+put_in n m (Ok x) (f, e) a b = rw (← a (b f.sfits)) (f, e)
+put_in n m (Err x) h a b = λ (f : SFits w64 (pos n)). h (rw (a f.sfits) f)
+
+least : (m : ℕ) → SFits w64 (neg_ℤ (pos m)) → m ≤ 2 ^ 63
+least zero f = omega arith
+least (suc m) f = omega (arith, f.sfits)
+
+negative : (n m : ℕ) (o : Option ℤ) → SomeIff o (SFits w64 (neg_ℤ (pos m))) (neg_ℤ (pos m)) → (n ≤ 2 ^ 63 → m ≡ n) → (m ≤ 2 ^ 63 → n ≤ 2 ^ 63) → SomeIff o (SFits w64 (neg_ℤ (pos n))) (neg_ℤ (pos n))
+negative n m (Some x) (f, e) a b = rw (← a (b (least m f))) (f, e)
+negative n m None h a b = λ (f : SFits w64 (neg_ℤ (pos n))). h (rw (a (least n f)) f)
+
+-- how far a number is from 0
+pub off : ℤ → ℕ
+off (pos n) = n
+off (negsuc n) = suc n
+
+pub off_is : (m : ℕ) → off (pos 0 -ℤ pos m) ≡ m
+unfolding off
+off_is zero = refl
+off_is (suc m) = ap off (+ℤ_idl (negsuc m))
+
+pub taken_is : (m : ℕ) → pos 0 -ℤ pos m ≡ neg_ℤ (pos (off (pos 0 -ℤ pos m)))
+taken_is m = +ℤ_idl (neg_ℤ (pos m)) ∙ ap (λ (k : ℕ). neg_ℤ (pos k)) (sym (off_is m))
+
+-- the same of what is taken from 0
+pub taken_off : (n : ℕ) (z : ℤ) (o : Option ℤ) → SomeIff o (SFits w64 z) z → z ≡ neg_ℤ (pos (off z)) → (n ≤ 2 ^ 63 → off z ≡ n) → (off z ≤ 2 ^ 63 → n ≤ 2 ^ 63) → SomeIff o (SFits w64 (neg_ℤ (pos n))) (neg_ℤ (pos n))
+taken_off n z o h e a b = negative n (off z) o (subst (λ (y : ℤ). SomeIff o (SFits w64 y) y) e h) a b
 
 signed_made : (scale n : ℕ) (g : coded.Sign) → signed_answer scale n (told_sign (Some g)) ≡ ranged_answer scale (made g n)
 signed_made scale n Plus = refl

@@ -173,15 +173,15 @@ static void fields_of_values(void) {
     CHECK(vejupa_value_is_null(&null) && !vejupa_value_is_null(&small_int));
 }
 
-/* The bytes of a value of so many words. */
+/* The bytes of a value of so many words. Before the call they are others: one of the texts. */
 static struct vejupa_bytes bytes_of(const uint64_t *value, size_t words, const uint8_t *data, size_t data_len, const uint8_t *texts, size_t texts_len) {
-    struct vejupa_bytes bytes = {data, 1};
+    struct vejupa_bytes bytes = {texts, 1};
     vejupa_raw_value_bytes(value, words, data, data_len, texts, texts_len, &bytes);
     return bytes;
 }
 
 /* Whether a value's bytes are `len` bytes from a place on, or none where they do not fit. Bits of the first word above the sort do not matter, nor do
- * words after the third. */
+ * words after the third. Fewer than three words have none: the row's beginning is handed out. */
 static void is_part(uint64_t sort, uint64_t place, uint64_t len, int fits) {
     static uint8_t data[4], texts[8];
     const struct vejupa_value value = {{sort, place, len}};
@@ -189,15 +189,18 @@ static void is_part(uint64_t sort, uint64_t place, uint64_t len, int fits) {
     struct vejupa_bytes part = vejupa_value_bytes(&value, data, sizeof data, texts, sizeof texts);
     struct vejupa_bytes same = bytes_of(more, 5, data, sizeof data, texts, sizeof texts);
     const uint8_t *within = vejupa_value_is_text(&value) ? texts : data;
+    size_t words;
     CHECK(part.length == (fits ? len : 0));
     CHECK(part.start == (fits ? within + place : within));
     CHECK(same.start == part.start && same.length == part.length);
-    CHECK(bytes_of(value.words, 2, data, sizeof data, texts, sizeof texts).length == 0);
-    CHECK(bytes_of(value.words, 0, data, sizeof data, texts, sizeof texts).length == 0);
+    for (words = 0; words < VEJUPA_VALUE_WORDS; words++) {
+        same = bytes_of(value.words, words, data, sizeof data, texts, sizeof texts);
+        CHECK(same.start == data && same.length == 0);
+    }
     CHECK(vejupa_value_bytes(&value, NULL, 0, NULL, 0).length == 0);
 }
 
-/* A part of the row or of the texts, and an empty one for whatever has none or does not fit. */
+/* A part of the row or of the texts, and an empty one for whatever has none or does not fit: at the first byte of the one that it would be in, or of the row. */
 static void bytes_of_values(void) {
     uint64_t sort;
     for (sort = VEJUPA_SORT_NULL; sort <= VEJUPA_SORT_XML + 1; sort++) {

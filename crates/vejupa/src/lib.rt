@@ -371,7 +371,7 @@ pub fn vejupa_raw_value_bytes<'a>(
     ensures { bytes.new.now ≡ words_bytes value_words.now «data».now text.now }
 {
     let &[kind, number, len, ..] = value_words else {
-        *bytes = &[];
+        *bytes = &data[..0];
         return;
     };
     let place = ValueWords { kind, number, len }.value_place();

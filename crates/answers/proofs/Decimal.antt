@@ -1,13 +1,14 @@
--- The digits of a number as it is printed: they are its last ones, and all of them. Assumes nothing.
+-- The digits of a number as it is printed: they are its last ones, and all of them. And one digit more of a number that is read. Assumes nothing.
 use Prim.Native.Nat.{ℕ, suc, ◌+◌, ◌*◌, ◌/◌, ◌%◌, ◌^◌, ◌<◌, ◌≤◌}
 use mathlib.Core.Bool.{Bool, cond}
 use mathlib.Core.List.{List, [], ◌∷◌, ◌++◌}
-use mathlib.Core.Path.{◌≡◌, ap, ◌∙◌, subst}
+use mathlib.Core.Path.{◌≡◌, sym, ap, ◌∙◌, subst}
 use native.Mathlib.Omega.{arith}
 use native.Mathlib.Nat.{pow-suc}
 use native.Mathlib.Numerals.{add-one}
 use borrow.Author.Tests.{lt-ltb}
-use lib.ListN.{length, length-append}
+use lib.ListN.{length, length-append, take, get_or}
+use lib.Seq.{take-suc}
 use Rattle.io.specs.Digits.{last_digits, hex_digit_ascii}
 use Rattle.std.specs.Prelude.{decimal}
 use Rattle.std.proofs.lemmas.Fmt.{decimal_by_steps}
@@ -15,6 +16,17 @@ use Rattle.answers.specs.Lines.{IsNumber}
 
 glyph_is : (d : ℕ) → d < 10 → hex_digit_ascii d ≡ 48 + d
 glyph_is d small = ap (λ (t : Bool). cond t (48 + d) (87 + d)) (lt-ltb d 10 small)
+
+pub read_digit : (s : List ℕ) (i n d : ℕ) → i < length s → d < 10 → 48 + d ≡ get_or s i 0 → last_digits 10 i n ≡ take i s → last_digits 10 (i + 1) (n * 10 + d) ≡ take (i + 1) s
+read_digit s i n d there small here so_far =
+    let whole : (n * 10 + d) / 10 ≡ n = omega arith in
+    let last : (n * 10 + d) % 10 ≡ d = omega arith in
+    ap (λ (k : ℕ). last_digits 10 k (n * 10 + d)) (add-one i)
+    ∙ ap (λ (m : ℕ). last_digits 10 i m ++ (hex_digit_ascii ((n * 10 + d) % 10) ∷ [])) whole
+    ∙ ap (λ (m : ℕ). last_digits 10 i n ++ (hex_digit_ascii m ∷ [])) last
+    ∙ ap (λ (x : ℕ). last_digits 10 i n ++ (x ∷ [])) (glyph_is d small ∙ here)
+    ∙ ap (λ (t : List ℕ). t ++ (get_or s i 0 ∷ [])) so_far
+    ∙ sym (ap (λ (k : ℕ). take k s) (add-one i) ∙ take-suc s i 0 there)
 
 one_digit : (n : ℕ) → n < 10 → IsNumber ((48 + n) ∷ []) n
 one_digit n small =

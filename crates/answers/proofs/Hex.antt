@@ -1,12 +1,11 @@
 -- Bytes read from upper-case hexadecimal: a byte from two digits, and one byte more. Assumes nothing.
-use Prim.Native.Nat.{ℕ, suc, ◌+◌, ◌*◌, ◌/◌, ◌%◌, ◌<◌}
+use Prim.Native.Nat.{ℕ, suc, ◌+◌, ◌-◌, ◌*◌, ◌/◌, ◌%◌, ◌<◌, ◌≤◌}
 use mathlib.Core.List.{List, [], ◌∷◌, ◌++◌, append_assoc}
 use mathlib.Core.Path.{◌≡◌, refl, sym, ap, ◌∙◌}
 use native.Mathlib.Omega.{arith}
 use native.Mathlib.Numerals.{add-one}
-use lib.ListN.{length, take, get_or, set}
-use lib.Seq.{take-suc, take-suc-set}
-use Rattle.std.proofs.Common.{Bor}
+use lib.ListN.{length, take, get_or, set, replicate, length-replicate}
+use lib.Seq.{take-suc, take-suc-set, take_at, length-take-le}
 use Rattle.std.specs.Prelude.{Option, None, Some, IfSome}
 use Rattle.conversion.specs.Hex.{hex_digit, hex_text}
 use Rattle.answers.specs.Lines.{bytes_field}
@@ -52,12 +51,19 @@ read_pair (x ∷ []) b l e = let n : ◌≡◌ {A = ℕ} 1 2 = l in absurd (omeg
 read_pair (x ∷ y ∷ []) b l (high, low) = ap (λ (h : ℕ). h ∷ hex_digit (b % 16) ∷ []) high ∙ ap (λ (h : ℕ). x ∷ h ∷ []) low
 read_pair (x ∷ y ∷ z ∷ s) b l e = let n : suc (suc (suc (length s))) ≡ 2 = l in absurd (omega arith)
 
+-- a part of n bytes, all made the same, is what then stands first
+pub first_bytes : (n b : ℕ) (out f rest : List ℕ) → n ≤ length out → f ≡ replicate (length (take (n - 0) out)) b → take n (f ++ rest) ≡ replicate n b
+first_bytes n b out f rest room same =
+    let whole : n - 0 ≡ n = omega arith in
+    let count : length (take (n - 0) out) ≡ n = ap (λ (k : ℕ). length (take k out)) whole ∙ length-take-le n out room in
+    ap (λ (t : List ℕ). take n (t ++ rest)) (same ∙ ap (λ (k : ℕ). replicate k b) count) ∙ take_at (replicate n b) rest n (length-replicate n b)
+
 -- digits are a field of bytes where there is one
 pub as_field : (t : List ℕ) {s : List ℕ} → (length s ≡ 0 → ⊥) → hex_text t ≡ s → bytes_field t ≡ s
 unfolding hex_text bytes_field
 as_field [] there e = absurd (there (sym (ap length e)))
 as_field (b ∷ t) there e = e
 
-pub as_some_field : (r : Option (Bor (List ℕ))) (s : List ℕ) → (length s ≡ 0 → ⊥) → IfSome r (λ b. hex_text b.now ≡ s) → IfSome r (λ b. bytes_field b.now ≡ s)
-as_some_field None s there e = e
-as_some_field (Some b) s there e = as_field b.now there e
+pub as_some_field : (r : Option ℕ) (out s : List ℕ) → (length s ≡ 0 → ⊥) → IfSome r (λ n. hex_text (take n out) ≡ s) → IfSome r (λ n. bytes_field (take n out) ≡ s)
+as_some_field None out s there e = e
+as_some_field (Some n) out s there e = as_field (take n out) there e

@@ -186,7 +186,9 @@ fn origin_of(s: &[u8]) -> Option<Origin> {
 }
 
 // The column that a field writes, if it writes one: behind_columns tells whether it writes just that.
-fn column_of(s: &[u8], column_index: u8) -> Option<ColumnDescriptor> {
+pub fn read_column(s: &[u8], column_index: u8) -> Option<ColumnDescriptor>
+    ensures { IfSome result (λ column. column.column_index ≡ column_index) }
+{
     Some(ColumnDescriptor {
         column_index,
         drda_type: code_of(part(s, 1, b':'))?,
@@ -202,13 +204,47 @@ fn column_of(s: &[u8], column_index: u8) -> Option<ColumnDescriptor> {
     })
 }
 
+// The same, with 0, false, no type, an SDA's and big-endian in the place of each part that is none.
+pub fn column_of(s: &[u8], index: u8) -> ColumnDescriptor
+    ensures { result.column_index ≡ index }
+{
+    ColumnDescriptor {
+        column_index: index,
+        drda_type: code_of(part(s, 1, b':')).unwrap_or(0),
+        length: read(part(s, 2, b':')).unwrap_or(0),
+        precision: read(part(s, 3, b':')).unwrap_or(0),
+        scale: read(part(s, 4, b':')).unwrap_or(0),
+        nullable: number(part(s, 5, b':'), 1) == Some(1),
+        origin: origin_of(part(s, 9, b':')).unwrap_or(Origin::Sda),
+        ccsid: read(part(s, 6, b':')).unwrap_or(0),
+        db2_type: type_of(part(s, 0, b':')).unwrap_or(Db2Type::Null),
+        byte_order: order_of(part(s, 8, b':')).unwrap_or(ByteOrder::BigEndian),
+        extdta_reference_length: reference_of(part(s, 7, b':')).unwrap_or(Some(0)),
+    }
+}
+
 // The columns that stand in a line from its field 2 on, as many as field 1 says and a list has places for, if each is one: behind_columns tells whether they
 // are written so.
-pub fn columns_of(line: &[u8]) -> Option<Columns> {
+pub fn read_columns(line: &[u8]) -> Option<Columns>
+    ensures numbered { IfSome result (λ list. (k : ℕ) → k < list.count → k < max_columns → (get_or list.columns k blank_column).column_index ≡ k) }
+{
     let count = usize::from(read::<u16>(field(line, 1))?);
     let mut columns = [ColumnDescriptor::default(); MAX_COLUMNS];
-    for (i, column) in columns.iter_mut().take(count).enumerate() {
-        *column = column_of(field(line, i + 2), u8::try_from(i).ok()?)?;
+    for i in 0..count.min(MAX_COLUMNS) {
+        columns[i] = read_column(field(line, i + 2), i as u8)?;
     }
     Some(Columns { columns, count })
+}
+
+// The same of a line that may write none, with no columns where field 1 is no number, and each column as column_of has it.
+pub fn columns_of(line: &[u8]) -> Columns
+    ensures count { result.count < 65536 }
+    ensures numbered { (k : ℕ) → k < result.count → k < max_columns → (get_or result.columns k blank_column).column_index ≡ k }
+{
+    let count = usize::from(read(field(line, 1)).unwrap_or(0u16));
+    let mut columns = [column_of(b"", 0); MAX_COLUMNS];
+    for i in 0..count.min(MAX_COLUMNS) {
+        columns[i] = column_of(field(line, i + 2), i as u8);
+    }
+    Columns { columns, count }
 }

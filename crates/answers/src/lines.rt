@@ -1,6 +1,6 @@
 // The parts of a line of the list of stored answers: fields parted by one space, decimal numbers, bytes in upper-case hexadecimal, one byte many
 // times. It knows no kind of line.
-ghost use Rattle.std.specs.Prelude.{◌≡◌, List, ℕ, ◌+◌, ◌/◌, ◌%◌, ◌<◌, ◌≤◌, ◌++◌, length, get_or, IfSome};
+ghost use Rattle.std.specs.Prelude.{◌≡◌, List, ℕ, ◌+◌, ◌/◌, ◌%◌, ◌<◌, ◌≤◌, ◌++◌, length, get_or, take, IfSome};
 ghost use Rattle.conversion.specs.Hex.{hex_digit, hex_text};
 ghost use Rattle.answers.specs.Lines.{bytes_field, IsNumber, Repeats, Says};
 
@@ -104,22 +104,22 @@ pub(crate) fn hex_pair(high: u8, low: u8) -> Option<u8>
     Some(16 * h + l)
 }
 
-// The bytes of a field, put at the beginning of out. Two digits a byte, and `-` for no bytes.
+// The bytes of a field, put at the beginning of out, and their number. Two digits a byte, and `-` for no bytes.
 #[tactic(auto, using(crate::proofs::Hex::as_some_field))]
-pub fn bytes<'a>(s: &[u8], out: &'a mut [u8]) -> Option<&'a [u8]>
-    ensures bytes { IfSome result (λ bs. bytes_field bs.now ≡ s.now) }
-    ensures fits { IfSome result (λ bs. length bs.now ≤ length out.old) }
+pub fn bytes(s: &[u8], out: &mut [u8]) -> Option<usize>
+    ensures bytes { IfSome result (λ n. bytes_field (take n out.new) ≡ s.now) }
+    ensures fits { IfSome result (λ n. n ≤ length out.new) }
 {
     match s {
-        b"-" => Some(&[]),
+        b"-" => Some(0),
         [_, ..] => hex_bytes(s, out),
         [] => None,
     }
 }
 
-fn hex_bytes<'a>(s: &[u8], out: &'a mut [u8]) -> Option<&'a [u8]>
-    ensures bytes { IfSome result (λ bs. hex_text bs.now ≡ s.now) }
-    ensures fits { IfSome result (λ bs. length bs.now ≤ length out.old) }
+fn hex_bytes(s: &[u8], out: &mut [u8]) -> Option<usize>
+    ensures bytes { IfSome result (λ n. hex_text (take n out.new) ≡ s.now) }
+    ensures fits { IfSome result (λ n. n ≤ length out.new) }
 {
     let n = s.len() / 2;
     if out.len() < n || 2 * n < s.len() {
@@ -129,13 +129,13 @@ fn hex_bytes<'a>(s: &[u8], out: &'a mut [u8]) -> Option<&'a [u8]>
     for i in 0..n {
         out[i] = hex_pair(s[2 * i], s[2 * i + 1])?;
     }
-    Some(&out[..n])
+    Some(n)
 }
 
-// The bytes of a field that may also write one byte many times, as `00*1048577`.
-pub fn bytes_or_repeated<'a>(s: &[u8], out: &'a mut [u8]) -> Option<&'a [u8]>
-    ensures bytes { IfSome result (λ bs. Says s.now bs.now) }
-    ensures fits { IfSome result (λ bs. length bs.now ≤ length out.old) }
+// The bytes of a field that may also write one byte many times, as `00*1048577`, put at the beginning of out, and their number.
+pub fn bytes_or_repeated(s: &[u8], out: &mut [u8]) -> Option<usize>
+    ensures bytes { IfSome result (λ n. Says s.now (take n out.new)) }
+    ensures fits { IfSome result (λ n. n ≤ length out.new) }
 {
     let (pair, rest) = cut(s, b'*');
     match rest {
@@ -145,15 +145,18 @@ pub fn bytes_or_repeated<'a>(s: &[u8], out: &'a mut [u8]) -> Option<&'a [u8]>
 }
 
 // The byte that two digits write, so many times.
-fn repeated<'a>(pair: &[u8], times: &[u8], out: &'a mut [u8]) -> Option<&'a [u8]>
-    ensures bytes { IfSome result (λ bs. Repeats pair.now times.now bs.now) }
-    ensures fits { IfSome result (λ bs. length bs.now ≤ length out.old) }
+fn repeated(pair: &[u8], times: &[u8], out: &mut [u8]) -> Option<usize>
+    ensures bytes { IfSome result (λ n. Repeats pair.now times.now (take n out.new)) }
+    ensures fits { IfSome result (λ n. n ≤ length out.new) }
 {
     let &[high, low] = pair else {
         return None;
     };
     let b = hex_pair(high, low)?;
-    let bytes = out.get_mut(..number(times, MOST_TIMES)?)?;
-    bytes.fill(b);
-    Some(bytes)
+    let n = number(times, MOST_TIMES)?;
+    if out.len() < n {
+        return None;
+    }
+    out[..n].fill(b);
+    Some(n)
 }

@@ -1,21 +1,36 @@
 // The answer of the row call, as a line says it.
-use printing::Hex;
+use conversion::hex::hex_digit;
 use refusal::Refusal;
 use row::value_bytes;
 use std::fmt;
 use std::num::{f32_to_bits_with_nan, f64_to_bits_with_nan};
+use std::str::from_utf8;
 use types::{Db2Value, Row, ValuePlace};
 
-// The bytes of a field, `-` for none.
+// So many bytes are written at once, by two digits each.
+const BLOCK: usize = 64;
+
+const DIGITS: usize = 128;
+
+// The bytes of a field, `-` for none. By blocks, and not by printing::Hex, which writes byte by byte: texts have thousands of bytes.
 #[derive(Clone, Copy)]
 struct BytesField<'a>(&'a [u8]);
 
 impl fmt::Display for BytesField<'_> {
     fn fmt<W: fmt::Write>(&self, f: &mut fmt::Formatter<W>) -> fmt::Result {
-        match self.0 {
-            [] => f.write_str("-"),
-            bytes => write!(f, "{}", Hex(bytes)),
+        if self.0.is_empty() {
+            return f.write_str("-");
         }
+        for block in self.0.chunks(BLOCK) {
+            let mut digits = [0u8; DIGITS];
+            for (i, b) in block.iter().take(BLOCK).enumerate() {
+                digits[2 * i] = hex_digit(b / 16);
+                digits[2 * i + 1] = hex_digit(b % 16);
+            }
+            let written = digits.get(..2 * block.len()).ok_or(fmt::Error)?;
+            f.write_str(from_utf8(written).map_err(|_| fmt::Error)?)?;
+        }
+        Ok(())
     }
 }
 

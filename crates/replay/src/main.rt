@@ -6,7 +6,9 @@
 // columns' origins, and whether a description breaks off. n is parse_whole_qrydsc and w decode_packed_whole, which the Rust lacks, both without a release.
 #![tactic(auto)]
 
-use answers::columns::{Ending, behind_columns, columns_of, type_of};
+ghost use Rattle.std.specs.Prelude.{◌≤◌, length};
+
+use answers::columns::{Ending, behind_columns, read_columns, type_of};
 use answers::lines::{
     behind_parts, bytes, bytes_or_repeated, cut, field, field_count, number, split_answer,
 };
@@ -17,8 +19,7 @@ use decimal::{WholeNumber, decode_packed_whole};
 use qrydsc::{Description, parse_qrydsc, parse_whole_qrydsc};
 use refusal::Refusal;
 use row::decode_row;
-use std::io;
-use std::io::{BufRead, BufReader, Read};
+use std::io::{Print, Read, Stdout};
 use types::{Columns, Row};
 
 // The release of a line that states none.
@@ -156,9 +157,9 @@ impl TextCall<'_> {
     fn answers(self, full: bool, answer: &[u8], want: &mut [u8], text: &mut [u8]) -> bool {
         let (told, rest) = cut(answer, b' ');
         match bytes(told, want) {
-            Some(want) => {
+            Some(n) => {
                 let stored = Stored {
-                    text: want,
+                    text: &want[..n],
                     full,
                     rest,
                 };
@@ -268,8 +269,11 @@ impl Line<'_> {
             },
             _ => Function::Decimal(read(held)?),
         };
-        let data = bytes_or_repeated(field(self.request, 2), &mut buffers.data)?;
-        let call = TextCall { function, data };
+        let n = bytes_or_repeated(field(self.request, 2), &mut buffers.data)?;
+        let call = TextCall {
+            function,
+            data: &buffers.data[..n],
+        };
         Some(call.answers(
             self.stated.is_full(),
             self.answer,
@@ -283,8 +287,8 @@ impl Line<'_> {
         if field_count(self.request) != 2 {
             return None;
         }
-        let data = bytes_or_repeated(field(self.request, 1), &mut buffers.data)?;
-        let is_likely = text::bytes_are_likely_text(data);
+        let n = bytes_or_repeated(field(self.request, 1), &mut buffers.data)?;
+        let is_likely = text::bytes_are_likely_text(&buffers.data[..n]);
         Some(says(self.answer, u8::from(is_likely)))
     }
 
@@ -302,10 +306,10 @@ impl Line<'_> {
 
     // The row of a Q or H line, whose columns are known: the field that the rest of the request begins with.
     fn row(self, columns: &Columns, rest: &[u8], buffers: &mut Buffers) -> Option<bool> {
-        let row = bytes_or_repeated(field(rest, 0), &mut buffers.data)?;
+        let n = bytes_or_repeated(field(rest, 0), &mut buffers.data)?;
         let call = RowCall {
             columns,
-            row,
+            row: &buffers.data[..n],
             stated: self.stated,
         };
         Some(call.answers(self.answer, &mut buffers.text))
@@ -317,9 +321,9 @@ impl Line<'_> {
         if !matches!(field(request, 2), b"R") {
             return None;
         }
-        let description = bytes_or_repeated(field(request, 1), &mut buffers.data)?;
+        let n = bytes_or_repeated(field(request, 1), &mut buffers.data)?;
         let told = behind_parts(request, 4, b' ');
-        match parse_qrydsc(description) {
+        match parse_qrydsc(&buffers.data[..n]) {
             Ok(described) if is_told(&described, self.stated.is_full(), told) => {
                 let row = behind_parts(request, 3, b' ');
                 self.row(&described.columns, row, buffers)
@@ -334,8 +338,8 @@ impl Line<'_> {
         if field_count(self.request) != 2 {
             return None;
         }
-        let description = bytes_or_repeated(field(self.request, 1), &mut buffers.data)?;
-        match parse_whole_qrydsc(description) {
+        let n = bytes_or_repeated(field(self.request, 1), &mut buffers.data)?;
+        match parse_whole_qrydsc(&buffers.data[..n]) {
             Ok(described) => {
                 let behind = behind_columns(self.answer, true, &described.columns);
                 Some(!described.broken_off && behind == Some(&[]))
@@ -350,8 +354,8 @@ impl Line<'_> {
             return None;
         }
         let scale = read(field(self.request, 1))?;
-        let data = bytes_or_repeated(field(self.request, 2), &mut buffers.data)?;
-        match decode_packed_whole(data, scale) {
+        let n = bytes_or_repeated(field(self.request, 2), &mut buffers.data)?;
+        match decode_packed_whole(&buffers.data[..n], scale) {
             Ok(WholeNumber { number, scale }) => {
                 Some(says(self.answer, format_args!("{number} {scale}")))
             }
@@ -361,7 +365,7 @@ impl Line<'_> {
 
     // H: `H <columns> R <row>`.
     fn own_columns(self, buffers: &mut Buffers) -> Option<bool> {
-        let columns = columns_of(self.request)?;
+        let columns = read_columns(self.request)?;
         let told = behind_parts(self.request, 1, b' ');
         let rest = behind_columns(told, self.stated.is_full(), &columns)?;
         self.row(&columns, rest.strip_prefix(b" R ")?, buffers)
@@ -418,33 +422,84 @@ fn replay_line(line: &[u8], buffers: &mut Buffers) -> Option<bool> {
     line.replay(buffers)
 }
 
-// Replays the list to its end. Nothing says that an input ends, so the loop has as many turns as no run uses up.
-fn replay(rt: &HostRuntime, buffers: &mut Buffers) -> io::Result<()> {
-    let mut input = BufReader::new(rt.alloc(), rt.stdin())?;
-    let mut line = Vec::new(rt.alloc());
-    let mut same: u64 = 0;
-    for lines in 0..u64::MAX {
-        line.clear();
-        // No From makes 64 bits of a usize.
-        let n = input
-            .by_ref()
-            .take(LINE as u64)
-            .read_until(b'\n', &mut line)?;
-        if n == 0 {
-            return println!(rt; "{lines} lines, {same} same");
-        }
-        let number = lines + 1;
-        let whole = line.strip_suffix(b"\n");
-        if n == LINE && whole.is_none() {
-            return println!(rt; "line {number} is too long");
-        }
-        match replay_line(whole.unwrap_or(&line), buffers) {
-            Some(true) => same = same.wrapping_add(1),
-            Some(false) => println!(rt; "line {number} differs")?,
-            None => println!(rt; "line {number} is no request")?,
+// Says something of a line, in three writes. One that fails is passed over, here and below, and the next is tried all the same.
+fn say(out: Stdout, line: u64, what: &str) {
+    let _ = out.print("line ");
+    let _ = out.print(line);
+    let _ = out.print(what);
+}
+
+// The lines that were replayed, and those of them that were the same.
+#[derive(Clone, Copy)]
+struct Counts {
+    lines: u64,
+    same: u64,
+}
+
+impl Counts {
+    // Replays a line, counts it, and says what is to be said of it.
+    fn replay(&mut self, out: Stdout, line: &[u8], buffers: &mut Buffers) {
+        self.lines = self.lines.wrapping_add(1);
+        match replay_line(line, buffers) {
+            Some(true) => self.same = self.same.wrapping_add(1),
+            Some(false) => say(out, self.lines, " differs\n"),
+            None => say(out, self.lines, " is no request\n"),
         }
     }
-    Ok(())
+
+    fn finish(self, out: Stdout) {
+        let _ = out.print(self.lines);
+        let _ = out.print(" lines, ");
+        let _ = out.print(self.same);
+        let _ = out.print(" same\n");
+    }
+}
+
+// Moves what stands from a place on to the beginning, and answers its length.
+fn move_down(list: &mut [u8], from: usize) -> usize
+    ensures { result ≤ length list.new }
+{
+    let count = list.len().saturating_sub(from);
+    for i in 0..count {
+        list[i] = list[from + i];
+    }
+    count
+}
+
+// Replays the list to its end. Nothing says that an input ends, so the loop has as many turns as no run uses up. A part of the list is read into an array, behind
+// the line that is begun there: a BufReader would be allocated, and reads on where a read gave nothing.
+fn replay(rt: &HostRuntime, buffers: &mut Buffers) {
+    let out = rt.stdout();
+    let mut input = rt.stdin();
+    let mut list = [0u8; LINE];
+    let mut begun = 0;
+    let mut counts = Counts { lines: 0, same: 0 };
+    for _ in 0..u64::MAX {
+        if begun == LINE {
+            say(out, counts.lines.wrapping_add(1), " is too long\n");
+            return;
+        }
+        let Ok(n) = input.read(&mut list[begun..]) else {
+            let _ = out.print("the list cannot be read\n");
+            return;
+        };
+        if n == 0 {
+            if begun > 0 {
+                counts.replay(out, &list[..begun], buffers);
+            }
+            counts.finish(out);
+            return;
+        }
+        let read = &mut list[..begun + n];
+        let whole = read
+            .iter()
+            .rposition(|&b| b == b'\n')
+            .map_or(0, |at| at + 1);
+        for line in read[..whole].split_inclusive(|&b| b == b'\n') {
+            counts.replay(out, line.strip_suffix(b"\n").unwrap_or(line), buffers);
+        }
+        begun = move_down(read, whole);
+    }
 }
 
 fn main(rt: HostRuntime) {
@@ -453,7 +508,5 @@ fn main(rt: HostRuntime) {
         want: [0u8; BYTES],
         text: [0u8; TEXT],
     };
-    if replay(&rt, &mut buffers).is_err() {
-        let _ = println!(rt; "the list cannot be read");
-    }
+    replay(&rt, &mut buffers);
 }

@@ -5,7 +5,7 @@ ghost use Rattle.types.specs.Places.{blank_column, max_columns};
 use crate::lines::{behind_parts, cut, field, hex_pair, number, part};
 use crate::rest::{Rest, read, says};
 use printing::OrDash;
-use printing::type_names::{Numbers, name_of, numbers_of};
+use printing::type_names::{Numbers, name_of_type, numbers_of};
 use std::fmt;
 use std::fmt::Write;
 use types::{ByteOrder, ColumnDescriptor, Columns, Db2Type, MAX_COLUMNS, Origin};
@@ -16,7 +16,7 @@ struct TypeField(Db2Type);
 
 impl fmt::Display for TypeField {
     fn fmt<W: fmt::Write>(&self, f: &mut fmt::Formatter<W>) -> fmt::Result {
-        let name = name_of(self.0);
+        let name = name_of_type(self.0);
         match numbers_of(self.0) {
             Numbers::None => f.write_str(name),
             Numbers::One(n) => write!(f, "{name}.{n}"),

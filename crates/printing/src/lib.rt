@@ -1,15 +1,18 @@
 // Inner. How the programs print: here bytes in hexadecimal, their number and where they lie, and texts with what can't be seen in them escaped. In
-// `type_names`: the types by their names; in `characters`: which characters of a text are shown as they are. Floats are printed by the library.
+// `lines`: what keeps lines and writes them out; in `type_names`: the types by their names; in `characters`: which characters of a text are shown as they are.
+// Floats are printed by the library.
 #![tactic(auto)]
 
 ghost use Rattle.std.specs.Prelude.{Some, codes};
 ghost use Rattle.printing.specs.Counts.{counted, or_dash};
 
 mod characters;
+mod lines;
 pub mod type_names;
 
 use arrayvec::ArrayString;
-use characters::is_hidden;
+use characters::is_escaped;
+pub use lines::Line;
 use std::fmt;
 use std::fmt::Write;
 
@@ -103,25 +106,30 @@ impl fmt::Display for Quoted<'_> {
     fn fmt<W: fmt::Write>(&self, f: &mut fmt::Formatter<W>) -> fmt::Result {
         f.write_str("\"")?;
         for c in self.0.chars() {
-            write_escaped(f, c)?;
+            write!(f, "{}", Escaped(c))?;
         }
         f.write_str("\"")
     }
 }
 
 // A character of a quoted text. What is hidden is shown by its number: two, four or six hexadecimal digits.
-fn write_escaped<W: fmt::Write>(f: &mut fmt::Formatter<W>, c: char) -> fmt::Result {
-    match c {
-        '\n' => f.write_str("\\n"),
-        '\r' => f.write_str("\\r"),
-        '\t' => f.write_str("\\t"),
-        '"' | '\\' => write!(f, "\\{c}"),
-        _ if !is_hidden(c) => f.write_char(c),
-        _ => match u32::from(c) {
-            code @ 0..=0xFF => write!(f, "\\u{{{code:02X}}}"),
-            code @ 0x100..=0xFFFF => write!(f, "\\u{{{code:04X}}}"),
-            code => write!(f, "\\u{{{code:06X}}}"),
-        },
+#[derive(Clone, Copy)]
+struct Escaped(char);
+
+impl fmt::Display for Escaped {
+    fn fmt<W: fmt::Write>(&self, f: &mut fmt::Formatter<W>) -> fmt::Result {
+        match self.0 {
+            '\n' => f.write_str("\\n"),
+            '\r' => f.write_str("\\r"),
+            '\t' => f.write_str("\\t"),
+            c @ ('"' | '\\') => write!(f, "\\{c}"),
+            c if !is_escaped(c) => f.write_char(c),
+            c => match u32::from(c) {
+                code @ 0..=0xFF => write!(f, "\\u{{{code:02X}}}"),
+                code @ 0x100..=0xFFFF => write!(f, "\\u{{{code:04X}}}"),
+                code => write!(f, "\\u{{{code:06X}}}"),
+            },
+        }
     }
 }
 

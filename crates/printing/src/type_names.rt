@@ -1,14 +1,16 @@
 // The names of the column types, for programs that print or read types.
-ghost use Rattle.std.specs.Prelude.{◌≡◌};
-ghost use Rattle.types.specs.Names.{own_numbers};
-ghost use Rattle.printing.specs.TypeNames.{as_one};
+ghost use Rattle.std.specs.Prelude.{◌≡◌, ◌≤◌, [], get_or, MatchOption};
+ghost use Rattle.types.specs.Names.{name_of, own_numbers};
+ghost use Rattle.printing.specs.TypeNames.{as_one, count_of, type_names, number_counts};
 
 use crate::write_padded;
 use std::fmt;
 use types::Db2Type;
 
 // Written out: the names that a derive of Debug would print have the numbers with them, in its own form.
-pub fn name_of(t: Db2Type) -> &'static str {
+pub fn name_of_type(t: Db2Type) -> &'static str
+    ensures { result.now ≡ get_or type_names (name_of t) [] }
+{
     match t {
         Db2Type::SmallInt => "SmallInt",
         Db2Type::Integer => "Integer",
@@ -52,7 +54,8 @@ pub enum Numbers {
 }
 
 pub fn numbers_of(t: Db2Type) -> Numbers
-    ensures { as_one result ≡ own_numbers t }
+    ensures numbers { as_one result ≡ own_numbers t }
+    ensures count { count_of result ≡ get_or number_counts (name_of t) 0 }
 {
     match t {
         Db2Type::Decimal { precision, scale } => Numbers::Two(precision, scale),
@@ -70,13 +73,78 @@ pub fn numbers_of(t: Db2Type) -> Numbers
     }
 }
 
+// A type with this tag, its place in the enum. The numbers that it holds are of no account.
+fn type_with(tag: usize) -> Option<Db2Type>
+    ensures { MatchOption result (29 ≤ tag) (λ t. name_of t ≡ tag) }
+{
+    Some(match tag {
+        0 => Db2Type::SmallInt,
+        1 => Db2Type::Integer,
+        2 => Db2Type::BigInt,
+        3 => Db2Type::Real,
+        4 => Db2Type::Double,
+        5 => Db2Type::Decimal {
+            precision: 0,
+            scale: 0,
+        },
+        6 => Db2Type::DecFloat(0),
+        7 => Db2Type::Char(0),
+        8 => Db2Type::VarChar(0),
+        9 => Db2Type::LongVarChar,
+        10 => Db2Type::Clob,
+        11 => Db2Type::Binary(0),
+        12 => Db2Type::VarBinary(0),
+        13 => Db2Type::Blob,
+        14 => Db2Type::BlobLocator,
+        15 => Db2Type::Date,
+        16 => Db2Type::Time,
+        17 => Db2Type::Timestamp,
+        18 => Db2Type::Graphic(0),
+        19 => Db2Type::VarGraphic(0),
+        20 => Db2Type::DbClob,
+        21 => Db2Type::ClobLocator,
+        22 => Db2Type::DbClobLocator,
+        23 => Db2Type::LobBytes(0),
+        24 => Db2Type::LobChar(0),
+        25 => Db2Type::RowId(0),
+        26 => Db2Type::Boolean,
+        27 => Db2Type::Xml,
+        28 => Db2Type::Null,
+        _ => return None,
+    })
+}
+
+// The name of the type with this tag; empty where there is no such tag.
+pub fn name_of(tag: usize) -> &'static str
+    ensures { result.now ≡ get_or type_names tag [] }
+{
+    match type_with(tag) {
+        Some(t) => name_of_type(t),
+        None => "",
+    }
+}
+
+// How many numbers a type with this tag holds.
+pub fn number_count(tag: usize) -> usize
+    ensures { result ≡ get_or number_counts tag 0 }
+{
+    let Some(t) = type_with(tag) else {
+        return 0;
+    };
+    match numbers_of(t) {
+        Numbers::None => 0,
+        Numbers::One(_) => 1,
+        Numbers::Two(..) => 2,
+    }
+}
+
 // A type by its name, with the numbers that it holds.
 #[derive(Clone, Copy)]
 pub struct TypeName(pub Db2Type);
 
 impl fmt::Display for TypeName {
     fn fmt<W: fmt::Write>(&self, f: &mut fmt::Formatter<W>) -> fmt::Result {
-        let name = name_of(self.0);
+        let name = name_of_type(self.0);
         match numbers_of(self.0) {
             Numbers::None => f.pad(name),
             Numbers::One(n) => write_padded(f, format_args!("{name}({n})")),

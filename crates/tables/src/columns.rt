@@ -1,8 +1,9 @@
 // A column in the table: its number, type, nullable, CCSID, byte order and origin; and, where there is no row, its type code, length and reference length.
-use printing::OrDash;
 use printing::type_names::TypeName;
+use printing::{Line, OrDash};
+use std::fmt;
+use std::fmt::Write;
 use std::io::Stdout;
-use std::{fmt, io};
 use types::{ByteOrder, ColumnDescriptor, Columns, Origin};
 
 pub fn yes_or_no(is_so: bool) -> &'static str {
@@ -48,23 +49,22 @@ impl fmt::Display for Common {
     }
 }
 
-fn print_columns(out: Stdout, columns: &Columns) -> io::Result<()> {
-    println!(out;
+// The columns of a description, and how many they are.
+pub fn show_columns(out: Stdout, columns: &Columns) {
+    let mut table = Line::new(out);
+    let _ = writeln!(
+        table,
         " no  type               null  ccsid  order   origin      code  length  reference"
-    )?;
+    );
     for &column in columns.list() {
         let common = Common(column);
         let code = column.drda_type;
         let length = column.length;
         // How wide a reference to a value outside of the row is, where the description declares it.
         let reference = OrDash(column.extdta_reference_length);
-        println!(out; "{common}{code:02X}{length:>10}  {reference}")?;
+        let _ = writeln!(table, "{common}{code:02X}{length:>10}  {reference}");
     }
     let count = columns.count;
-    println!(out; "columns: {count}")
-}
-
-// The columns of a description, and how many they are.
-pub fn show_columns(out: Stdout, columns: &Columns) {
-    let _ = print_columns(out, columns);
+    let _ = writeln!(table, "columns: {count}");
+    table.flush();
 }

@@ -62,7 +62,7 @@ pub fn warn_of_description(err: Stderr, d: &Description, description: &[u8]) {
     if description.starts_with(&[0xFF, 0x00]) {
         warn(err, "the description begins FF 00, as a row does");
     }
-    warn_header(err, "the description", description);
+    warn_header(err, b"the description", description);
     if d.columns.count == 0 {
         warn(err, "the description has no columns");
     }

@@ -3,8 +3,9 @@
 ghost use Rattle.std.specs.Prelude.{◌≤◌, IfSome};
 
 use crate::triplet_list::RLO;
-use crate::warnings::warn;
-use printing::ByteCount;
+use crate::warnings::Warning;
+use printing::{ByteCount, Line};
+use std::fmt::Write;
 use std::io::Stderr;
 use triplets::{TRIPLET_TYPE_GDA, TRIPLET_TYPE_MDD, TRIPLET_TYPE_SDA};
 
@@ -56,15 +57,19 @@ fn header_length(s: &[u8]) -> Option<usize> {
     }
 }
 
-// `name` says which file it is. Whether there was something to say.
-pub fn warn_header(err: Stderr, name: &str, s: &[u8]) -> bool {
+// `name` says which file it is, in bytes that need be no UTF-8. Whether there was something to say.
+pub fn warn_header(err: Stderr, name: &[u8], s: &[u8]) -> bool {
     let Some(n) = header_length(s) else {
         return false;
     };
     let header = ByteCount(n);
-    warn(
-        err,
-        format_args!("{name} begins with a header of DRDA: its first {header} are no part of it"),
+    let mut line = Line::new(err);
+    let _ = write!(line, "{}", Warning(""));
+    line.text(name);
+    let _ = writeln!(
+        line,
+        " begins with a header of DRDA: its first {header} are no part of it"
     );
+    line.flush();
     true
 }

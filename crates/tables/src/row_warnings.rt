@@ -3,27 +3,22 @@ use crate::concerns::Concern;
 use crate::headers::warn_header;
 use crate::parts::Given;
 use crate::status::state_of;
-use crate::warnings::{warn, warn_columns};
-use printing::{Counted, Hex};
+use crate::warnings::{Warning, warn, warn_columns};
+use printing::{Counted, Hex, Line};
 use refusal::Refusal;
-use std::io;
+use std::fmt::Write;
 use std::io::Stderr;
 use types::Row;
 
 // How many characters were replaced, and in which columns: those with which the sum grows.
-fn list_replaced(
-    err: Stderr,
-    given: Given<'_>,
-    release: u32,
-    replaced: usize,
-    text: &mut [u8],
-) -> io::Result<()> {
+fn warn_replaced(err: Stderr, given: Given<'_>, release: u32, replaced: usize, text: &mut [u8]) {
     let replaced = Counted {
         count: replaced,
         one: "character was not valid and was replaced by U+FFFD",
         others: "characters were not valid and were replaced by U+FFFD",
     };
-    print!(err; "show-row: warning: {replaced}: column")?;
+    let mut line = Line::new(err);
+    let _ = write!(line, "{}", Warning(format_args!("{replaced}: column")));
     let mut some = *given.columns;
     let mut sum = 0;
     let mut separator = " ";
@@ -35,12 +30,13 @@ fn list_replaced(
             |answer| answer.replaced,
         );
         if after != sum {
-            print!(err; "{separator}{i}")?;
+            let _ = write!(line, "{separator}{i}");
             separator = ", ";
         }
         sum = after;
     }
-    println!(err)
+    line.byte(b'\n');
+    line.flush();
 }
 
 // Behind a row that begins FF 00 comes the next one, which begins so too, or a status.
@@ -89,7 +85,7 @@ fn warn_first(err: Stderr, row: &[u8]) {
 
 // What the row's first bytes tell, accepted or not.
 pub fn warn_of_beginning(err: Stderr, row: &[u8]) {
-    if warn_header(err, "the row", row) {
+    if warn_header(err, b"the row", row) {
         return;
     }
     match state_of(row) {
@@ -128,7 +124,7 @@ pub fn warn_of_values(
     };
     warn_rest(err, given.row, accepted.used);
     if accepted.replaced != 0 {
-        let _ = list_replaced(err, given, release, accepted.replaced, text);
+        warn_replaced(err, given, release, accepted.replaced, text);
     }
     warn_unnamed(err, given, release);
     for concern in [Concern::AllAt, Concern::Longer, Concern::Packed] {

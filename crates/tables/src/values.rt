@@ -2,11 +2,12 @@
 use crate::columns::{Common, yes_or_no};
 use crate::parts::Given;
 use piece::skip_of;
-use printing::{ByteCount, Hex, Quoted, Span};
+use printing::{ByteCount, Hex, Line, Quoted, Span};
+use std::fmt;
+use std::fmt::Write;
 use std::io::Stdout;
 use std::num::{f32_to_bits_with_nan, f64_to_bits_with_nan};
 use std::str::from_utf8;
-use std::{fmt, io};
 use types::{Db2Value, Row};
 
 // How many bytes of a Binary or Blob are shown.
@@ -59,18 +60,20 @@ impl fmt::Display for Shown<'_> {
 }
 
 // The values of an accepted row, and the bytes used and left. The two bytes before the values that are skipped have a line of their own.
-fn print_values(out: Stdout, given: Given<'_>, answer: &Row, text: &[u8]) -> io::Result<()> {
+pub fn show_values(out: Stdout, given: Given<'_>, answer: &Row, text: &[u8]) {
     let row = given.row;
-    println!(out;
+    let mut table = Line::new(out);
+    let _ = writeln!(
+        table,
         " no  type               null  ccsid  order   origin      bytes of the row  external  value"
-    )?;
+    );
     let skipped = row.get(..skip_of(row)).unwrap_or_default();
     if !skipped.is_empty() {
         let span = Span {
             start: 0,
             len: skipped.len(),
         };
-        println!(out; "{:<57}{span:<28}{}", "  -  skipped", Bytes(skipped))?;
+        let _ = writeln!(table, "{:<57}{span:<28}{}", "  -  skipped", Bytes(skipped));
     }
     for (part, place) in given.parts().zip(&answer.places) {
         let common = Common(part.column);
@@ -84,13 +87,10 @@ fn print_values(out: Stdout, given: Given<'_>, answer: &Row, text: &[u8]) -> io:
             // `value_bytes`, which README has, takes the row and the text apart.
             bytes: row::value_bytes(place.value, row, text),
         };
-        println!(out; "{common}{span:<18}{external:<10}{shown}")?;
+        let _ = writeln!(table, "{common}{span:<18}{external:<10}{shown}");
     }
     let used = ByteCount(answer.used);
     let left = row.len().saturating_sub(answer.used);
-    println!(out; "used {used}, left {left}")
-}
-
-pub fn show_values(out: Stdout, given: Given<'_>, answer: &Row, text: &[u8]) {
-    let _ = print_values(out, given, answer, text);
+    let _ = writeln!(table, "used {used}, left {left}");
+    table.flush();
 }

@@ -5,13 +5,14 @@ ghost use Rattle.std.specs.Fmt.{◌++?◌};
 
 use crate::concerns::Concern;
 use crate::parts::Given;
+use printing::Line;
+use std::fmt;
 use std::fmt::{Display, Formatter, Write};
 use std::io::Stderr;
-use std::{fmt, io};
 
 // A warning's line, without its end.
 #[derive(Drop)]
-struct Warning<D>(D);
+pub struct Warning<D>(pub D);
 
 impl<D: Display + Drop> Display for Warning<D> {
     ghost output = { λ w. Some (codes "show-row: warning: ") ++? D.output w.0 };
@@ -21,27 +22,30 @@ impl<D: Display + Drop> Display for Warning<D> {
     }
 }
 
-// Where the system takes no more, the rest is passed over: nothing can be said of what it took.
 pub fn warn<D: Display + Drop>(err: Stderr, what: D) {
-    let _ = println!(err; "{}", Warning(what));
+    let mut line = Line::new(err);
+    let _ = writeln!(line, "{}", Warning(what));
+    line.flush();
 }
 
 // Lists the columns that a warning concerns, if there are any.
-fn list_columns(err: Stderr, concern: Concern, given: Given<'_>) -> io::Result<()> {
+pub fn warn_columns(err: Stderr, concern: Concern, given: Given<'_>) {
     let mut concerned = given
         .parts()
         .enumerate()
         .filter(|(_, part)| concern.is_of(part));
     let Some((first, _)) = concerned.next() else {
-        return Ok(());
+        return;
     };
-    print!(err; "{}", Warning(format_args!("{concern}: column {first}")))?;
+    let mut line = Line::new(err);
+    let _ = write!(
+        line,
+        "{}",
+        Warning(format_args!("{concern}: column {first}"))
+    );
     for (i, _) in concerned {
-        print!(err; ", {i}")?;
+        let _ = write!(line, ", {i}");
     }
-    println!(err)
-}
-
-pub fn warn_columns(err: Stderr, concern: Concern, given: Given<'_>) {
-    let _ = list_columns(err, concern, given);
+    line.byte(b'\n');
+    line.flush();
 }

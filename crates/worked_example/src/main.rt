@@ -3,7 +3,6 @@
 #![tactic(auto)]
 
 use refusal::Refusal;
-use std::io;
 use std::io::Stdout;
 use std::str::from_utf8;
 use types::{Columns, Db2Value, ValuePlace};
@@ -32,34 +31,10 @@ const ROW: [u8; 67] = *b"\xFF\x00\
 // their bytes, 3 takes them for code page 037. The texts here are of CCSID 37 and 1208, so that 3 would print the same.
 const RELEASE: u32 = 2;
 
-// Why an order could not be printed.
-#[derive(Drop)]
-enum Failure {
-    Refused(Refusal),
-    Unwritten(io::Error),
-}
-
-impl From<Refusal> for Failure {
-    fn from(refusal: Refusal) -> Self {
-        Failure::Refused(refusal)
-    }
-}
-
-impl From<io::Error> for Failure {
-    fn from(e: io::Error) -> Self {
-        Failure::Unwritten(e)
-    }
-}
-
 // A number is in the value itself; the bytes of a text lie in the text buffer, and value_bytes shows them. They are UTF-8.
-fn print_value(
-    out: Stdout,
-    name: &str,
-    place: ValuePlace,
-    row: &[u8],
-    text: &[u8],
-) -> io::Result<()> {
-    match place.value {
+// Where standard output does not take a line, there is nobody to tell: the next one is tried all the same.
+fn print_value(out: Stdout, name: &str, place: ValuePlace, row: &[u8], text: &[u8]) {
+    let _ = match place.value {
         Db2Value::Null => println!(out; "{name:<9}null"),
         Db2Value::SmallInt(n) => println!(out; "{name:<9}{n}"),
         Db2Value::Integer(n) => println!(out; "{name:<9}{n}"),
@@ -67,28 +42,28 @@ fn print_value(
             let shown = from_utf8(row::value_bytes(value, row, text)).unwrap_or_default();
             println!(out; "{name:<9}{shown}")
         }
-    }
+    };
 }
 
 // Where the texts need more than 256 bytes, the refusal says how many.
-fn print_order(out: Stdout, columns: &Columns, row: &[u8]) -> Result<(), Failure> {
+fn print_order(out: Stdout, columns: &Columns, row: &[u8]) -> Result<(), Refusal> {
     let mut text = [0u8; 256];
     let order = row::decode_row(row, *columns, RELEASE, &mut text)?;
     // A name may be another than the host's where part of its bytes was malformed: let someone look at it.
     if order.replaced != 0 {
         let replaced = order.replaced;
-        println!(out; "beware: {replaced} malformed in its texts, shown as U+FFFD")?;
+        let _ = println!(out; "beware: {replaced} malformed in its texts, shown as U+FFFD");
     }
     // One by one, with the place that each has, in the order in which they are shown: a loop over places would ask again whether each is one of 128.
-    print_value(out, "order", order.places[0], row, &text)?;
-    print_value(out, "pattern", order.places[1], row, &text)?;
-    print_value(out, "width", order.places[3], row, &text)?;
-    print_value(out, "picks", order.places[5], row, &text)?;
-    print_value(out, "note", order.places[8], row, &text)?;
+    print_value(out, "order", order.places[0], row, &text);
+    print_value(out, "pattern", order.places[1], row, &text);
+    print_value(out, "width", order.places[3], row, &text);
+    print_value(out, "picks", order.places[5], row, &text);
+    print_value(out, "note", order.places[8], row, &text);
     Ok(())
 }
 
-fn print_orders(out: Stdout) -> Result<(), Failure> {
+fn print_orders(out: Stdout) -> Result<(), Refusal> {
     // The entry for what comes from a host: a description that was cut short is refused, and does not pass for one of fewer columns.
     let description = qrydsc::parse_whole_qrydsc(&DESCRIPTION)?;
     print_order(out, &description.columns, &ROW)?;
@@ -101,20 +76,12 @@ fn print_orders(out: Stdout) -> Result<(), Failure> {
 }
 
 // The orders, or in their place the refusal.
-fn run(out: Stdout) -> io::Result<()> {
-    match print_orders(out) {
-        Ok(()) => Ok(()),
-        Err(Failure::Refused(refusal)) => {
-            let number = refusal.number();
-            let first = refusal.first_value();
-            let second = refusal.second_value();
-            println!(out; "refusal {number}, {first}, {second}")
-        }
-        Err(Failure::Unwritten(e)) => Err(e),
-    }
-}
-
-// Where standard output takes nothing, there is nobody to tell.
 fn main(rt: HostRuntime) {
-    let _ = run(rt.stdout());
+    let out = rt.stdout();
+    if let Err(refusal) = print_orders(out) {
+        let number = refusal.number();
+        let first = refusal.first_value();
+        let second = refusal.second_value();
+        let _ = println!(out; "refusal {number}, {first}, {second}");
+    }
 }

@@ -3,6 +3,7 @@
 // is said on standard error.
 use crate::hex::{Fault, Reading, looks_like_hex};
 use arrayvec::ArrayString;
+use printing::Line;
 use std::env::{Env, FillError};
 use std::fmt::Write;
 use std::io::{Read, Stderr};
@@ -61,9 +62,11 @@ fn load_path<'a>(
 ) -> Option<&'a [u8]> {
     let err = rt.stderr();
     let Ok(name) = from_utf8(path) else {
-        let _ = print!(err; "show-row: cannot read ");
-        let _ = err.write_all(path);
-        let _ = println!(err; ": its name is no UTF-8");
+        let mut line = Line::new(err);
+        let _ = write!(line, "show-row: cannot read ");
+        line.text(path);
+        let _ = writeln!(line, ": its name is no UTF-8");
+        line.flush();
         return None;
     };
     if name == "-" {
@@ -113,21 +116,26 @@ fn loaded<'a>(
             Some(bytes)
         }
         Err(e) => {
-            let _ = say(err, name, &e);
+            say(err, name, &e);
             None
         }
     }
 }
 
-fn say(err: Stderr, name: &str, e: &LoadError) -> io::Result<()> {
-    match e {
-        LoadError::Unread(e) => { println!(err; "show-row: cannot read {name}: {}", Reason(e)) }
+fn say(err: Stderr, name: &str, e: &LoadError) {
+    let mut said = Line::new(err);
+    let _ = match e {
+        LoadError::Unread(e) => { writeln!(said, "show-row: cannot read {name}: {}", Reason(e)) }
         LoadError::Faulty { reading, fault } => {
             let line = reading.line;
             let column = reading.column;
-            println!(err; "show-row: {name}: line {line}, column {column}: {fault}")
+            writeln!(
+                said,
+                "show-row: {name}: line {line}, column {column}: {fault}"
+            )
         }
-    }
+    };
+    said.flush();
 }
 
 // What is said of an error, without the number that stands behind the system's words.

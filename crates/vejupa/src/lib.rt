@@ -371,6 +371,7 @@ pub fn vejupa_raw_value_bytes<'a>(
     ensures { bytes.new.now ≡ words_bytes value_words.now «data».now text.now }
 {
     let &[kind, number, len, ..] = value_words else {
+        // a part of the row, where an empty literal would be one of neither
         *bytes = &data[..0];
         return;
     };

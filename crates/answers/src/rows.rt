@@ -7,7 +7,7 @@ use std::num::{f32_to_bits_with_nan, f64_to_bits_with_nan};
 use std::str::from_utf8;
 use types::{Db2Value, Row, ValuePlace};
 
-// So many bytes are written at once, by two digits each.
+// So many bytes are written at once, and so many digits, two a byte.
 const BLOCK: usize = 64;
 
 const DIGITS: usize = 128;
@@ -23,6 +23,7 @@ impl fmt::Display for BytesField<'_> {
         }
         for block in self.0.chunks(BLOCK) {
             let mut digits = [0u8; DIGITS];
+            // (take and get: of a chunk's length the check knows nothing. It is no more than BLOCK.)
             for (i, b) in block.iter().take(BLOCK).enumerate() {
                 digits[2 * i] = hex_digit(b / 16);
                 digits[2 * i + 1] = hex_digit(b % 16);

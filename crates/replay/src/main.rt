@@ -289,7 +289,12 @@ impl Line<'_> {
         }
         let n = bytes_or_repeated(field(self.request, 1), &mut buffers.data)?;
         let is_likely = text::bytes_are_likely_text(&buffers.data[..n]);
-        Some(says(self.answer, u8::from(is_likely)))
+        // By patterns: a number that is formatted takes a fifth of the time of a short line.
+        Some(match self.answer {
+            b"0" => !is_likely,
+            b"1" => is_likely,
+            _ => false,
+        })
     }
 
     // F: `F <type>`.

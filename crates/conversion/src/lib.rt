@@ -150,7 +150,6 @@ pub fn text_write(conversion: Conversion, s: &[u8], out: &mut [u8]) -> Written
 }
 
 // The CCSID is not named, and not one of UTF-16 (which 0 bytes can be, being even), and the release is before 3: the conversion goes by a look at the bytes.
-#[tactic(auto, using(crate::proofs::Guesses::is_guess, crate::proofs::Guesses::none_of), unfolding(crate::specs::Picked::named, crate::specs::Conversion::is_utf16))]
 pub fn is_guessed(ccsid: u16, release: u32) -> bool
     ensures { result ≡ true → Guessed release ccsid }
 {

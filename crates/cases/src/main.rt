@@ -11,7 +11,7 @@ ghost use Rattle.edges.specs.Edges.{Given, values, too_short, text_found, within
 use qrydsc::parse_qrydsc;
 use refusal::Refusal;
 use row::decode_row;
-use std::io::Stdout;
+use std::io::{Print, Stdout};
 use types::{Db2Value, MAX_COLUMNS, Place, Row, ValuePlace};
 
 // The text buffer that each case is given: 24 bytes, all of them AA.
@@ -110,9 +110,11 @@ fn is_decimal(data: &[u8], scale: u8, want: &[u8]) -> bool {
     })
 }
 
+// In two writes: where standard output does not take the one, the other is tried all the same.
 fn tell(out: Stdout, letter: u8, is_same: bool) {
-    let verdict = if is_same { "same" } else { "differs" };
-    let _ = println!(out; "{} {verdict}", char::from(letter));
+    let verdict = if is_same { " same\n" } else { " differs\n" };
+    let _ = out.print(char::from(letter));
+    let _ = out.print(verdict);
 }
 
 // A case of one column. It and `two` make the lists that their contracts and is_accepted speak of, so that a case is written without them.

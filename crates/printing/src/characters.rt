@@ -44,7 +44,7 @@ pub fn is_hidden(c: char) -> bool
 }
 
 // Whether a quoted text shows a character in another form.
-pub fn is_escaped(c: char) -> bool {
+pub(crate) fn is_escaped(c: char) -> bool {
     is_hidden(c) || matches!(c, '"' | '\\')
 }
 

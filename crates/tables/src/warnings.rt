@@ -12,7 +12,7 @@ use std::io::Stderr;
 
 // A warning's line, without its end.
 #[derive(Drop)]
-pub struct Warning<D>(pub D);
+pub(crate) struct Warning<D>(pub(crate) D);
 
 impl<D: Display + Drop> Display for Warning<D> {
     ghost output = { λ w. Some (codes "show-row: warning: ") ++? D.output w.0 };
